@@ -20,7 +20,7 @@ fn put<K: Sink>(sink: &mut K) -> Result<(), Failed> {
 #[test]
 fn memory(rt: HostRuntime) -> Result<(), Fail> {
     let alloc = rt.alloc();
-    let mut source = MemorySource::new(b"abc".to_vec(alloc)?, [2].to_vec(alloc)?);
+    let mut source = MemorySource::new(b"abc".to_vec(alloc)?, 9, [2].to_vec(alloc)?);
     assert_eq!(rt;
         gives(alloc, &mut source, 2).expect(&rt, "read").as_slice(),
         b"ab".as_slice()
@@ -30,7 +30,7 @@ fn memory(rt: HostRuntime) -> Result<(), Fail> {
         gives(alloc, &mut source, 9).expect(&rt, "read").as_slice(),
         b"c".as_slice()
     );
-    let mut sink = MemorySink::new(alloc, [2].to_vec(alloc)?);
+    let mut sink = MemorySink::new(alloc, 9, [2].to_vec(alloc)?);
     assert_eq!(rt; put(&mut sink), Err(Failed));
     assert_eq!(rt; sink.bytes(), b"ab".as_slice());
     Ok(())
