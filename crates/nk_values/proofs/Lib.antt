@@ -1,3 +1,4 @@
+pub mod LitLaws
 pub mod MemberLaws
 pub mod PacketLaws
 pub mod Ranged

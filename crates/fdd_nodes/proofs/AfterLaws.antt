@@ -1,0 +1,156 @@
+-- One copy after another.
+use Rattle.std.proofs.Common.{◌≡◌, ◌≢◌, ℕ, ◌+◌, ◌<◌, ◌≤◌, ◌⊎◌, inl, inr, refl, ap, sym, ◌∙◌, subst, arith, Bool, true, false, cond, ltb, List, [], ◌∷◌, ◌++◌}
+use Rattle.std.proofs.lemmas.Bool.Decides.{nat_tests}
+use Rattle.nk_values.specs.declared.field.Field.{Field}
+use Rattle.nk_values.specs.declared.packet.Packet.{Packet}
+use Rattle.nk_values.specs.declared.lit.Lit.{Lit}
+use Rattle.nk_values.specs.Held.{put}
+use Rattle.nk_values.specs.Lits.{lit_field, lit_value}
+use Rattle.nk_values.specs.Members.{IsIn}
+use Rattle.nk_values.specs.Packets.{get, with_value}
+use Rattle.nk_values.specs.Ranges.{place}
+use Rattle.nk_values.proofs.MemberLaws.{in-either}
+use Rattle.nk_values.proofs.PacketLaws.{get-with_same, get-with_other, same_packet, same_field, field_cases}
+use Rattle.fdd_nodes.specs.Trees.{apply}
+use Rattle.fdd_nodes.specs.Copies.{IsCopyFrom, IsCopy, below, above, set_lit, after}
+
+with_twice : (p : Packet) (f : Field) (a b : ℕ) → with_value (with_value p f a) f b ≡ with_value p f b
+with_twice p f a b = same_packet _ _ (λ g. elim (field_cases f g) [
+  | inl e ↦ subst (λ (h : Field). get (with_value (with_value p f a) f b) h ≡ get (with_value p f b) h) e (get-with_same (with_value p f a) f b ∙ sym (get-with_same p f b))
+  | inr n ↦ get-with_other (with_value p f a) f g b n ∙ get-with_other p f g a n ∙ sym (get-with_other p f g b n)
+])
+
+with_swap : (p : Packet) (f g : Field) (a b : ℕ) → f ≢ g → with_value (with_value p f a) g b ≡ with_value (with_value p g b) f a
+with_swap p f g a b n = same_packet _ _ (λ h. elim (field_cases g h) [
+  | inl e ↦ subst (λ (k : Field). get (with_value (with_value p f a) g b) k ≡ get (with_value (with_value p g b) f a) k) e
+      (get-with_same (with_value p f a) g b ∙ sym (get-with_other (with_value p g b) f g a n ∙ get-with_same p g b))
+  | inr m ↦ get-with_other (with_value p f a) g h b m ∙ elim (field_cases f h) [
+    | inl e ↦ subst (λ (k : Field). get (with_value p f a) k ≡ get (with_value (with_value p g b) f a) k) e (get-with_same p f a ∙ sym (get-with_same (with_value p g b) f a))
+    | inr k ↦ get-with_other p f h a k ∙ sym (get-with_other (with_value p g b) f h a k ∙ get-with_other p g h b m)
+  ]
+])
+
+-- a number that a copy leaves alone may be put in before or after it
+commute : (c : List Lit) (k : ℕ) (l : Lit) (q : Packet) → IsCopyFrom k c → place (lit_field l) < k → apply c (put l q) ≡ (put l (apply c q))
+commute [] k l q h n = refl
+commute (m ∷ c) k l q h n =
+    let d : lit_field l ≢ lit_field m = λ e. let e' : place (lit_field l) ≡ place (lit_field m) = ap place e in omega (arith, e', n, h.0) in
+    ap (λ (x : Packet). apply c x) (with_swap q (lit_field l) (lit_field m) (lit_value l) (lit_value m) d) ∙ commute c (place (lit_field m) + 1) l (put m q) h.1 (omega (arith, n, h.0))
+
+told_lt : (a b : ℕ) → ((ltb a b ≡ true) × (a < b)) ⊎ ((ltb a b ≡ false) × (b ≤ a))
+told_lt a b = grind (arith, nat_tests)
+
+none_below : (l : Lit) (c : List Lit) (k : ℕ) → IsCopyFrom k c → place (lit_field l) ≤ k → below l c ≡ []
+none_below l [] k h n = refl
+none_below l (m ∷ c) k h n = elim (told_lt (place (lit_field m)) (place (lit_field l))) [
+  | inl y ↦ absurd (omega (arith, y.1, n, h.0))
+  | inr y ↦ ap (λ b. cond b (m ∷ below l c) (below l c)) y.0 ∙ none_below l c (place (lit_field m) + 1) h.1 (omega (arith, n, h.0))
+]
+
+all_above : (l : Lit) (c : List Lit) (k : ℕ) → IsCopyFrom k c → place (lit_field l) < k → above l c ≡ c
+all_above l [] k h n = refl
+all_above l (m ∷ c) k h n = elim (told_lt (place (lit_field l)) (place (lit_field m))) [
+  | inl y ↦ ap (λ b. cond b (m ∷ above l c) (above l c)) y.0 ∙ ap (λ (x : List Lit). m ∷ x) (all_above l c (place (lit_field m) + 1) h.1 (omega (arith, n, h.0)))
+  | inr y ↦ absurd (omega (arith, y.1, n, h.0))
+]
+
+-- the three places of a literal against a copy's first
+record Before (l m : Lit) (c : List Lit) : Type 0 where
+  lt : place (lit_field m) < place (lit_field l)
+  is : set_lit l (m ∷ c) ≡ m ∷ set_lit l c
+
+record Same (l m : Lit) (c : List Lit) : Type 0 where
+  eq : lit_field m ≡ lit_field l
+  is : set_lit l (m ∷ c) ≡ l ∷ c
+
+record Behind (l m : Lit) (c : List Lit) : Type 0 where
+  lt : place (lit_field l) < place (lit_field m)
+  is : set_lit l (m ∷ c) ≡ l ∷ m ∷ c
+
+places : (l m : Lit) (c : List Lit) (k : ℕ) → IsCopyFrom k (m ∷ c) → Before l m c ⊎ (Same l m c ⊎ Behind l m c)
+places l m c k h = elim (told_lt (place (lit_field m)) (place (lit_field l))) [
+  | inl y ↦ elim (told_lt (place (lit_field l)) (place (lit_field m))) [
+    | inl z ↦ absurd (omega (arith, y.1, z.1))
+    | inr z ↦ inl (record {
+      lt = y.1;
+      is = ap (λ b. cond b (m ∷ below l c) (below l c) ++ l ∷ above l (m ∷ c)) y.0 ∙ ap (λ b. m ∷ (below l c ++ l ∷ cond b (m ∷ above l c) (above l c))) z.0;
+    })
+  ]
+  | inr y ↦ elim (told_lt (place (lit_field l)) (place (lit_field m))) [
+    | inl z ↦ inr (inr (record {
+      lt = z.1;
+      is = ap (λ b. cond b (m ∷ below l c) (below l c) ++ l ∷ above l (m ∷ c)) y.0
+          ∙ ap (λ b. below l c ++ l ∷ cond b (m ∷ above l c) (above l c)) z.0
+          ∙ ap (λ (x : List Lit). x ++ l ∷ m ∷ above l c) (none_below l c _ h.1 (omega (arith, z.1)))
+          ∙ ap (λ (x : List Lit). l ∷ m ∷ x) (all_above l c _ h.1 (omega (arith, z.1)));
+    }))
+    | inr z ↦ inr (inl (record {
+      eq = same_field _ _ (omega (arith, y.1, z.1));
+      is = ap (λ b. cond b (m ∷ below l c) (below l c) ++ l ∷ above l (m ∷ c)) y.0
+          ∙ ap (λ b. below l c ++ l ∷ cond b (m ∷ above l c) (above l c)) z.0
+          ∙ ap (λ (x : List Lit). x ++ l ∷ above l c) (none_below l c _ h.1 (omega (arith, z.1)))
+          ∙ ap (λ (x : List Lit). l ∷ x) (all_above l c _ h.1 (omega (arith, y.1)));
+    }))
+  ]
+]
+
+set_apply : (l : Lit) (c : List Lit) (k : ℕ) (p : Packet) → IsCopyFrom k c → apply (set_lit l c) p ≡ (put l (apply c p))
+set_apply l [] k p h = refl
+set_apply l (m ∷ c) k p h = elim (places l m c k h) [
+  | inl w ↦ ap (λ (x : List Lit). apply x p) w.is ∙ set_apply l c (place (lit_field m) + 1) (put m p) h.1
+  | inr v ↦ elim v [
+    | inl w ↦
+        let e : place (lit_field m) ≡ place (lit_field l) = ap place w.eq in
+        ap (λ (x : List Lit). apply x p) w.is
+        ∙ ap (λ (x : Packet). apply c x) (sym (ap (λ (f : Field). (put l (with_value p f (lit_value m)))) w.eq ∙ with_twice p (lit_field l) (lit_value m) (lit_value l)))
+        ∙ commute c _ l (put m p) h.1 (omega (arith, e))
+    | inr w ↦ ap (λ (x : List Lit). apply x p) w.is ∙ commute (m ∷ c) (place (lit_field m)) l p (omega arith, h.1) w.lt
+  ]
+]
+
+set_copy : (l : Lit) (c : List Lit) (k : ℕ) → k ≤ place (lit_field l) → IsCopyFrom k c → IsCopyFrom k (set_lit l c)
+set_copy l [] k n h = (n, tt)
+set_copy l (m ∷ c) k n h = elim (places l m c k h) [
+  | inl w ↦ subst (IsCopyFrom k) (sym w.is) (h.0, set_copy l c (place (lit_field m) + 1) (let q = w.lt in omega (arith, q)) h.1)
+  | inr v ↦ elim v [
+    | inl w ↦ subst (IsCopyFrom k) (sym w.is) (n, subst (λ (f : Field). IsCopyFrom (place f + 1) c) w.eq h.1)
+    | inr w ↦ subst (IsCopyFrom k) (sym w.is) (n, (let q = w.lt in omega (arith, q), h.1))
+  ]
+]
+
+among_below : (l : Lit) (c : List Lit) (n : Lit) → IsIn (below l c) n → IsIn c n
+among_below l [] n h = h
+among_below l (m ∷ c) n h = elim (told_lt (place (lit_field m)) (place (lit_field l))) [
+  | inl y ↦ elim (let h' : IsIn (m ∷ below l c) n = subst (λ (b : Bool). IsIn (cond b (m ∷ below l c) (below l c)) n) y.0 h in h') [ inl e ↦ inl e | inr k ↦ inr (among_below l c n k) ]
+  | inr y ↦ inr (among_below l c n (subst (λ (b : Bool). IsIn (cond b (m ∷ below l c) (below l c)) n) y.0 h))
+]
+
+among_above : (l : Lit) (c : List Lit) (n : Lit) → IsIn (above l c) n → IsIn c n
+among_above l [] n h = h
+among_above l (m ∷ c) n h = elim (told_lt (place (lit_field l)) (place (lit_field m))) [
+  | inl y ↦ elim (let h' : IsIn (m ∷ above l c) n = subst (λ (b : Bool). IsIn (cond b (m ∷ above l c) (above l c)) n) y.0 h in h') [ inl e ↦ inl e | inr k ↦ inr (among_above l c n k) ]
+  | inr y ↦ inr (among_above l c n (subst (λ (b : Bool). IsIn (cond b (m ∷ above l c) (above l c)) n) y.0 h))
+]
+
+among_set : (l : Lit) (c : List Lit) (n : Lit) → IsIn (set_lit l c) n → IsIn c n ⊎ (l ≡ n)
+among_set l c n h = elim (in-either (below l c) (l ∷ above l c) n h) [
+  | inl k ↦ inl (among_below l c n k)
+  | inr k ↦ elim k [ inl e ↦ inr e | inr w ↦ inl (among_above l c n w) ]
+]
+
+-- whole copies
+
+after_apply : (c d : List Lit) (p : Packet) → IsCopy c → apply (after c d) p ≡ apply d (apply c p)
+after_apply c [] p h = refl
+after_apply c (l ∷ d) p h = after_apply (set_lit l c) d p (set_copy l c 0 (omega arith) h) ∙ ap (λ (x : Packet). apply d x) (set_apply l c 0 p h)
+
+pub after_copy : (c d : List Lit) → IsCopy c → IsCopy (after c d)
+after_copy c [] h = h
+after_copy c (l ∷ d) h = after_copy (set_lit l c) d (set_copy l c 0 (omega arith) h)
+
+after_among : (c d : List Lit) (n : Lit) → IsIn (after c d) n → IsIn c n ⊎ IsIn d n
+after_among c [] n h = inl h
+after_among c (l ∷ d) n h = elim (after_among (set_lit l c) d n h) [
+  | inl k ↦ elim (among_set l c n k) [ inl w ↦ inl w | inr e ↦ inr (inl e) ]
+  | inr k ↦ inr (inr k)
+]

@@ -1,0 +1,10 @@
+pub mod Cells
+pub mod Copies
+pub mod Fdds
+pub mod Known
+pub mod Makes
+pub mod Names
+pub mod Normals
+pub mod Proofs
+pub mod Roots
+pub mod Trees

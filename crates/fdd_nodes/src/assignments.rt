@@ -1,0 +1,260 @@
+// Copies: what one copy of a packet is assigned.
+ghost use Rattle.std.specs.Prelude.{◌≡◌, ◌↔◌, IsTrue, IfOk};
+ghost use Rattle.nk_values.specs.declared.lit.Lit.{Lit};
+ghost use Rattle.fdd_nodes.specs.Copies.{strip, below, above, set_lit, after, assigned};
+ghost use Rattle.fdd_nodes.specs.Makes.{made, IsFreeOf};
+
+use crate::cell::Cell;
+use nk_values::{Field, Lit, Packet};
+use smallvec::SmallVec;
+use std::alloc::{AllocError, Global};
+use std::cmp::Ordering;
+use std::hash::{Hash, Hasher};
+use std::marker::Model;
+
+/// The assignments of one copy, each field at most once, in field order. Clauses see the list of them.
+#[derive(Drop)]
+pub struct Assignments {
+    lits: SmallVec<Lit, 4>,
+}
+
+impl Model for Assignments {
+    ghost use Rattle.std.specs.Prelude.{List};
+    ghost use Rattle.nk_values.specs.declared.lit.Lit.{Lit};
+    ghost use Rattle.fdd_nodes.specs.Copies.{IsCopy};
+
+    ghost Value = { List Lit };
+
+    ghost view = { λ a. a.lits.items };
+
+    ghost invariant = { λ a. IsCopy a.lits.items };
+}
+
+impl Assignments {
+    ghost use Rattle.std.specs.Prelude.{[], ◌∷◌};
+    ghost use Rattle.fdd_nodes.specs.Copies.{IsCopy};
+    ghost use Rattle.fdd_nodes.specs.Trees.{apply};
+
+    /// No assignment.
+    pub fn none(alloc: Global) -> Assignments
+        ensures { result ≡ [] }
+    {
+        Assignments {
+            lits: SmallVec::new(alloc),
+        }
+    }
+
+    /// One assignment.
+    pub fn one(alloc: Global, l: Lit) -> Result<Assignments, AllocError>
+        ensures { IfOk result (λ r. r ≡ l ∷ []) }
+    {
+        let mut lits = SmallVec::new(alloc);
+        lits.push(l)?;
+        Ok(Assignments { lits })
+    }
+
+    /// The same assignments again.
+    pub fn copy(&self, alloc: Global) -> Result<Assignments, AllocError>
+        ensures { IfOk result (λ r. r ≡ self.now) }
+    {
+        let lits = SmallVec::from_slice(alloc, self.lits.as_slice())?;
+        Ok(Assignments { lits })
+    }
+
+    /// The assignments, in field order.
+    pub fn lits(&self) -> &[Lit]
+        ensures list { result.now ≡ self.now }
+        ensures copy { IsCopy self.now }
+    {
+        self.lits.as_slice()
+    }
+
+    /// The packet with these assignments.
+    pub fn apply(&self, packet: &Packet) -> Packet
+        ensures { result ≡ apply self.now packet.now }
+    {
+        applied(self.lits.as_slice(), packet)
+    }
+
+    /// What a field is assigned.
+    pub fn get(&self, f: Field) -> Option<u64>
+        ensures value { result ≡ assigned self.now f }
+        ensures copy { IsCopy self.now }
+    {
+        assigned_in(self.lits.as_slice(), f)
+    }
+
+    /// The assignments without those that a cell fixes.
+    pub fn stripped(&self, alloc: Global, cell: &Cell) -> Result<Assignments, AllocError>
+        ensures stripped { IfOk result (λ r. r ≡ strip cell.now self.now) }
+        ensures copy { IsCopy self.now }
+    {
+        let lits = unfixed(alloc, cell, self.lits.as_slice())?;
+        Ok(Assignments { lits })
+    }
+
+    /// These assignments, and then others.
+    pub fn followed_by(&self, alloc: Global, later: &Assignments) -> Result<Assignments, AllocError>
+        ensures after { IfOk result (λ r. r ≡ after self.now later.now) }
+        ensures copy { IsCopy self.now }
+    {
+        let lits = set_all(alloc, self.lits.as_slice(), later.lits.as_slice())?;
+        Ok(Assignments { lits })
+    }
+
+    /// Whether a cell fixes none of these.
+    pub fn is_free_of(&self, cell: &Cell) -> bool
+        ensures { IsTrue result ↔ IsFreeOf cell.now self.now }
+    {
+        none_fixed(self.lits.as_slice(), cell)
+    }
+}
+
+impl PartialEq for Assignments {
+    ghost use Rattle.std.specs.Cmp.Lexicographic.{lists_per};
+    ghost use Rattle.nk_values.specs.contracts.lit.LitPartialEq.TheImpl.Laws.{laws-law};
+    ghost use Rattle.fdd_nodes.specs.Copies.{copy_eq};
+
+    ghost eq = { copy_eq };
+
+    ghost laws = { lists_per laws-law };
+
+    fn eq(&self, other: &Assignments) -> bool {
+        self.lits.as_slice() == other.lits.as_slice()
+    }
+}
+
+impl Eq for Assignments {
+    ghost use Rattle.std.specs.Cmp.Lexicographic.{lists_equiv};
+    ghost use Rattle.nk_values.specs.contracts.lit.LitEq.TheImpl.Laws.{laws-law};
+
+    ghost laws = { lists_equiv laws-law };
+}
+
+impl Ord for Assignments {
+    ghost use Rattle.std.proofs.Common.{rules};
+    ghost use Rattle.std.specs.Cmp.Lexicographic.{lists_total, lists_ties};
+    ghost use Rattle.std.specs.Cmp.Rules.{comparing};
+    ghost use Rattle.nk_values.specs.contracts.lit.LitOrd.TheImpl.Laws.{total-law, matches_eq-law};
+    ghost use Rattle.nk_values.specs.Ranks.{lit_cmp};
+    ghost use Rattle.fdd_nodes.specs.Copies.{copy_cmp};
+
+    ghost cmp = { copy_cmp };
+
+    ghost total = { lists_total total-law };
+
+    ghost matches_partial_cmp = { Prim.search (comparing, rules) };
+
+    ghost matches_eq = { lists_ties lit_cmp matches_eq-law };
+
+    fn cmp(&self, other: &Assignments) -> Ordering {
+        self.lits.as_slice().cmp(other.lits.as_slice())
+    }
+}
+
+impl PartialOrd for Assignments {
+    ghost use Rattle.std.proofs.Common.{rules};
+    ghost use Rattle.std.specs.Cmp.{po};
+    ghost use Rattle.std.specs.Cmp.Lexicographic.{lists_total, lists_ties};
+    ghost use Rattle.std.specs.Cmp.Rules.{comparing};
+    ghost use Rattle.std.specs.Ordering.{as_partial_cmp};
+    ghost use Rattle.nk_values.specs.contracts.lit.LitOrd.TheImpl.Laws.{total-law, matches_eq-law};
+    ghost use Rattle.nk_values.specs.Ranks.{lit_cmp};
+    ghost use Rattle.fdd_nodes.specs.Copies.{copy_cmp};
+
+    ghost partial_cmp = { as_partial_cmp copy_cmp };
+
+    ghost laws = { po (lists_total total-law) (lists_ties lit_cmp matches_eq-law) };
+
+    fn partial_cmp(&self, other: &Assignments) -> Option<Ordering> {
+        Some(self.cmp(other))
+    }
+}
+
+impl Hash for Assignments {
+    ghost use Rattle.std.specs.Hash.{items_Alike};
+    ghost use Rattle.nk_values.proofs.LitLaws.{lit_alike};
+    ghost use Rattle.fdd_nodes.specs.Copies.{copy_input};
+
+    ghost hash_input = { copy_input };
+
+    ghost respects_eq = { (items_Alike lit_alike).fed };
+
+    fn hash<H: Hasher>(&self, state: &mut H) {
+        self.lits.as_slice().hash(state);
+    }
+}
+
+fn applied(lits: &[Lit], packet: &Packet) -> Packet
+    ensures { result ≡ made lits.now packet.now }
+{
+    let mut changed = *packet;
+    for l in lits {
+        changed = l.put(&changed);
+    }
+    changed
+}
+
+fn assigned_in(lits: &[Lit], f: Field) -> Option<u64>
+    ensures { result ≡ assigned lits.now f }
+{
+    for l in lits {
+        if l.field().place() == f.place() {
+            return Some(l.value());
+        }
+    }
+    None
+}
+
+fn unfixed(alloc: Global, cell: &Cell, lits: &[Lit]) -> Result<SmallVec<Lit, 4>, AllocError>
+    ensures { IfOk result (λ r. r.items ≡ strip cell.now lits.now) }
+{
+    let mut kept = SmallVec::new(alloc);
+    for l in lits {
+        if !l.holds(cell.generic()) {
+            kept.push(*l)?;
+        }
+    }
+    Ok(kept)
+}
+
+fn none_fixed(lits: &[Lit], cell: &Cell) -> bool
+    ensures { IsTrue result ↔ IsFreeOf cell.now lits.now }
+{
+    for l in lits {
+        if l.holds(cell.generic()) {
+            return false;
+        }
+    }
+    true
+}
+
+// The literals with another one in its place.
+fn set_one(alloc: Global, lits: &[Lit], l: &Lit) -> Result<SmallVec<Lit, 4>, AllocError>
+    ensures { IfOk result (λ r. r.items ≡ set_lit l.now lits.now) }
+{
+    let place = l.field().place();
+    let mut out = SmallVec::new(alloc);
+    for m in lits {
+        if m.field().place() < place {
+            out.push(*m)?;
+        }
+    }
+    out.push(*l)?;
+    for n in lits {
+        if place < n.field().place() {
+            out.push(*n)?;
+        }
+    }
+    Ok(out)
+}
+
+fn set_all(alloc: Global, lits: &[Lit], later: &[Lit]) -> Result<SmallVec<Lit, 4>, AllocError>
+    ensures { IfOk result (λ r. r.items ≡ after lits.now later.now) }
+{
+    let mut out = SmallVec::from_slice(alloc, lits)?;
+    for l in later {
+        out = set_one(alloc, out.as_slice(), l)?;
+    }
+    Ok(out)
+}

@@ -1,0 +1,125 @@
+// Cells: what a path of a diagram fixes.
+ghost use Rattle.std.specs.Prelude.{◌≡◌};
+ghost use Rattle.fdd_nodes.specs.Cells.{pick as the_pick};
+
+use nk_values::{Header, Lit, Packet};
+use std::marker::Model;
+
+// The number of a field that nothing fixes. No packet in range holds it.
+const FREE: u64 = u64::MAX;
+
+/// The packets that hold some numbers in some fields. Clauses see it as a packet that holds `free` elsewhere.
+#[derive(Clone, Copy)]
+pub struct Cell {
+    fixed: Packet,
+}
+
+impl Model for Cell {
+    ghost use Rattle.nk_values.specs.declared.packet.Packet.{Packet};
+
+    ghost Value = { Packet };
+
+    ghost view = { λ c. c.fixed };
+
+    ghost inverse = { λ p. record { fixed = p } };
+}
+
+/// What a cell knows of a literal: nothing, that each packet of it holds the number, or that none does.
+#[derive(Clone, Copy, Debug, PartialEq, Eq)]
+pub enum Known {
+    Open,
+    Yes,
+    No,
+}
+
+impl Cell {
+    ghost use Rattle.nk_values.specs.Held.{put};
+    ghost use Rattle.fdd_nodes.specs.Cells.{open_cell, cell_of, fill};
+    ghost use Rattle.fdd_nodes.specs.Known.{Knows};
+
+    /// The cell of all packets.
+    pub fn open() -> Cell
+        ensures { result ≡ open_cell }
+    {
+        Cell {
+            fixed: Packet {
+                sw: FREE,
+                pt: FREE,
+                header: Header {
+                    eth_typ: FREE,
+                    ip_proto: FREE,
+                    eth_src: FREE,
+                    eth_dst: FREE,
+                    ip4_src: FREE,
+                    ip4_dst: FREE,
+                    tcp_src_port: FREE,
+                    tcp_dst_port: FREE,
+                },
+            },
+        }
+    }
+
+    /// The cell of the packets that hold a literal's number.
+    pub fn of(l: &Lit) -> Cell
+        ensures { result ≡ cell_of l.now }
+    {
+        Cell::open().with(l)
+    }
+
+    /// The packets of the cell that hold a literal's number, where the cell leaves its field open.
+    pub fn with(&self, l: &Lit) -> Cell
+        ensures { result ≡ put l.now self.now }
+    {
+        Cell {
+            fixed: l.put(&self.fixed),
+        }
+    }
+
+    /// What is known of a literal.
+    pub fn knows(&self, l: &Lit) -> Known
+        ensures { Knows self.now l.now result }
+    {
+        let fixed = self.fixed.get(l.field());
+        if fixed == FREE {
+            Known::Open
+        } else if fixed == l.value() {
+            Known::Yes
+        } else {
+            Known::No
+        }
+    }
+
+    /// The packet of the cell that is another one in the fields that the cell leaves open.
+    pub fn filled(&self, packet: &Packet) -> Packet
+        ensures { result ≡ fill self.now packet.now }
+    {
+        let (fixed, inner, outer) = (&self.fixed, &self.fixed.header, &packet.header);
+        Packet {
+            sw: pick(fixed.sw, packet.sw),
+            pt: pick(fixed.pt, packet.pt),
+            header: Header {
+                eth_typ: pick(inner.eth_typ, outer.eth_typ),
+                ip_proto: pick(inner.ip_proto, outer.ip_proto),
+                eth_src: pick(inner.eth_src, outer.eth_src),
+                eth_dst: pick(inner.eth_dst, outer.eth_dst),
+                ip4_src: pick(inner.ip4_src, outer.ip4_src),
+                ip4_dst: pick(inner.ip4_dst, outer.ip4_dst),
+                tcp_src_port: pick(inner.tcp_src_port, outer.tcp_src_port),
+                tcp_dst_port: pick(inner.tcp_dst_port, outer.tcp_dst_port),
+            },
+        }
+    }
+
+    /// The packet that stands for the cell: no copy and no test names what it holds in the open fields.
+    pub fn generic(&self) -> &Packet
+        ensures { result.now ≡ self.now }
+    {
+        &self.fixed
+    }
+}
+
+fn pick(fixed: u64, other: u64) -> u64
+    ensures { result ≡ the_pick fixed other }
+{
+    if fixed == FREE { other } else { fixed }
+}
