@@ -1,0 +1,4 @@
+pub mod Grammar
+pub mod Numbers
+pub mod Places
+pub mod Signs
