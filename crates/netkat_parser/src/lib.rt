@@ -2,6 +2,7 @@
 #![tactic(auto)]
 
 pub mod fault;
+pub mod number;
 pub mod sign;
 
 pub use fault::{Fault, ParseError, ParseFault, Place};
