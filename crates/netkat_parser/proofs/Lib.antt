@@ -1,3 +1,4 @@
 pub mod Digits
 pub mod Joined
 pub mod Literals
+pub mod SameLits

@@ -1,4 +1,5 @@
 pub mod Grammar
 pub mod Numbers
+pub mod Pairs
 pub mod Places
 pub mod Signs

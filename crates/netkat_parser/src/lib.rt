@@ -2,6 +2,7 @@
 #![tactic(auto)]
 
 pub mod fault;
+pub mod named;
 pub mod number;
 pub mod sign;
 
