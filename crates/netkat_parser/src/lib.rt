@@ -2,8 +2,10 @@
 #![tactic(auto)]
 
 pub mod fault;
+pub mod leaf;
 pub mod named;
 pub mod number;
 pub mod sign;
+pub mod stop;
 
 pub use fault::{Fault, ParseError, ParseFault, Place};
