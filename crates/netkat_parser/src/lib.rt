@@ -7,5 +7,6 @@ pub mod named;
 pub mod number;
 pub mod sign;
 pub mod stop;
+pub mod taken;
 
 pub use fault::{Fault, ParseError, ParseFault, Place};
