@@ -5,3 +5,4 @@ pub mod Literals
 pub mod SameLits
 pub mod Exits
 pub mod Values
+pub mod Rules

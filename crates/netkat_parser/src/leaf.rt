@@ -1,5 +1,5 @@
 // Atoms that are no policy in brackets, and what closes a chain.
-ghost use Rattle.std.specs.Prelude.{◌≡◌, ◌<◌, length, map, IfOk, MatchBool};
+ghost use Rattle.std.specs.Prelude.{◌≡◌, ◌<◌, ◌≤◌, length, map, IfOk, MatchBool};
 ghost use Rattle.nk_values.specs.Lits.{lit_field, lit_value};
 ghost use Rattle.nk_syntax.specs.Views.{term_of, guard_of};
 ghost use Rattle.netkat_parser.specs.Signs.{sign};
@@ -53,6 +53,7 @@ pub fn leaf<'a>(
     text: &'a [u8],
 ) -> Result<(Pol, &'a [u8]), Stop<'a>>
     ensures reads { Gives term_of (IsLeaf depth inside (spot text.now (pairs named.old)) (sign text.now)) (pairs named.new) result }
+    ensures shorter { IfOk result (λ x. length x.1.now < length text.now) }
 {
     match first_sign(text) {
         Sign::Skip => Ok((Pol::Filter(Pred::One), past(text))),
@@ -73,6 +74,7 @@ fn pair<'a>(
     text: &'a [u8],
 ) -> Result<(Pol, &'a [u8]), Stop<'a>>
     ensures reads { Gives term_of (IsPair depth inside field (spot text.now (pairs named.old)) (sign text.now)) (pairs named.new) result }
+    ensures shorter { IfOk result (λ x. length x.1.now < length text.now) }
 {
     match first_sign(text) {
         Sign::Equals => {
@@ -97,6 +99,7 @@ fn value<'a>(
 ) -> Result<(Lit, &'a [u8]), Stop<'a>>
     ensures reads { GivesLit depth field text.now (pairs named.old) (pairs named.new) result }
     ensures field { IfOk result (λ x. lit_field x.0 ≡ field) }
+    ensures shorter { IfOk result (λ x. length x.1.now ≤ length text.now) }
 {
     let (run, rest) = split_run(text);
     if run.is_empty() {

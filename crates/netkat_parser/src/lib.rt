@@ -5,6 +5,7 @@ pub mod fault;
 pub mod leaf;
 pub mod named;
 pub mod number;
+pub mod parser;
 pub mod sign;
 pub mod stop;
 pub mod taken;

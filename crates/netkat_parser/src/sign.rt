@@ -1,5 +1,6 @@
 // Signs: the tokens of a policy's text, but for values.
-ghost use Rattle.std.specs.Prelude.{◌≡◌, ◌≤◌, false, length, drop};
+ghost use Rattle.std.specs.Prelude.{◌≡◌, ◌≢◌, ◌≤◌, ◌<◌, false, length, drop};
+ghost use Rattle.netkat_parser.specs.declared.sign.Sign.TheVariants.{End};
 ghost use Rattle.std.specs.List.{prefix_len, find};
 ghost use Rattle.std.specs.Str.{bytes_eq};
 ghost use Rattle.std.specs.Char.{is_ascii_alphanumeric};
@@ -32,7 +33,8 @@ pub enum Sign {
 
 /// From the next sign on: behind blanks and comments.
 pub fn ahead(text: &[u8]) -> &[u8]
-    ensures { result.now ≡ ahead false text.now }
+    ensures value { result.now ≡ ahead false text.now }
+    ensures shorter { length result.now ≤ length text.now }
 {
     let mut in_comment = false;
     for (i, byte) in text.iter().enumerate() {
@@ -65,7 +67,9 @@ pub fn first_sign(text: &[u8]) -> Sign
 
 /// From the next sign but one on.
 pub fn past(text: &[u8]) -> &[u8]
-    ensures { result.now ≡ past text.now }
+    ensures value { result.now ≡ past text.now }
+    ensures shorter { length result.now ≤ length text.now }
+    ensures fewer { sign text.now ≢ End → length result.now < length text.now }
 {
     ahead(&text[sign_len(text)..])
 }
@@ -74,6 +78,7 @@ pub fn past(text: &[u8]) -> &[u8]
 pub fn split_run(text: &[u8]) -> (&[u8], &[u8])
     ensures run { result.0.now ≡ run text.now }
     ensures rest { result.1.now ≡ past_run text.now }
+    ensures shorter { length result.1.now ≤ length text.now }
 {
     let len = run_len(text);
     (&text[..len], ahead(&text[len..]))
