@@ -6,3 +6,4 @@ pub mod SameLits
 pub mod Exits
 pub mod Values
 pub mod Rules
+pub mod Unique

@@ -1,5 +1,6 @@
 pub mod Answers
 pub mod Grammar
+pub mod Laws
 pub mod Numbers
 pub mod Pairs
 pub mod Places

@@ -2,6 +2,7 @@
 #![tactic(auto)]
 
 pub mod fault;
+pub mod laws;
 pub mod leaf;
 pub mod named;
 pub mod number;
