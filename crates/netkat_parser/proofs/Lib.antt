@@ -7,3 +7,5 @@ pub mod Exits
 pub mod Values
 pub mod Rules
 pub mod Unique
+pub mod Suffixes
+pub mod Outcomes

@@ -18,12 +18,12 @@ run-literal depth f make s (b ∷ bs) n o some e l h = rw e (inl (l, h))
 
 read-by : (f : Field) (make : ℕ → Term) (s : Spot) (n : ℕ) (b : Bool) → b ≡ false
     → Read (make n) (record { text = past_run s.text; named = with_pair s.named f n })
-      ≡ cond b (Bad fault.TooManyValues s.text) (Read (make n) (record { text = past_run s.text; named = with_pair s.named f n }))
+    ≡ cond b (Bad fault.TooManyValues s.text) (Read (make n) (record { text = past_run s.text; named = with_pair s.named f n }))
 read-by f make s n b e = rw e refl
 
 bad-by : (f : Field) (make : ℕ → Term) (s : Spot) (n : ℕ) (b : Bool) → b ≡ true
     → Bad fault.TooManyValues s.text
-      ≡ cond b (Bad fault.TooManyValues s.text) (Read (make n) (record { text = past_run s.text; named = with_pair s.named f n }))
+    ≡ cond b (Bad fault.TooManyValues s.text) (Read (make n) (record { text = past_run s.text; named = with_pair s.named f n }))
 bad-by f make s n b e = rw e refl
 
 not-false : (b : Bool) → true ≡ not b → b ≡ false

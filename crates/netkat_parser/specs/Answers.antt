@@ -7,7 +7,9 @@ use Rattle.nk_values.specs.Lits.{lit_field, lit_value}
 use Rattle.nk_syntax.specs.Terms.{Term}
 use Rattle.netkat_parser.specs.declared.stop.Stop.{Stop}
 use Rattle.netkat_parser.specs.declared.stop.Stop.TheVariants.{Fault, Memory}
-use Rattle.netkat_parser.specs.Grammar.{Spot, Got, Read, Bad, gathered, IsRun}
+use Rattle.netkat_parser.specs.Grammar.{Spot, Got, Read, Bad, gathered, IsRun, IsReading, IsText}
+use Rattle.nk_syntax.specs.declared.pol.Pol.{Pol}
+use Rattle.nk_syntax.specs.Views.{term_of}
 use Rattle.netkat_parser.specs.Signs.{run}
 
 abbrev pub spot : List ℕ → List (Field × ℕ) → Spot
@@ -31,3 +33,8 @@ GivesLit depth f text before named r =
 -- with operands in front
 abbrev pub behind : List Term → Got (List Term) → Got (List Term)
 behind ps o = gathered (λ qs. ps ++ qs) o
+
+-- the policy that the whole text is read as, or its first fault with the text from it on
+abbrev pub ReadsAll : List ℕ → Result Pol Stop → Type 0
+ReadsAll text (Ok pol) = IsText text (term_of pol)
+ReadsAll text (Err e) = Stops (IsReading text) e

@@ -20,3 +20,7 @@ pub record HasFault (begin : Place) (text : List ℕ) (f : ParseFault) : Type 0 
   pub parts : text ≡ front ++ at
   pub first : IsReading text (Bad f.fault at)
   pub place : place_behind begin front ≡ record { line = f.line; column = f.column }
+
+-- the first line and column
+abbrev pub text_start : Place
+text_start = record { line = 1; column = 1 }

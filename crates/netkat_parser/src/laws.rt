@@ -5,5 +5,4 @@ ghost use Rattle.netkat_parser.specs.Laws.{OneOutcome, OneReading};
 pub fn one_reading()
     ensures outcome { OneOutcome }
     ensures reading { OneReading }
-{
-}
+{}

@@ -6,9 +6,11 @@ pub mod laws;
 pub mod leaf;
 pub mod named;
 pub mod number;
+pub mod parse;
 pub mod parser;
 pub mod sign;
 pub mod stop;
 pub mod taken;
 
 pub use fault::{Fault, ParseError, ParseFault, Place};
+pub use parse::{parse_policy, parse_policy_at};

@@ -12,6 +12,7 @@ use std::alloc::{AllocError, Global};
 
 // How many pairs of field and value a policy may name, and how many of these with ipProto.
 const MOST_PAIRS: usize = 2000;
+
 const MOST_PROTOS: usize = 100;
 
 /// Pairs of field and value, each once, in the order in which they were first named.
