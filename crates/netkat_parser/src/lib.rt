@@ -11,6 +11,8 @@ pub mod parser;
 pub mod sign;
 pub mod stop;
 pub mod taken;
+#[cfg(test)]
+mod tests;
 
 pub use fault::{Fault, ParseError, ParseFault, Place};
 pub use parse::{parse_policy, parse_policy_at};
