@@ -1,0 +1,13 @@
+// Laws of the meaning, each the contract of a call that does nothing.
+ghost use Rattle.history_meaning.specs.Laws.{MoreTurnsMoreHistories, FlatRenewsTheNewest};
+
+/// One more turn of each star gives no fewer histories, so a result under some number of turns is one
+/// under every greater number.
+pub fn more_turns_more_histories()
+    ensures { MoreTurnsMoreHistories }
+{}
+
+/// A policy without `dup` renews the newest packet of a history, by that packet alone.
+pub fn flat_renews_the_newest()
+    ensures { FlatRenewsTheNewest }
+{}

@@ -1,0 +1,8 @@
+pub mod Causes
+pub mod Drafts
+pub mod Ends
+pub mod Faults
+pub mod Layouts
+pub mod Lines
+pub mod Topologies
+pub mod Wired

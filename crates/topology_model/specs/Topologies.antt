@@ -1,0 +1,9 @@
+-- What a topology keeps beside its draft.
+use Rattle.std.specs.Prelude.{◌≡◌, map}
+use Rattle.topology_model.specs.Layouts.{place_of, edges_of}
+use Rattle.topology_model.specs.Wired.{IsTopology}
+use Rattle.topology_model.specs.declared.topology.Topology.TheInside.{Inside}
+
+pub record IsFinished (t : Inside) : Type 0 where
+  pub edges : map place_of t.edges.items ≡ edges_of t.draft
+  pub topology : IsTopology t.draft

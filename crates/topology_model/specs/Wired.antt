@@ -1,0 +1,50 @@
+-- What holds of every topology.
+use Rattle.std.specs.Prelude.{◌≡◌, ◌≢◌, ℕ, ◌≤◌, List, [], ◌∷◌, length, map}
+use Rattle.nk_values.specs.declared.field.Field.TheVariants.{Sw, Pt}
+use Rattle.nk_values.specs.Members.{IsIn}
+use Rattle.nk_values.specs.Ranges.{IsValue}
+use Rattle.history_meaning.specs.Network.{Place, Wiring}
+use Rattle.topology_model.specs.Layouts.{Layout, edges_of}
+use Rattle.topology_model.specs.declared.line.Site.{Site}
+
+-- no number comes twice
+abbrev pub NoRepeat : List ℕ → Type 0
+NoRepeat [] = Unit {0}
+NoRepeat (n ∷ ns) = ¬ (IsIn ns n) × NoRepeat ns
+
+-- a switch with at most 256 ports, no two with one number
+pub record IsSite (s : Site) : Type 0 where
+  pub switch : IsValue Sw s.sw
+  pub ports : (n : ℕ) → IsIn s.ports n → IsValue Pt n
+  pub differ : NoRepeat s.ports
+  pub few : length s.ports ≤ 256
+
+-- the port is declared
+pub record IsDeclared (t : Layout) (a : Place) : Type 0 where
+  pub site : Site
+  pub among : IsIn t.switches site
+  pub switch : site.sw ≡ a.sw
+  pub port : IsIn site.ports a.pt
+
+-- At most 256 switches, no two with one number; links between declared ports, in both directions, at most one a port and none from a port to itself.
+pub record IsSound (t : Layout) : Type 0 where
+  pub sites : (s : Site) → IsIn t.switches s → IsSite s
+  pub differ : NoRepeat (map (λ s. s.sw) t.switches)
+  pub few : length t.switches ≤ 256
+  pub declared : (a b : Place) → IsIn t.links (a, b) → IsDeclared t a
+  pub both : (a b : Place) → IsIn t.links (a, b) → IsIn t.links (b, a)
+  pub one : (a b c : Place) → IsIn t.links (a, b) → IsIn t.links (a, c) → b ≡ c
+  pub apart : (a : Place) → ¬ (IsIn t.links (a, a))
+
+-- A port has at most one link, and none if it is an edge port; links go both ways; all have the numbers of packets.
+pub record IsWiring (w : Wiring) : Type 0 where
+  pub one : (a b c : Place) → IsIn w.links (a, b) → IsIn w.links (a, c) → b ≡ c
+  pub both : (a b : Place) → IsIn w.links (a, b) → IsIn w.links (b, a)
+  pub apart : (a b : Place) → IsIn w.edges a → IsIn w.links (a, b) → ⊥
+  pub link_range : (a b : Place) → IsIn w.links (a, b) → IsValue Sw a.sw × IsValue Pt a.pt
+  pub edge_range : (a : Place) → IsIn w.edges a → IsValue Sw a.sw × IsValue Pt a.pt
+
+-- with an edge port
+pub record IsTopology (t : Layout) : Type 0 where
+  pub sound : IsSound t
+  pub edge : edges_of t ≢ []
