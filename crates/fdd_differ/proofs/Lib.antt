@@ -1,0 +1,4 @@
+pub mod DifferLaws
+pub mod NameLaws
+pub mod UnnamedLaws
+pub mod WitnessLaws
