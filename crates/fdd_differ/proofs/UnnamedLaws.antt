@@ -1,5 +1,5 @@
 -- Values that literals leave unnamed.
-use Rattle.std.proofs.Common.{◌≡◌, ℕ, ◌+◌, ◌-◌, ◌<◌, ◌≤◌, ◌⊎◌, inl, inr, refl, ap, sym, ◌∙◌, subst, arith, List, [], ◌∷◌}
+use Rattle.std.proofs.Common.{◌≡◌, ℕ, ◌+◌, ◌-◌, ◌<◌, ◌≤◌, ◌⊎◌, inl, inr, refl, ap, sym, subst, arith, List, [], ◌∷◌}
 use Rattle.nk_values.specs.declared.field.Field.{Field}
 use Rattle.nk_values.specs.declared.field.Field.TheVariants.{Sw, Pt, EthTyp, IpProto, EthSrc, EthDst, Ip4Src, Ip4Dst, TcpSrcPort, TcpDstPort}
 use Rattle.nk_values.specs.declared.packet.Packet.{Packet}
@@ -91,14 +91,20 @@ unnamed_later ls f k h u m = record {
   first = λ w. absurd (omega (arith, h, w));
 }
 
+named_value : (ls : List Lit) (f : Field) (n : ℕ) → At ls f n → IsIn (values_at f (distinct ls)) n
+named_value ls f n x =
+    subst (λ (k : ℕ). IsIn (values_at f (distinct ls)) k) x.value
+    (subst (λ (g : Field). IsIn (values_at g (distinct ls)) (lit_value x.lit)) x.field (among_values (distinct ls) x.lit (among_distinct ls x.lit x.among)))
+
 -- one of 4,001 values is not named
 pub some_unnamed : (ls : List Lit) (f : Field) → AreFewNames ls → ((k : ℕ) → k < 4001 → NamesAt ls f (first_tried f + k)) → ⊥
 some_unnamed ls f few h =
     let r = free_value 4000 (first_tried f) (values_at f (distinct ls)) (let w = values_length f (distinct ls) in let q = few.bound in omega (arith, w, q)) in
-    let k = r.0 - first_tried f in
-    let e : first_tried f + k ≡ r.0 = omega (arith, r.1) in
-    let x = at ls f (first_tried f + k) (h k (omega (arith, r.2))) in
-    r.3 (subst (λ (n : ℕ). IsIn (values_at f (distinct ls)) n) (x.value ∙ e) (subst (λ (g : Field). IsIn (values_at g (distinct ls)) (lit_value x.lit)) x.field (among_values (distinct ls) x.lit (among_distinct ls x.lit x.among))))
+    all_named r.0 r.1 r.2 r.3 where
+      all_named : (n : ℕ) → first_tried f ≤ n → n ≤ first_tried f + 4000 → (IsIn (values_at f (distinct ls)) n → ⊥) → ⊥
+      all_named n l u free =
+          let e : first_tried f + (n - first_tried f) ≡ n = omega (arith, l) in
+          free (named_value ls f n (at ls f n (subst (λ (k : ℕ). NamesAt ls f k) e (h (n - first_tried f) (omega (arith, u))))))
 
 -- a packet of unnamed values
 pub fresh_by : (ls : List Lit) (g : Packet) → ((f : Field) → IsUnnamed ls f (get g f)) → IsFreshOf ls g

@@ -17,9 +17,9 @@ use Rattle.fdd_nodes.specs.Paths.{Way, tests_on}
 use Rattle.fdd_nodes.proofs.CellLaws.{lit_not_free, agrees_with, open_agrees, fill_fixed, fill_free}
 use Rattle.fdd_differ.specs.declared.frame.Frame.{Frame}
 use Rattle.fdd_differ.specs.declared.frame.Frame.TheVariants.{NoIp, OtherIp, Tcp, Udp}
-use Rattle.fdd_differ.specs.Frames.{IsFrame}
+use Rattle.fdd_differ.specs.Frames.{IsFrame, frame_cell}
 use Rattle.fdd_differ.specs.Unnamed.{IsFreshOf}
-use Rattle.fdd_differ.specs.Witness.{IsWitness, IsWitnessOf, frame_cell, narrowed_by_one, narrowed}
+use Rattle.fdd_differ.specs.Witness.{IsWitness, IsWitnessOf, narrowed_by_one, narrowed}
 
 -- what is fixed stays as one literal more comes, and the literal's field is fixed then
 one_keeps : (c : Packet) (l : Lit) (f : Field) → get c f ≢ free → get (narrowed_by_one c l) f ≡ get c f

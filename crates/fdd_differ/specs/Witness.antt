@@ -1,15 +1,13 @@
 -- Well-shaped packets of a path.
 use Rattle.std.specs.Prelude.{if◌then◌else◌, ◌==◌, List, [], ◌∷◌}
-use Rattle.nk_values.specs.declared.field.Field.TheVariants.{EthTyp, IpProto}
 use Rattle.nk_values.specs.declared.packet.Packet.{Packet}
 use Rattle.nk_values.specs.declared.lit.Lit.{Lit}
 use Rattle.nk_values.specs.Held.{put}
 use Rattle.nk_values.specs.Lits.{lit_field}
-use Rattle.nk_values.specs.Packets.{get, with_value, IsWellShaped}
-use Rattle.fdd_nodes.specs.Cells.{free, open_cell}
+use Rattle.nk_values.specs.Packets.{get, IsWellShaped}
+use Rattle.fdd_nodes.specs.Cells.{free}
 use Rattle.fdd_nodes.specs.Paths.{Way, IsOnPath}
 use Rattle.fdd_differ.specs.declared.frame.Frame.{Frame}
-use Rattle.fdd_differ.specs.declared.frame.Frame.TheVariants.{NoIp, OtherIp, Tcp, Udp}
 use Rattle.fdd_differ.specs.Frames.{IsFrame}
 
 -- a well-shaped packet of the path
@@ -22,13 +20,6 @@ pub record IsWitnessOf (w : Way) (k : Frame) (p : Packet) : Type 0 where
   pub shaped : IsWellShaped p
   pub on_path : IsOnPath w p
   pub kind : IsFrame k p
-
--- what each packet of a kind holds
-abbrev pub frame_cell : Frame → Packet
-frame_cell NoIp = open_cell
-frame_cell OtherIp = with_value open_cell EthTyp 2048
-frame_cell Tcp = with_value (with_value open_cell EthTyp 2048) IpProto 6
-frame_cell Udp = with_value (with_value open_cell EthTyp 2048) IpProto 17
 
 -- the cell with what a literal names, where it leaves its field open
 abbrev pub narrowed_by_one : Packet → Lit → Packet

@@ -1,15 +1,13 @@
 // Well-shaped packets of paths.
 ghost use Rattle.std.specs.Prelude.{◌≡◌, ◌↔◌, IsTrue, MatchOption};
 ghost use Rattle.nk_values.specs.declared.packet.Packet.{Packet};
-ghost use Rattle.nk_values.specs.Packets.{with_value};
-ghost use Rattle.nk_values.specs.Ranges.{IsLiteralOf};
 ghost use Rattle.fdd_nodes.specs.Paths.{IsFewOn};
-ghost use Rattle.fdd_differ.specs.Witness.{IsWitness, IsWitnessOf, frame_cell, narrowed_by_one, narrowed};
+ghost use Rattle.fdd_differ.specs.Witness.{IsWitness, IsWitnessOf, narrowed_by_one, narrowed};
 
 use crate::frame::Frame;
 use crate::fresh::unnamed;
 use fdd_nodes::{Cell, Known, Path};
-use nk_values::{Field, Lit, Packet, well_shaped};
+use nk_values::{Lit, Packet, well_shaped};
 
 /// A well-shaped packet of a path, or none where there is no such packet.
 pub fn path_packet(path: &Path) -> Option<Packet>
@@ -35,7 +33,7 @@ pub fn path_packet_in(path: &Path, frame: Frame) -> Option<Packet>
     requires { IsFewOn path.now }
     ensures { MatchOption result ((p : Packet) → ¬ IsWitnessOf path.now frame p) (IsWitnessOf path.now frame) }
 {
-    let cell = narrowed_by(cell_of(frame), path.trues());
+    let cell = narrowed_by(frame.cell(), path.trues());
     let packet = cell.filled(&unnamed(path));
     if is_witness(path, frame, &packet) {
         Some(packet)
@@ -54,29 +52,6 @@ fn is_witness(path: &Path, frame: Frame, packet: &Packet) -> bool
         return false;
     }
     path.has(packet)
-}
-
-// What each packet of a kind holds.
-fn cell_of(frame: Frame) -> Cell
-    ensures { result ≡ frame_cell frame }
-{
-    let open = Cell::open();
-    match frame {
-        Frame::NoIp => open,
-        Frame::OtherIp => with_value(&open, Field::EthTyp, 2048),
-        Frame::Tcp => with_value(&with_value(&open, Field::EthTyp, 2048), Field::IpProto, 6),
-        Frame::Udp => with_value(&with_value(&open, Field::EthTyp, 2048), Field::IpProto, 17),
-    }
-}
-
-fn with_value(cell: &Cell, f: Field, value: u64) -> Cell
-    requires { IsLiteralOf f value }
-    ensures { result ≡ with_value cell.now f value }
-{
-    let Some(l) = Lit::new(f, value) else {
-        unreachable!()
-    };
-    cell.with(&l)
 }
 
 // The cell with what literals name, where it leaves their fields open.
