@@ -1,5 +1,5 @@
 -- Numbers up to the greatest one of any field.
-use Rattle.std.proofs.Common.{◌≡◌, ℕ, ◌<◌, ◌≤◌, Bool, true, false, cond, nat_eq, nat_le, List, drop, codes, Option, Some, None, refl, sym, subst, arith}
+use Rattle.std.proofs.Common.{◌≡◌, ℕ, ◌<◌, ◌≤◌, ◌^◌, Bool, true, false, cond, nat_eq, nat_le, List, drop, codes, Option, Some, None, refl, sym, subst, arith}
 use Rattle.std.specs.Option.{IfSome}
 use Rattle.std.specs.List.{list_all, starts_with}
 use Rattle.std.specs.Char.{is_ascii_digit}
@@ -49,3 +49,6 @@ greatest-of-all TcpDstPort = omega arith
 pub too-great : (f : Field) (written : Option ℕ) → IsUpTo 281474976710655 written None → IfSome written (λ n. ¬ (IsLiteralOf f n))
 too-great f None h = tt
 too-great f (Some n) h = λ l. omega (arith, greatest-of-all f, l.value.high)
+
+pub literal-small : (f : Field) (n : ℕ) → IsLiteralOf f n → n < 2 ^ 64
+literal-small f n l = omega (arith, greatest-of-all f, l.value.high)

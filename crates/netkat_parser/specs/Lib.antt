@@ -4,4 +4,5 @@ pub mod Laws
 pub mod Numbers
 pub mod Pairs
 pub mod Places
+pub mod Printed
 pub mod Signs
