@@ -1,12 +1,9 @@
 -- What an added row leaves, as a set.
-use Rattle.std.proofs.Common.{◌≡◌, ℕ, zero, suc, ◌+◌, ◌<◌, ◌≤◌, ◌⊎◌, inl, inr, List, [], ◌∷◌, ◌++◌, length, take, set, get_or, refl, sym, ◌∙◌, ap, subst, Result, Ok, Err, OnOk, arith}
+use Rattle.std.proofs.Common.{◌≡◌, ℕ, zero, suc, ◌<◌, inl, inr, List, [], ◌∷◌, ◌++◌, length, set, get_or, refl, sym, ◌∙◌, subst, arith}
 use Rattle.nk_values.specs.declared.pattern.Pattern.{Pattern}
 use Rattle.nk_values.specs.declared.row.Row.{Row}
-use Rattle.nk_values.specs.declared.row.Command.{Command}
-use Rattle.nk_values.specs.declared.row.Command.TheVariants.{Add}
-use Rattle.nk_values.specs.declared.row.FlowMod.{FlowMod}
 use Rattle.nk_values.specs.Members.{IsIn}
-use Rattle.nk_values.specs.Tables.{SameKey, IsNew, Distinct, row_of, IsChanged, IsFull, HasAfterBy, IsFullBy}
+use Rattle.nk_values.specs.Tables.{SameKey, IsNew, Distinct}
 use Rattle.nk_values.proofs.MemberLaws.{in-left, in-right, in-either}
 use Rattle.flow_table.specs.Added.{IsKept, IsAdded}
 
@@ -78,28 +75,6 @@ pushed rows now row d n e = subst (λ (xs : List Row). IsAdded rows row xs) (sym
   back = λ r m. elim m [ inl q ↦ in-right rows (row ∷ []) r (inl q) | inr t ↦ in-left rows (row ∷ []) r t.0 ];
   distinct = distinct-push rows row d n;
 })
-
--- an added row is what a flow mod asks
-pub changed : (rows now : List Row) (m : FlowMod) (row : Row) → m.command ≡ Add → row ≡ row_of m → IsAdded rows row now → IsChanged rows m now
-changed rows now m row c e a =
-    let b = subst (λ (r : Row). IsAdded rows r now) e a in
-    record {
-      front = λ r n. subst (λ (x : Command). HasAfterBy x rows m r) (sym c) (b.front r n);
-      back = λ r n. b.back r (subst (λ (x : Command). HasAfterBy x rows m r) c n);
-      distinct = b.distinct;
-    }
-
-pub full : (capacity : ℕ) (rows : List Row) (m : FlowMod) (row : Row) → m.command ≡ Add → row ≡ row_of m → (capacity ≤ length rows) × IsNew rows row.pattern row.priority → IsFull capacity rows m
-full capacity rows m row c e f =
-    subst (λ (x : Command). IsFullBy x capacity rows m) (sym c) (subst (λ (r : Row). (capacity ≤ length rows) × IsNew rows r.pattern r.priority) e f)
-
-pub not-full : (capacity : ℕ) (rows : List Row) (m : FlowMod) (row : Row) → m.command ≡ Add → row ≡ row_of m → ¬ ((capacity ≤ length rows) × IsNew rows row.pattern row.priority) → ¬ (IsFull capacity rows m)
-not-full capacity rows m row c e f =
-    λ g. f (subst (λ (r : Row). (capacity ≤ length rows) × IsNew rows r.pattern r.priority) (sym e) (subst (λ (x : Command). IsFullBy x capacity rows m) c g))
-
-pub on-ok : {T E : Type 0} (r : Result T E) (P Q : Type 0) → (P → Q) → OnOk r P → OnOk r Q
-on-ok (Ok x) P Q f p = f p
-on-ok (Err e) P Q f p = p
 
 -- one more row without the key
 pub new_more : (rows : List Row) (r : Row) (p : Pattern) (n : ℕ) → IsNew rows p n → ¬ (SameKey r p n) → IsNew (rows ++ r ∷ []) p n
