@@ -1,6 +1,7 @@
 // The readings of policies by example.
-use crate::fault::{Fault, ParseError, ParseFault};
-use crate::parse::parse_policy;
+use crate::fault::{Fault, ParseError, ParseFault, Place};
+use crate::parse::{parse_policy, parse_policy_at};
+use nk_syntax::Pol;
 use std::alloc::{AllocError, Global};
 use std::process::Abort;
 use std::test::Fail;
@@ -132,9 +133,11 @@ fn refused(rt: &impl Abort, alloc: Global, text: &str, fault: Fault, line: u64, 
     assert_eq!(rt; parse_policy(alloc, text.as_bytes()).err(), want, "{text}");
 }
 
-// Reads a text and prints the policy, twice.
+// Reads a text and prints a copy of the policy, twice.
 fn printed(rt: &impl Abort, alloc: Global, text: &str, want: &str) -> Result<(), Fail> {
-    let first = parse_policy(alloc, text.as_bytes())?.print(alloc)?;
+    let first = parse_policy(alloc, text.as_bytes())?
+        .copy(alloc)?
+        .print(alloc)?;
     assert_eq!(rt; first.as_str(), want, "{text}");
     let second = parse_policy(alloc, first.as_bytes())?.print(alloc)?;
     assert_eq!(rt; second.as_str(), want, "{text}");
@@ -182,6 +185,43 @@ fn readings(rt: HostRuntime) -> Result<(), Fail> {
         printed(&rt, rt.alloc(), text, want)?;
     }
     Ok(())
+}
+
+#[test]
+fn predicates(rt: HostRuntime) -> Result<(), Fail> {
+    let text = "not ((pt=1 + (sw=2; drop)))";
+    if let Pol::Filter(pred) = parse_policy(rt.alloc(), text.as_bytes())? {
+        let shown = pred.copy(rt.alloc())?.print(rt.alloc())?;
+        assert_eq!(rt; shown.as_str(), text);
+    } else {
+        assert!(rt; false, "no filter");
+    }
+    Ok(())
+}
+
+// A text inside a larger one: the place where it begins, the fault, its line and its column.
+const INSIDE: [(&str, u64, u64, Fault, u64, u64); 3] = [
+    ("pt=1 ?", 7, 3, Fault::BadChar, 7, 8),
+    ("pt=1\n ?", 7, 3, Fault::BadChar, 8, 2),
+    ("pt=\n", 7, 1, Fault::Unexpected, 8, 1),
+];
+
+#[test]
+fn places(rt: HostRuntime) {
+    for (text, line, column, fault, at_line, at_column) in INSIDE {
+        let begin = Place { line, column };
+        assert!(rt; line < 100 && column < 100 && text.len() < 100);
+        let want = Some(ParseError::Fault(ParseFault {
+            fault,
+            line: at_line,
+            column: at_column,
+        }));
+        assert_eq!(rt;
+            parse_policy_at(rt.alloc(), text.as_bytes(), begin).err(),
+            want,
+            "{text}"
+        );
+    }
 }
 
 #[test]
