@@ -1,5 +1,5 @@
 -- What is printed is read back: the parts.
-use Rattle.std.proofs.Common.{◌≡◌, ◌≢◌, ℕ, ◌+◌, ◌<◌, ◌≤◌, ◌^◌, Bool, true, false, cond, List, [], ◌∷◌, ◌++◌, length, codes, decimal, Some, refl, sym, ap, ◌∙◌, subst, append_assoc, arith}
+use Rattle.std.proofs.Common.{◌≡◌, ◌≢◌, ℕ, ◌+◌, ◌<◌, Bool, true, false, List, [], ◌∷◌, ◌++◌, codes, decimal, refl, sym, ap, ◌∙◌, subst, append_assoc, arith}
 use Rattle.std.proofs.lemmas.Fmt.{decimal_nonempty}
 use Rattle.nk_values.specs.declared.field.Field.{Field}
 use Rattle.nk_values.specs.declared.field.Field.TheVariants.{Sw, Pt, EthTyp, IpProto, EthSrc, EthDst, Ip4Src, Ip4Dst, TcpSrcPort, TcpDstPort}
@@ -10,12 +10,11 @@ use Rattle.nk_syntax.specs.Prints.{name_of, bracketed, pair_text}
 use Rattle.netkat_parser.specs.declared.sign.Sign.{Sign}
 use Rattle.netkat_parser.specs.declared.sign.Sign.TheVariants as to_sign
 use Rattle.netkat_parser.specs.declared.sign.Sign.TheVariants.{Skip, Name, Equals, Becomes, Plus, Semicolon, Open, Close}
-use Rattle.netkat_parser.specs.Signs.{sign, past, run, past_run, ahead}
-use Rattle.netkat_parser.specs.Numbers.{number}
-use Rattle.netkat_parser.specs.Grammar.{Spot, Got, Read, Bad, step, gathered, negated, sum_of, seq_of, with_pair, Opens, EndsBefore, IsRun, IsPair, IsLeaf, IsPolicy, AreSummands, IsSequence, AreFactors, IsUnary, IsAtom, sum, last_summand, more_summands, sequence, last_factor, more_factors, negation, post, bracket, leaf}
+use Rattle.netkat_parser.specs.Signs.{sign, past, run, ahead}
+use Rattle.netkat_parser.specs.Grammar.{Spot, Read, step, negated, sum_of, seq_of, with_pair, IsRun, IsPair, IsLeaf, IsPolicy, AreSummands, IsSequence, AreFactors, IsUnary, IsAtom, sum, last_summand, more_summands, sequence, last_factor, more_factors, negation, leaf}
 use Rattle.netkat_parser.specs.Answers.{spot}
 use Rattle.netkat_parser.specs.Printed.{IsRoomy}
-use Rattle.netkat_parser.proofs.Decimals.{AreDigits, decimal-digits, number-decimal, EndsRun, run-digits, past_run-digits, ahead-digits}
+use Rattle.netkat_parser.proofs.Decimals.{decimal-digits, number-decimal, EndsRun, run-digits, past_run-digits, ahead-digits}
 use Rattle.netkat_parser.proofs.Literals.{literal-small}
 use Rattle.netkat_parser.proofs.Rooms.{room-pair}
 use Rattle.netkat_parser.proofs.Rules.{closing, star, no-star}
@@ -131,8 +130,8 @@ pub sum-backs : (depth : ℕ) (inside : Bool) (text more : List ℕ) (p : Term) 
 sum-backs depth inside text more p ps naming naming' deep b row grows =
     bracket-backs depth inside (text ++ more) (sum_of (p ∷ ps)) (λ named. naming' (naming named)) deep (row-starts text more b.starts)
     (λ rest named room.
-      subst (λ (y : List ℕ). IsPolicy (depth + 1) inside (spot y named) (Read (sum_of (p ∷ ps)) (spot (41 ∷ rest) (naming' (naming named))))) (sym (append_assoc text more (41 ∷ rest)))
-      (sum (depth + 1) inside _ (Read (p ∷ ps) (spot (41 ∷ rest) (naming' (naming named)))) (sum-row (depth + 1) inside text more p ps naming naming' b row grows rest named room)))
+    subst (λ (y : List ℕ). IsPolicy (depth + 1) inside (spot y named) (Read (sum_of (p ∷ ps)) (spot (41 ∷ rest) (naming' (naming named))))) (sym (append_assoc text more (41 ∷ rest)))
+    (sum (depth + 1) inside _ (Read (p ∷ ps) (spot (41 ∷ rest) (naming' (naming named)))) (sum-row (depth + 1) inside text more p ps naming naming' b row grows rest named room)))
 
 pub seq-backs : (depth : ℕ) (inside : Bool) (text more : List ℕ) (p : Term) (ps : List Term) (naming naming' : Names → Names) → depth < 200
     → Backs (depth + 1) inside text p naming → Row (depth + 1) inside (codes "; ") more ps naming' → ((named : Names) → IsRoomy (naming' named) → IsRoomy named)
@@ -140,9 +139,9 @@ pub seq-backs : (depth : ℕ) (inside : Bool) (text more : List ℕ) (p : Term) 
 seq-backs depth inside text more p ps naming naming' deep b row grows =
     bracket-backs depth inside (text ++ more) (seq_of (p ∷ ps)) (λ named. naming' (naming named)) deep (row-starts text more b.starts)
     (λ rest named room.
-      subst (λ (y : List ℕ). IsPolicy (depth + 1) inside (spot y named) (Read (seq_of (p ∷ ps)) (spot (41 ∷ rest) (naming' (naming named))))) (sym (append_assoc text more (41 ∷ rest)))
-      (policy-of (depth + 1) inside _ (seq_of (p ∷ ps)) (spot (41 ∷ rest) (naming' (naming named)))
-      (sequence (depth + 1) inside _ (Read (p ∷ ps) (spot (41 ∷ rest) (naming' (naming named)))) (factor-row (depth + 1) inside text more p ps naming naming' b row grows rest named room)) (λ e. cc)))
+    subst (λ (y : List ℕ). IsPolicy (depth + 1) inside (spot y named) (Read (seq_of (p ∷ ps)) (spot (41 ∷ rest) (naming' (naming named))))) (sym (append_assoc text more (41 ∷ rest)))
+    (policy-of (depth + 1) inside _ (seq_of (p ∷ ps)) (spot (41 ∷ rest) (naming' (naming named)))
+    (sequence (depth + 1) inside _ (Read (p ∷ ps) (spot (41 ∷ rest) (naming' (naming named)))) (factor-row (depth + 1) inside text more p ps naming naming' b row grows rest named room)) (λ e. cc)))
 
 pub not-backs : (depth : ℕ) (inside : Bool) (text : List ℕ) (q : Term) (naming : Names → Names) → depth + 1 < 200
     → Backs (depth + 1 + 1) true text q naming → Backs depth inside (codes "not " ++ bracketed text) (negated q) naming

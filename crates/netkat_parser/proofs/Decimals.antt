@@ -1,5 +1,5 @@
 -- Numbers in decimal, as values are read.
-use Rattle.std.proofs.Common.{◌≡◌, ◌≢◌, ℕ, suc, ◌+◌, ◌-◌, ◌*◌, ◌/◌, ◌%◌, ◌^◌, ◌<◌, ◌≤◌, Bool, true, false, cond, ◌&&◌, ◌==◌, nat_eq, nat_le, nat_lt, List, [], ◌∷◌, ◌++◌, length, take, drop, codes, decimal, Option, Some, None, refl, sym, ap, ◌∙◌, subst, arith, lit<}
+use Rattle.std.proofs.Common.{◌≡◌, ℕ, ◌+◌, ◌%◌, ◌^◌, ◌<◌, ◌≤◌, Bool, true, false, ◌&&◌, ◌==◌, nat_eq, nat_le, List, [], ◌∷◌, ◌++◌, length, codes, decimal, Some, refl, ap, ◌∙◌, arith}
 use Rattle.std.specs.List.{list_all, prefix_len, starts_with}
 use Rattle.std.specs.Char.{is_ascii_digit, is_digit}
 use Rattle.std.specs.Str.Parse.{digits_value}
@@ -8,7 +8,7 @@ use Rattle.std.proofs.lemmas.Fmt.{decimal_by_steps, decimal_is_IsNumeral, length
 use Rattle.std.proofs.Math.Seq.{take-append_seam, drop-append_seam}
 use Rattle.nk_values.specs.declared.field.Field.{Field}
 use Rattle.netkat_parser.specs.Signs.{ahead, is_blank, is_run_byte, run, past_run}
-use Rattle.netkat_parser.specs.Numbers.{number, numeral, decimal_form, digits_form}
+use Rattle.netkat_parser.specs.Numbers.{number, decimal_form}
 
 within : (m n : ℕ) → m ≤ n → nat_le m n ≡ true
 within m n h = grind (arith, nat_tests)

@@ -1,13 +1,13 @@
 -- What is printed is read back.
-use Rattle.std.proofs.Common.{◌≡◌, ℕ, ◌+◌, ◌<◌, ◌≤◌, max, Bool, true, false, List, [], ◌∷◌, ◌++◌, codes, refl, sym, ap, ◌∙◌, subst, arith}
+use Rattle.std.proofs.Common.{◌≡◌, ℕ, ◌+◌, ◌≤◌, Bool, true, false, List, [], ◌∷◌, ◌++◌, codes, refl, sym, ap, ◌∙◌, subst, arith}
 use Rattle.std.proofs.lemmas.List.{append-nil}
 use Rattle.nk_syntax.specs.Terms.{Guard, Guards, One, Zero, Test, Or, And, Not, no_guards, guard, Term, Terms, Filter, Assign, Sum, Seq, Star, Dup, no_terms, term}
 use Rattle.nk_syntax.specs.Views.{term_row}
-use Rattle.nk_syntax.specs.Prints.{guard_text, guards_text, more_guards, term_text, terms_text, more_terms}
-use Rattle.netkat_parser.specs.Signs.{ahead, sign}
-use Rattle.netkat_parser.specs.Grammar.{Spot, Read, IsPolicy, IsUnary, IsText, start, sum_of, seq_of, taken, all_taken, negated}
+use Rattle.nk_syntax.specs.Prints.{guard_text, more_guards, term_text, more_terms}
+use Rattle.netkat_parser.specs.Signs.{ahead}
+use Rattle.netkat_parser.specs.Grammar.{Read, IsPolicy, IsText, sum_of, seq_of, taken, all_taken}
 use Rattle.netkat_parser.specs.Answers.{spot}
-use Rattle.netkat_parser.specs.Printed.{IsPlainGuard, AreTwoGuards, AreSomeGuards, ArePlainGuards, IsFilter, IsPlain, AreTwo, AreSome, ArePlain, guard_depth, guards_depth, term_depth, terms_depth, guard_named, guards_named, term_named, terms_named, IsRoomy, IsPrintable}
+use Rattle.netkat_parser.specs.Printed.{IsPlainGuard, AreSomeGuards, ArePlainGuards, IsFilter, IsPlain, AreSome, ArePlain, guard_depth, guards_depth, term_depth, terms_depth, guard_named, guards_named, term_named, terms_named, IsPrintable}
 use Rattle.netkat_parser.proofs.Outcomes.{whole-text}
 use Rattle.netkat_parser.proofs.Rooms.{grows-guards, grows-terms}
 use Rattle.netkat_parser.proofs.Back.{Backs, Row, row_end, row_more, stop_end, sequence-of, policy-of, sum-backs, seq-backs, not-backs, star-backs, skip-backs, drop-backs, dup-backs, test-backs, assignment-backs}

@@ -1,4 +1,5 @@
 pub mod Answers
+pub mod Faults
 pub mod Grammar
 pub mod Laws
 pub mod Numbers
