@@ -15,3 +15,6 @@ pub use cell::{Cell, Known};
 pub use fdd::Fdd;
 pub use leaf::Leaf;
 pub use node::Node;
+
+#[cfg(test)]
+mod tests;
