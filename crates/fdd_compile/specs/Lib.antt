@@ -1,0 +1,4 @@
+pub mod Breaches
+pub mod Faults
+pub mod Guarded
+pub mod Leftmost
