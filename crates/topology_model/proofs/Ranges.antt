@@ -1,5 +1,5 @@
 -- Declared ports have the numbers of packets.
-use Rattle.std.proofs.Common.{◌≡◌, ℕ, zero, suc, ◌<◌, Bool, true, false, cond, ◌&&◌, ◌||◌, ◌==◌, ◌⊎◌, inl, inr, List, [], ◌∷◌, ◌++◌, map, filter, refl, sym, ap, ◌∙◌, subst, Option, Some, None, not, length, get_or, arith}
+use Rattle.std.proofs.Common.{◌≡◌, ℕ, zero, suc, ◌<◌, Bool, true, false, cond, ◌&&◌, ◌||◌, ◌==◌, ◌⊎◌, inl, inr, List, [], ◌∷◌, ◌++◌, map, filter, refl, sym, ap, ◌∙◌, subst, Option, Some, None, is_some, not, length, get_or, arith}
 use Rattle.std.specs.List.{flat_map, list_any}
 use Rattle.std.proofs.lemmas.Bool.Decides.{Decides-eqb}
 use Rattle.nk_values.specs.declared.field.Field.TheVariants.{Sw, Pt}
@@ -7,11 +7,12 @@ use Rattle.nk_values.specs.Members.{IsIn}
 use Rattle.nk_values.specs.Ranges.{IsValue}
 use Rattle.nk_values.proofs.MemberLaws.{from-flat_map, in-flat_map}
 use Rattle.history_meaning.specs.Network.{Place}
-use Rattle.topology_model.specs.Layouts.{Layout, place_of, both_ways, has_port, is_linked, is_edge, places_at, edges_of}
+use Rattle.topology_model.specs.Layouts.{Layout, place_of, both_ways, has_port, is_linked, far_end, is_edge, places_at, edges_of, wiring}
 use Rattle.topology_model.specs.Lines.{IsEnd}
-use Rattle.topology_model.specs.Wired.{IsDeclared, IsSound}
+use Rattle.topology_model.specs.Wired.{IsDeclared, IsSound, IsWiring}
 use Rattle.topology_model.specs.declared.line.Site.{Site}
 use Rattle.topology_model.proofs.Linking.{declared}
+use Rattle.topology_model.proofs.Wires.{linked, joined}
 
 pub in_range : (t : Layout) (a : Place) → IsSound t → IsDeclared t a → IsValue Sw a.sw × IsValue Pt a.pt
 in_range t a s d =
@@ -122,3 +123,33 @@ link_ends t ls i s e h =
       in_range t (place_of l.0) s (s.declared (place_of l.0) (place_of l.1) m),
       in_range t (place_of l.1) s (s.declared (place_of l.1) (place_of l.0) (s.both (place_of l.0) (place_of l.1) m)),
     )
+
+-- each declared port is an edge port or has a link
+pub kinds : (t : Layout) (a : Place) → IsDeclared t a → IsIn (edges_of t) a ⊎ ((b : Place) × IsIn t.links (a, b))
+kinds t a d = split (far_end t.links a) refl
+  where
+    split : (o : Option Place) → far_end t.links a ≡ o → IsIn (edges_of t) a ⊎ ((b : Place) × IsIn t.links (a, b))
+    split None e =
+        let k : not (is_linked t a) ≡ true = ap (λ (o : Option Place). not (is_some o)) e in
+        inl (in-filter (λ b. not (is_linked t b)) (flat_map places_at t.switches) a (is_place t a d) k)
+    split (Some b) e = inr (b, joined t.links a b e)
+
+pub edges_apart : (t : Layout) (a b : Place) → IsIn (edges_of t) a → IsIn t.links (a, b) → ⊥
+edges_apart t a b m l =
+    let r = from-filter (λ c. not (is_linked t c)) (flat_map places_at t.switches) a m in
+    let k : is_linked t a ≡ true = linked t.links a b l in
+    clash (is_linked t a) r.1 k
+  where
+    clash : (c : Bool) → not c ≡ true → c ≡ true → ⊥
+    clash true e f = cc
+    clash false e f = cc
+
+-- what holds of the wiring
+pub wired : (t : Layout) → IsSound t → IsWiring (wiring t)
+wired t s = record {
+  one = s.one;
+  both = s.both;
+  apart = edges_apart t;
+  link_range = λ a b m. in_range t a s (s.declared a b m);
+  edge_range = λ a m. in_range t a s (edge_declared t a m);
+}

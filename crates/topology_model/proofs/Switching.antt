@@ -1,8 +1,9 @@
 -- One more switch.
 use Rattle.std.proofs.Common.{◌≡◌, ◌≢◌, ℕ, ◌+◌, ◌<◌, ◌≤◌, Bool, true, false, cond, ◌&&◌, ◌||◌, ◌==◌, ◌⊎◌, inl, inr, List, [], ◌∷◌, ◌++◌, length, map, refl, ap, sym, ◌∙◌, subst, Option, Some, None, option_map, is_some, length-append, arith}
-use Rattle.std.specs.List.{list_any}
+use Rattle.std.specs.List.{list_any, All}
 use Rattle.std.specs.Option.{option_flatten}
 use Rattle.std.proofs.lemmas.Bool.Decides.{Decides-eqb, nat_tests}
+use Rattle.std.proofs.lemmas.List.Elements.{All-head, All-tail}
 use Rattle.std.proofs.lemmas.List.Folds.{list_any-append}
 use Rattle.nk_values.specs.declared.field.Field.TheVariants.{Sw, Pt}
 use Rattle.nk_values.specs.Members.{IsIn}
@@ -101,12 +102,18 @@ no_repeat (n ∷ ns) e = split (list_any (λ m. m == n) ns) refl e (no_repeat ns
     split true d k f = absurd (cc)
     split false d k f = ((λ m. let t = in_any ns n m in absurd (cc)), f k)
 
+-- what holds of each element
+each_in : {X : Type 0} (P : X → Type 0) (xs : List X) (x : X) → All P xs → IsIn xs x → P x
+each_in {X} P [] x a m = absurd m
+each_in {X} P (y ∷ ys) x a (inl e) = subst P e (All-head P y ys a)
+each_in {X} P (y ∷ ys) x a (inr m) = each_in P ys x (All-tail P y ys a) m
+
 pub sound : (t : Layout) (sw : ℕ) (ports : List ℕ) → IsSound t → IsLineInRange (Switch sw ports) → IsNewSwitch t sw ports →
     IsSound (record { switches = t.switches ++ site sw ports ∷ []; links = t.links })
 sound t sw ports s r n = record {
   sites = λ x m. elim (in-either t.switches (site sw ports ∷ []) x m) [
     | inl y ↦ s.sites x y
-    | inr y ↦ elim y [ inl e ↦ subst (λ (z : Site). IsSite z) e (record { switch = r.0; ports = r.1; differ = no_repeat ports n.differ; few = n.few }) | inr y ↦ absurd y ]
+    | inr y ↦ elim y [ inl e ↦ subst (λ (z : Site). IsSite z) e (record { switch = r.0; ports = λ n k. each_in (IsValue Pt) ports n r.1 k; differ = no_repeat ports n.differ; few = n.few }) | inr y ↦ absurd y ]
   ];
   differ = differ_push t.switches sw ports s.differ (unnamed t.switches sw n.new);
   few = omega (arith, length-append t.switches (site sw ports ∷ []), n.room);

@@ -1,8 +1,7 @@
 -- The topology of some lines, and the first fault in them.
-use Rattle.std.specs.Prelude.{◌≡◌, ℕ, ◌<◌, Bool, false, ◌==◌, ◌&&◌, ◌||◌, not, nat_le, nat_lt, List, [], ◌∷◌, ◌++◌, length, take, slice_get, Option, Some, None, if◌then◌else◌}
+use Rattle.std.specs.Prelude.{◌≡◌, ℕ, All, ◌<◌, Bool, false, ◌==◌, ◌&&◌, ◌||◌, not, nat_le, nat_lt, List, [], ◌∷◌, ◌++◌, length, take, slice_get, Option, Some, None, if◌then◌else◌}
 use Rattle.std.specs.List.{flat_map, list_any}
 use Rattle.nk_values.specs.declared.field.Field.TheVariants.{Sw, Pt}
-use Rattle.nk_values.specs.Members.{IsIn}
 use Rattle.nk_values.specs.Ranges.{IsValue}
 use Rattle.history_meaning.specs.Network.{Place}
 use Rattle.topology_model.specs.Layouts.{Layout, place_of, both_ways, has_switch, has_port, same_place, is_linked, edges_of}
@@ -18,7 +17,7 @@ IsEnd e = IsValue Sw e.0 × IsValue Pt e.1
 
 -- each number of the line is a packet's
 abbrev pub IsLineInRange : TopoLine → Type 0
-IsLineInRange (Switch sw ports) = IsValue Sw sw × ((n : ℕ) → IsIn ports n → IsValue Pt n)
+IsLineInRange (Switch sw ports) = IsValue Sw sw × All (IsValue Pt) ports
 IsLineInRange (Link a b) = IsEnd a × IsEnd b
 
 -- what a line declares: a switch, or a link in both directions

@@ -3,8 +3,8 @@ use Rattle.std.specs.Prelude.{◌≡◌, ◌≢◌, ℕ, ◌≤◌, List, [], �
 use Rattle.nk_values.specs.declared.field.Field.TheVariants.{Sw, Pt}
 use Rattle.nk_values.specs.Members.{IsIn}
 use Rattle.nk_values.specs.Ranges.{IsValue}
-use Rattle.history_meaning.specs.Network.{Place}
-use Rattle.topology_model.specs.Layouts.{Layout, edges_of, wiring}
+use Rattle.history_meaning.specs.Network.{Place, Wiring}
+use Rattle.topology_model.specs.Layouts.{Layout, edges_of}
 use Rattle.topology_model.specs.declared.line.Site.{Site}
 
 -- no number comes twice
@@ -35,6 +35,14 @@ pub record IsSound (t : Layout) : Type 0 where
   pub both : (a b : Place) → IsIn t.links (a, b) → IsIn t.links (b, a)
   pub one : (a b c : Place) → IsIn t.links (a, b) → IsIn t.links (a, c) → b ≡ c
   pub apart : (a : Place) → ¬ (IsIn t.links (a, a))
+
+-- A port has at most one link, and none if it is an edge port; links go both ways; all have the numbers of packets.
+pub record IsWiring (w : Wiring) : Type 0 where
+  pub one : (a b c : Place) → IsIn w.links (a, b) → IsIn w.links (a, c) → b ≡ c
+  pub both : (a b : Place) → IsIn w.links (a, b) → IsIn w.links (b, a)
+  pub apart : (a b : Place) → IsIn w.edges a → IsIn w.links (a, b) → ⊥
+  pub link_range : (a b : Place) → IsIn w.links (a, b) → IsValue Sw a.sw × IsValue Pt a.pt
+  pub edge_range : (a : Place) → IsIn w.edges a → IsValue Sw a.sw × IsValue Pt a.pt
 
 -- with an edge port
 pub record IsTopology (t : Layout) : Type 0 where

@@ -5,6 +5,8 @@ pub mod draft;
 pub mod fault;
 pub mod line;
 pub mod terms;
+#[cfg(test)]
+mod tests;
 pub mod topology;
 
 pub use draft::Draft;

@@ -1,6 +1,7 @@
 // The lines of a topology.
 ghost use Rattle.std.specs.Prelude.{◌≡◌, IfOk};
 
+use nk_values::Field;
 use std::alloc::{AllocError, Global};
 use std::marker::Model;
 
@@ -22,6 +23,10 @@ impl Model for Ports {
 }
 
 impl Ports {
+    ghost use Rattle.std.specs.Prelude.{All, ◌↔◌, IsTrue};
+    ghost use Rattle.nk_values.specs.Ranges.{IsValue};
+    ghost use Rattle.nk_values.specs.declared.field.Field.TheVariants.{Pt};
+
     /// The ports with these numbers.
     pub fn new(numbers: Vec<u16>) -> Ports
         ensures { result ≡ numbers.items }
@@ -34,6 +39,15 @@ impl Ports {
         ensures { result.now ≡ self.now }
     {
         &self.numbers
+    }
+
+    // Whether each number is a port's.
+    fn are_in_range(&self) -> bool
+        ensures { IsTrue result ↔ All (IsValue Pt) self.now }
+    {
+        self.numbers
+            .iter()
+            .all(|number| Field::Pt.is_value(u64::from(*number)))
     }
 
     /// The same ports.
@@ -60,4 +74,31 @@ pub enum TopoLine {
     Switch { sw: u16, ports: Ports },
     /// A link that joins two ports, in both directions.
     Link { a: End, b: End },
+}
+
+impl TopoLine {
+    ghost use Rattle.std.specs.Prelude.{◌↔◌, IsTrue};
+    ghost use Rattle.topology_model.specs.Lines.{IsLineInRange};
+
+    /// Whether each number is in its range.
+    pub fn is_in_range(&self) -> bool
+        ensures { IsTrue result ↔ IsLineInRange self.now }
+    {
+        match self {
+            TopoLine::Switch { sw, ports } => {
+                Field::Sw.is_value(u64::from(*sw)) && ports.are_in_range()
+            }
+            TopoLine::Link { a, b } => is_end(*a) && is_end(*b),
+        }
+    }
+}
+
+ghost use Rattle.std.specs.Prelude.{◌↔◌, IsTrue};
+ghost use Rattle.topology_model.specs.Lines.{IsEnd};
+
+// Whether both numbers are in their range.
+fn is_end(end: End) -> bool
+    ensures { IsTrue result ↔ IsEnd end }
+{
+    Field::Sw.is_value(u64::from(end.0)) && Field::Pt.is_value(u64::from(end.1))
 }

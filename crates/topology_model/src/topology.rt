@@ -1,10 +1,9 @@
 // Topologies.
-ghost use Rattle.std.specs.Prelude.{◌≡◌, ◌<◌, ◌↔◌, [], ◌∷◌, length, IsTrue, IsSome, IfOk, IfErr, IfSome, IsSomeAnd, OnOk, Some, None, option_map, slice_get, map, ℕ};
+ghost use Rattle.std.specs.Prelude.{All, ◌≡◌, ◌<◌, ◌↔◌, [], ◌∷◌, length, IsTrue, IsSome, IfOk, IfErr, IfSome, IsSomeAnd, OnOk, Some, None, option_map, slice_get, map, ℕ};
 ghost use Rattle.std.specs.List.{flat_map};
 ghost use Rattle.nk_values.specs.Members.{IsIn};
 ghost use Rattle.nk_syntax.specs.Views.{term_of};
 ghost use Rattle.history_meaning.specs.Network.{Place, link_term, edge_term};
-ghost use Rattle.topology_model.specs.declared.line.TopoLine.{TopoLine};
 ghost use Rattle.topology_model.specs.Layouts.{place_of, both_ways, place_in, has_switch, has_port, far_end, is_edge, wiring};
 ghost use Rattle.topology_model.specs.Lines.{IsLineInRange, layout_of, fault_from, fault_at, IsFaultless};
 ghost use Rattle.topology_model.specs.Causes.{IsEndCause, IsCause};
@@ -39,12 +38,12 @@ impl Model for Topology {
 }
 
 impl Topology {
-    ghost use Rattle.topology_model.specs.Wired.{IsTopology};
+    ghost use Rattle.topology_model.specs.Wired.{IsTopology, IsDeclared, IsWiring};
 
     /// The topology of some lines, or the first fault. Each number is in its range: switches 1 to
     /// 65535, ports 1 to 65279. A link joins ports that lines before it declare.
     pub fn build(alloc: Global, lines: &[TopoLine]) -> Result<Topology, TopoError>
-        requires { (l : TopoLine) → IsIn lines.now l → IsLineInRange l }
+        requires { All IsLineInRange lines.now }
         ensures faultless { OnOk result (IsFaultless lines.now) }
         ensures layout { IfOk result (λ t. t ≡ layout_of lines.now) }
         ensures cause { IfErr result (IsCause lines.now) }
@@ -88,7 +87,7 @@ impl Topology {
     /// The links, in declared order.
     pub fn links(&self) -> &[(End, End)]
         ensures links { flat_map both_ways result.now ≡ (wiring self.now).links }
-        ensures topology { IsTopology self.now }
+        ensures wiring { IsWiring (wiring self.now) }
     {
         self.draft.links()
     }
@@ -96,7 +95,7 @@ impl Topology {
     /// The ports without a link, in declared order.
     pub fn edges(&self) -> &[End]
         ensures edges { map place_of result.now ≡ (wiring self.now).edges }
-        ensures topology { IsTopology self.now }
+        ensures wiring { IsWiring (wiring self.now) }
     {
         &self.edges
     }
@@ -114,7 +113,7 @@ impl Topology {
     pub fn far_end(&self, sw: u16, pt: u16) -> Option<(u16, u16)>
         ensures value { option_map place_of result ≡ far_end (wiring self.now).links (place_of (sw, pt)) }
         ensures joined { (b : Place) → (option_map place_of result ≡ Some b) ↔ IsIn (wiring self.now).links (place_of (sw, pt), b) }
-        ensures topology { IsTopology self.now }
+        ensures wiring { IsWiring (wiring self.now) }
     {
         self.draft.far_end((sw, pt))
     }
@@ -123,14 +122,15 @@ impl Topology {
     pub fn is_edge(&self, sw: u16, pt: u16) -> bool
         ensures value { result ≡ is_edge self.now (place_of (sw, pt)) }
         ensures edge { IsTrue result ↔ IsIn (wiring self.now).edges (place_of (sw, pt)) }
-        ensures topology { IsTopology self.now }
+        ensures wiring { IsWiring (wiring self.now) }
     {
         self.draft.is_edge((sw, pt))
     }
 
     /// Whether a port is declared.
     pub fn is_live(&self, sw: u16, pt: u16) -> bool
-        ensures { result ≡ has_port self.now.switches (place_of (sw, pt)) }
+        ensures value { result ≡ has_port self.now.switches (place_of (sw, pt)) }
+        ensures declared { IsTrue result ↔ IsDeclared self.now (place_of (sw, pt)) }
     {
         self.draft.has_port((sw, pt))
     }
@@ -168,7 +168,7 @@ impl Topology {
 
 // What some lines declare, or their first fault but for the missing edge port.
 fn draft_of(alloc: Global, lines: &[TopoLine]) -> Result<Draft, TopoError>
-    requires { (l : TopoLine) → IsIn lines.now l → IsLineInRange l }
+    requires { All IsLineInRange lines.now }
     ensures layout { IfOk result (λ d. d ≡ layout_of lines.now) }
     ensures faultless { OnOk result ((k : ℕ) → k < length lines.now → fault_at lines.now k ≡ None) }
     ensures cause { IfErr result (IsCause lines.now) }

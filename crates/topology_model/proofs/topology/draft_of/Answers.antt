@@ -7,11 +7,6 @@ use Rattle.topology_model.proofs.Growth.{found, layout_next, fault_next, line_ca
 use Rattle.topology_model.proofs.Ranges.{in-get_or}
 use Rattle.topology_model.proofs.topology.draft_of.Goals as goal
 
-pub with-requires : goal.with-requires
-with-requires c =
-    let l = c.index-lines-place.result in
-    c.requires l (subst (λ (x : TopoLine). IsIn c.args.lines.now x) (sym c.index-lines-place.is) (in-get_or c.args.lines.now c.loop-place.place l c.loop-place-test.true))
-
 pub returns-in-Err-clause-cause : goal.returns-in-Err-clause-cause
 returns-in-Err-clause-cause c =
     let l = c.index-lines-place.result in

@@ -21,9 +21,9 @@ invariant_of-result c =
     let old = c.self.invariant in
     let n = new_link t a b (subst (λ (x : Layout). line_fault x (Link a b) ≡ None) (sym c.self.view_is) c.requires.faultless) in
     let links : t.links ++ (place_of a, place_of b) ∷ (place_of b, place_of a) ∷ [] ≡ flat_map both_ways c.push.new.self.items =
-        sym (ap (flat_map both_ways) c.in_ok-push.ensures.items ∙ flat_map-append both_ways c.self.inside.links.items ((a, b) ∷ [])) in
+    sym (ap (flat_map both_ways) c.in_ok-push.ensures.items ∙ flat_map-append both_ways c.self.inside.links.items ((a, b) ∷ [])) in
     let ends : (e : ℕ × ℕ) → entry c.insert-2.new.self e ≡ cond (same_end b e) (Some (Some a)) (cond (same_end a e) (Some (Some b)) (entry c.self.inside.far_ends e)) =
-        λ e. c.in_ok-insert-2.ensures.updates.0 e ∙ ap (λ o. cond (same_end b e) (Some (Some a)) o) (c.in_ok-insert.ensures.updates.0 e) in
+    λ e. c.in_ok-insert-2.ensures.updates.0 e ∙ ap (λ o. cond (same_end b e) (Some (Some a)) o) (c.in_ok-insert.ensures.updates.0 e) in
     record {
       places = old.places;
       live = live t.switches a b (entry c.self.inside.far_ends) (entry c.insert-2.new.self) n.from n.to old.live ends;

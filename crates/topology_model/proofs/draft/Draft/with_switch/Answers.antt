@@ -20,12 +20,12 @@ invariant_of-result c =
     let old = c.self.invariant in
     let n = new_switch t sw ports (subst (λ (x : Layout). line_fault x (Switch sw ports) ≡ None) (sym c.self.view_is) c.requires.faultless) in
     let items : t.switches ++ record { sw = sw; ports = ports } ∷ [] ≡ c.push.new.self.items =
-        sym (c.in_ok-push.ensures.items ∙ ap (λ (p : List ℕ). t.switches ++ record { sw = sw; ports = p } ∷ []) c.in_ok-ports.ensures) in
+    sym (c.in_ok-push.ensures.items ∙ ap (λ (p : List ℕ). t.switches ++ record { sw = sw; ports = p } ∷ []) c.in_ok-ports.ensures) in
     let len : c.len.result ≡ length t.switches = omega (arith, c.len.ensures, c.self.inside.switches.ok.0) in
     let put : (q : ℕ) → get nat_eq c.insert.new.self q ≡ cond (nat_eq sw q) (Some (length t.switches)) (get nat_eq c.self.inside.places q) =
-        λ q. c.in_ok-insert.ensures.updates.0 q ∙ ap (λ k. cond (nat_eq sw q) (Some k) (get nat_eq c.self.inside.places q)) len in
+    λ q. c.in_ok-insert.ensures.updates.0 q ∙ ap (λ k. cond (nat_eq sw q) (Some k) (get nat_eq c.self.inside.places q)) len in
     let ends : (e : ℕ × ℕ) → entry c.put_edges.new.far_ends e ≡ cond (sw == e.0 && list_any (λ k. k == e.1) ports) (Some None) (entry c.self.inside.far_ends e) =
-        λ e. c.in_ok-put_edges.ensures e ∙ ap (λ (ps : List ℕ). cond (sw == e.0 && list_any (λ k. k == e.1) ps) (Some None) (entry c.self.inside.far_ends e)) c.as_slice.ensures in
+    λ e. c.in_ok-put_edges.ensures e ∙ ap (λ (ps : List ℕ). cond (sw == e.0 && list_any (λ k. k == e.1) ps) (Some None) (entry c.self.inside.far_ends e)) c.as_slice.ensures in
     record {
       places = subst (λ (s : List Site). (q : ℕ) → get nat_eq c.insert.new.self q ≡ place_in s q) items (placed t.switches sw ports (get nat_eq c.self.inside.places) (get nat_eq c.insert.new.self) n.new old.places put);
       live = subst (λ (s : List Site). (e : ℕ × ℕ) → is_some (entry c.put_edges.new.far_ends e) ≡ has_port s (place_of e)) items (live t.switches sw ports (entry c.self.inside.far_ends) (entry c.put_edges.new.far_ends) old.live ends);

@@ -1,0 +1,32 @@
+-- A text is a policy or has a fault, never both, and its fault is one.
+use Rattle.std.proofs.Common.{◌≡◌, ℕ, List, [], ◌++◌, false, sym, ap, ◌∙◌, subst}
+use Rattle.std.proofs.lemmas.List.{append_cancel_right}
+use Rattle.nk_syntax.specs.Terms.{Term}
+use Rattle.netkat_parser.specs.declared.fault.Fault.{Fault}
+use Rattle.netkat_parser.specs.declared.fault.Place.{Place}
+use Rattle.netkat_parser.specs.declared.fault.ParseFault.{ParseFault}
+use Rattle.netkat_parser.specs.declared.sign.Sign.TheVariants.{End}
+use Rattle.netkat_parser.specs.Signs.{sign, ahead}
+use Rattle.netkat_parser.specs.Grammar.{Spot, Got, Read, Bad, ended_by, start, IsPolicy, IsText}
+use Rattle.netkat_parser.specs.Places.{place_behind, HasFault}
+use Rattle.netkat_parser.proofs.Unique.{reading-one}
+
+pub whole-text : (text : List ℕ) (p : Term) (s : Spot) → IsPolicy 0 false (start text) (Read p s) → sign s.text ≡ End → IsText text p
+whole-text text p s h e = (s, (Read p s, h, sym (ap (ended_by p s) e)))
+
+pub no-both : (begin : Place) (text : List ℕ) (p : Term) (f : ParseFault) → IsText text p → HasFault begin text f → ⊥
+no-both begin text p f h k = let e = reading-one text (Read p h.0) (Bad f.fault k.at) h.1 k.first in cc
+
+faults : (f g : Fault) (at at' : List ℕ) → ◌≡◌ {A = Got Term} (Bad f at) (Bad g at') → f ≡ g
+faults f g at at' e = cc
+
+ats : (f g : Fault) (at at' : List ℕ) → ◌≡◌ {A = Got Term} (Bad f at) (Bad g at') → at ≡ at'
+ats f g at at' e = cc
+
+pub fault-one : (begin : Place) (text : List ℕ) (f g : ParseFault) → HasFault begin text f → HasFault begin text g → f ≡ g
+fault-one begin text f g h k =
+    let e = reading-one text (Bad f.fault h.at) (Bad g.fault k.at) h.first k.first in
+    let at = ats f.fault g.fault h.at k.at e in
+    let front = append_cancel_right h.front k.front k.at (subst (λ (x : List ℕ). h.front ++ x ≡ text) at (sym h.parts) ∙ k.parts) in
+    let place = sym h.place ∙ ap (place_behind begin) front ∙ k.place in
+    λ i. record { fault = faults f.fault g.fault h.at k.at e i; line = (place i).line; column = (place i).column }

@@ -1,0 +1,7 @@
+pub mod Answers
+pub mod Grammar
+pub mod Laws
+pub mod Numbers
+pub mod Pairs
+pub mod Places
+pub mod Signs

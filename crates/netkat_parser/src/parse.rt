@@ -1,0 +1,108 @@
+// From a text to its policy, or to its first fault and where that is.
+ghost use Rattle.std.specs.Prelude.{◌≡◌, ◌⊎◌, ◌+◌, ◌-◌, ◌<◌, ◌^◌, length, IfOk, IfErr, IsErrAnd, MatchResult};
+ghost use Rattle.nk_syntax.specs.Terms.{Term};
+ghost use Rattle.nk_syntax.specs.Views.{term_of};
+ghost use Rattle.netkat_parser.specs.Grammar.{Bad, IsReading, IsText};
+ghost use Rattle.netkat_parser.specs.Places.{next_place, place_behind, HasFault, text_start};
+ghost use Rattle.netkat_parser.specs.Answers.{ReadsAll};
+ghost use Rattle.netkat_parser.specs.declared.fault.ParseError.{ParseError as Error};
+ghost use Rattle.netkat_parser.specs.declared.fault.ParseFault.{ParseFault as Located};
+
+use crate::fault::{Fault, ParseError, ParseFault, Place};
+use crate::leaf::stray;
+use crate::named::Named;
+use crate::parser::policy;
+use crate::sign::{Sign, ahead, first_sign};
+use crate::stop::Stop;
+use nk_syntax::Pol;
+use std::alloc::Global;
+
+/// Reads a whole text as a policy, or tells its first fault. Lines and columns count from 1,
+/// columns in bytes.
+pub fn parse_policy(alloc: Global, text: &[u8]) -> Result<Pol, ParseError>
+    ensures read { IfOk result (λ pol. IsText text.now (term_of pol)) }
+    ensures fault { (f : Located) → result ≡ Err (ParseError.Fault f) → HasFault text_start text.now f }
+
+    // Both the other way round: want of memory aside, what has a reading is read as it, and a
+    // text with a fault is refused with it.
+    ensures each_read { (p : Term) → IsText text.now p → MatchResult result (λ pol. term_of pol ≡ p) (λ e. e ≡ ParseError.Memory) }
+    ensures each_fault { (f : Located) → HasFault text_start text.now f → IsErrAnd result (λ e. (e ≡ ParseError.Fault f) ⊎ (e ≡ ParseError.Memory)) }
+{
+    parse_policy_at(alloc, text, Place { line: 1, column: 1 })
+}
+
+/// The same of a text that begins at a place of a larger one. A fault at the end of the text has
+/// the place behind its last byte.
+pub fn parse_policy_at(alloc: Global, text: &[u8], begin: Place) -> Result<Pol, ParseError>
+    requires lines { begin.line + length text.now < 2 ^ 64 }
+    requires columns { begin.column + length text.now < 2 ^ 64 }
+    ensures read { IfOk result (λ pol. IsText text.now (term_of pol)) }
+    ensures fault { (f : Located) → result ≡ Err (ParseError.Fault f) → HasFault begin text.now f }
+    ensures each_read { (p : Term) → IsText text.now p → MatchResult result (λ pol. term_of pol ≡ p) (λ e. e ≡ ParseError.Memory) }
+    ensures each_fault { (f : Located) → HasFault begin text.now f → IsErrAnd result (λ e. (e ≡ ParseError.Fault f) ⊎ (e ≡ ParseError.Memory)) }
+{
+    match whole(alloc, text) {
+        Ok(pol) => Ok(pol),
+        Err(Stop::Fault(fault, at)) => Err(ParseError::Fault(located(text, begin, fault, at))),
+        Err(Stop::Memory) => Err(ParseError::Memory),
+    }
+}
+
+// The policy of the text, or its first fault with the text from there on.
+fn whole(alloc: Global, text: &[u8]) -> Result<Pol, Stop<'_>>
+    ensures { ReadsAll text.now result }
+{
+    let mut named = Named::new(alloc);
+    let (pol, rest) = policy(alloc, &mut named, 0, false, ahead(text))?;
+    match first_sign(rest) {
+        Sign::End => Ok(pol),
+        sign => Err(Stop::Fault(stray(0, sign), rest)),
+    }
+}
+
+// The fault with its place, where `at` is the text from there on.
+fn located(text: &[u8], begin: Place, fault: Fault, at: &[u8]) -> ParseFault
+    requires lines { begin.line + length text.now < 2 ^ 64 }
+    requires columns { begin.column + length text.now < 2 ^ 64 }
+    requires first { IsReading text.now (Bad fault at.now) }
+    ensures { HasFault begin text.now result }
+{
+    let place = place_behind(begin, &text[..text.len() - at.len()]);
+    ParseFault {
+        fault,
+        line: place.line,
+        column: place.column,
+    }
+}
+
+// The place behind a text that begins at a place.
+fn place_behind(begin: Place, front: &[u8]) -> Place
+    requires lines { begin.line + length front.now < 2 ^ 64 }
+    requires columns { begin.column + length front.now < 2 ^ 64 }
+    ensures { result ≡ place_behind begin front.now }
+{
+    let mut place = begin;
+    for byte in front {
+        place = next_place(place, *byte);
+    }
+    place
+}
+
+// The place of the byte behind one.
+fn next_place(place: Place, byte: u8) -> Place
+    requires line { place.line + 1 < 2 ^ 64 }
+    requires column { place.column + 1 < 2 ^ 64 }
+    ensures { result ≡ next_place place byte }
+{
+    if byte == b'\n' {
+        Place {
+            line: place.line + 1,
+            column: 1,
+        }
+    } else {
+        Place {
+            line: place.line,
+            column: place.column + 1,
+        }
+    }
+}

@@ -1,0 +1,206 @@
+// Signs: the tokens of a policy's text, but for values.
+ghost use Rattle.std.specs.Prelude.{◌≡◌, ◌≢◌, ◌≤◌, ◌<◌, false, length, drop};
+ghost use Rattle.netkat_parser.specs.declared.sign.Sign.TheVariants.{End};
+ghost use Rattle.std.specs.List.{prefix_len, find};
+ghost use Rattle.std.specs.Str.{bytes_eq};
+ghost use Rattle.std.specs.Char.{is_ascii_alphanumeric};
+ghost use Rattle.nk_syntax.specs.Prints.{name_of};
+ghost use Rattle.netkat_parser.specs.Signs.{is_blank, ahead, fields, word, mark, is_becomes, sign, sign_len, past, is_run_byte, run, past_run};
+
+use nk_syntax::field_name;
+use nk_values::Field;
+
+/// A token. `End` is the end of the text, `Unlisted` a name that is not listed, `Strange` a byte
+/// that begins no token.
+#[derive(Clone, Copy, Debug, PartialEq, Eq)]
+pub enum Sign {
+    Skip,
+    Drop,
+    Dup,
+    Not,
+    Name(Field),
+    Equals,
+    Becomes,
+    Plus,
+    Semicolon,
+    Star,
+    Open,
+    Close,
+    End,
+    Unlisted,
+    Strange,
+}
+
+/// From the next sign on: behind blanks and comments.
+pub fn ahead(text: &[u8]) -> &[u8]
+    ensures value { result.now ≡ ahead false text.now }
+    ensures shorter { length result.now ≤ length text.now }
+{
+    let mut in_comment = false;
+    for (i, byte) in text.iter().enumerate() {
+        if in_comment {
+            in_comment = *byte != b'\n';
+        } else if *byte == b'#' {
+            in_comment = true;
+        } else if !is_blank(*byte) {
+            return &text[i..];
+        }
+    }
+    &text[text.len()..]
+}
+
+/// The first sign of a text that begins with no blank.
+pub fn first_sign(text: &[u8]) -> Sign
+    ensures { result ≡ sign text.now }
+{
+    let Some(first) = text.first() else {
+        return Sign::End;
+    };
+    if first.is_ascii_alphabetic() {
+        word(&text[..name_len(text)])
+    } else if is_becomes(text) {
+        Sign::Becomes
+    } else {
+        mark(*first)
+    }
+}
+
+/// From the next sign but one on.
+pub fn past(text: &[u8]) -> &[u8]
+    ensures value { result.now ≡ past text.now }
+    ensures shorter { length result.now ≤ length text.now }
+    ensures fewer { sign text.now ≢ End → length result.now < length text.now }
+{
+    ahead(&text[sign_len(text)..])
+}
+
+/// The longest run of letters, digits, `.` and `:`, and from the next sign behind it on.
+pub fn split_run(text: &[u8]) -> (&[u8], &[u8])
+    ensures run { result.0.now ≡ run text.now }
+    ensures rest { result.1.now ≡ past_run text.now }
+    ensures shorter { length result.1.now ≤ length text.now }
+{
+    let len = run_len(text);
+    (&text[..len], ahead(&text[len..]))
+}
+
+fn is_blank(byte: u8) -> bool
+    ensures { result ≡ is_blank byte }
+{
+    matches!(byte, b' ' | b'\t' | b'\r' | b'\n')
+}
+
+fn is_run_byte(byte: u8) -> bool
+    ensures { result ≡ is_run_byte byte }
+{
+    byte.is_ascii_alphanumeric() || byte == b'.' || byte == b':'
+}
+
+// How many bytes the first sign has.
+fn sign_len(text: &[u8]) -> usize
+    ensures len { result ≡ sign_len text.now }
+    ensures within { result ≤ length text.now }
+{
+    let Some(first) = text.first() else {
+        return 0;
+    };
+    if first.is_ascii_alphabetic() {
+        name_len(text)
+    } else if is_becomes(text) {
+        2
+    } else {
+        1
+    }
+}
+
+fn is_becomes(text: &[u8]) -> bool
+    ensures { result ≡ is_becomes text.now }
+{
+    text.len() >= 2 && text[0] == b':' && text[1] == b'='
+}
+
+// How many letters and digits stand at the front.
+fn name_len(text: &[u8]) -> usize
+    ensures len { result ≡ prefix_len is_ascii_alphanumeric text.now }
+    ensures within { result ≤ length text.now }
+{
+    for (i, byte) in text.iter().enumerate() {
+        if !byte.is_ascii_alphanumeric() {
+            return i;
+        }
+    }
+    text.len()
+}
+
+// How many bytes of a run stand at the front.
+fn run_len(text: &[u8]) -> usize
+    ensures len { result ≡ prefix_len is_run_byte text.now }
+    ensures within { result ≤ length text.now }
+{
+    for (i, byte) in text.iter().enumerate() {
+        if !is_run_byte(*byte) {
+            return i;
+        }
+    }
+    text.len()
+}
+
+fn mark(byte: u8) -> Sign
+    ensures { result ≡ mark byte }
+{
+    match byte {
+        b'+' => Sign::Plus,
+        b';' => Sign::Semicolon,
+        b'*' => Sign::Star,
+        b'(' => Sign::Open,
+        b')' => Sign::Close,
+        b'=' => Sign::Equals,
+        _ => Sign::Strange,
+    }
+}
+
+fn word(name: &[u8]) -> Sign
+    ensures { result ≡ word name.now }
+{
+    if is_text(name, "skip") {
+        Sign::Skip
+    } else if is_text(name, "drop") {
+        Sign::Drop
+    } else if is_text(name, "dup") {
+        Sign::Dup
+    } else if is_text(name, "not") {
+        Sign::Not
+    } else {
+        match field_named(name) {
+            Some(field) => Sign::Name(field),
+            None => Sign::Unlisted,
+        }
+    }
+}
+
+fn field_named(name: &[u8]) -> Option<Field>
+    ensures { result ≡ find (λ f. bytes_eq name.now (name_of f)) fields }
+{
+    let fields = [
+        Field::Sw,
+        Field::Pt,
+        Field::EthTyp,
+        Field::IpProto,
+        Field::EthSrc,
+        Field::EthDst,
+        Field::Ip4Src,
+        Field::Ip4Dst,
+        Field::TcpSrcPort,
+        Field::TcpDstPort,
+    ];
+    fields
+        .iter()
+        .copied()
+        .find(|field| is_text(name, field_name(*field)))
+}
+
+fn is_text(bytes: &[u8], text: &str) -> bool
+    ensures { result ≡ bytes_eq bytes.now text.now }
+{
+    bytes == text.as_bytes()
+}

@@ -1,0 +1,126 @@
+// Stamps: the VLAN ids that tell the packets of one policy from those of another.
+ghost use Rattle.std.specs.Prelude.{◌≡◌, ◌≤◌, ◌<◌, ◌↔◌, IsErr, IfOk, MatchOption, OnErr, ◌+◌, ◌-◌};
+ghost use Rattle.stamp_planner.specs.Stamps.{Planning, IsLive, AllLive, IsFirstFree, turned, start, given, released};
+
+use std::marker::Model;
+
+/// The greatest VLAN id.
+const GREATEST: usize = 4094;
+
+/// Every stamp is live.
+#[derive(Clone, Copy, Debug, PartialEq, Eq)]
+pub struct NoStamp;
+
+/// Gives the stamps of a range, which lies in 1 to 4094, one after another and going round, and leaves out
+/// those that are live (SIGCOMM 2012: the version number in a packet's VLAN tag).
+#[derive(Drop)]
+pub struct Planner {
+    low: u16,
+    high: u16,
+    next: u16,
+    live: [bool; GREATEST + 1],
+}
+
+impl Model for Planner {
+    ghost use Rattle.stamp_planner.specs.Stamps.{Planning, IsPlanning};
+
+    ghost Value = { Planning };
+
+    ghost view = { λ p. record { low = p.low; high = p.high; next = p.next; live = p.live } };
+
+    ghost invariant = { λ p. IsPlanning (record { low = p.low; high = p.high; next = p.next; live = p.live }) };
+}
+
+impl Planner {
+    /// A planner of the stamps from the one to the other, none of which is live.
+    pub fn new(low: u16, high: u16) -> Planner
+        requires some { 1 ≤ low }
+        requires two { low < high }
+        requires vlan { high ≤ 4094 }
+        ensures { result ≡ start low high }
+    {
+        Planner {
+            low,
+            high,
+            next: low,
+            live: [false; GREATEST + 1],
+        }
+    }
+
+    /// Gives a stamp, which is then live: the first one behind the last that was given, going round, that is not
+    /// live. Before any was given the search begins at the first of the range.
+    pub fn next_stamp(&mut self) -> Result<u16, NoStamp>
+        ensures first { IfOk result (λ stamp. IsFirstFree self.old stamp) }
+        ensures given { IfOk result (λ stamp. self.new ≡ given self.old stamp) }
+        ensures none { IsErr result ↔ AllLive self.old }
+        ensures unchanged { OnErr result (self.new ≡ self.old) }
+    {
+        let Some(stamp) = self.first_free() else {
+            return Err(NoStamp);
+        };
+        self.live[usize::from(stamp)] = true;
+        self.next = if stamp == self.high {
+            self.low
+        } else {
+            stamp + 1
+        };
+        Ok(stamp)
+    }
+
+    /// Releases a stamp, which may be given again.
+    pub fn release(&mut self, stamp: u16)
+        ensures released { self.new ≡ released self.old stamp }
+        ensures idle { ¬ (IsLive self.old stamp) → self.new ≡ self.old }
+    {
+        if usize::from(stamp) <= GREATEST {
+            self.live[usize::from(stamp)] = false;
+        }
+    }
+
+    // The first free stamp, if there is one.
+    fn first_free(&self) -> Option<u16>
+        ensures { MatchOption result (AllLive self.now) (IsFirstFree self.now) }
+    {
+        for turns in 0..self.high - self.low + 1 {
+            let stamp = self.turned(turns);
+            if !self.live[usize::from(stamp)] {
+                return Some(stamp);
+            }
+        }
+        None
+    }
+
+    // The stamp so many places on, going round.
+    fn turned(&self, turns: u16) -> u16
+        requires { turns < self.now.high + 1 - self.now.low }
+        ensures value { result ≡ turned self.now turns }
+        ensures low { self.now.low ≤ result }
+        ensures high { result ≤ self.now.high }
+    {
+        if turns <= self.high - self.next {
+            self.next + turns
+        } else {
+            self.low + (turns - (self.high - self.next) - 1)
+        }
+    }
+}
+
+#[cfg(test)]
+mod tests {
+    use super::*;
+
+    #[test]
+    fn goes_round(rt: HostRuntime) {
+        let mut planner = Planner::new(7, 9);
+        assert_eq!(rt; planner.next_stamp(), Ok(7));
+        assert_eq!(rt; planner.next_stamp(), Ok(8));
+        planner.release(7);
+        assert_eq!(rt; planner.next_stamp(), Ok(9));
+        assert_eq!(rt; planner.next_stamp(), Ok(7));
+        assert_eq!(rt; planner.next_stamp(), Err(NoStamp));
+        planner.release(4095);
+        planner.release(8);
+        assert_eq!(rt; planner.next_stamp(), Ok(8));
+        assert_eq!(rt; planner.next_stamp(), Err(NoStamp));
+    }
+}
