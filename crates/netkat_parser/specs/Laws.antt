@@ -15,10 +15,10 @@ OneOutcome = (text : List ℕ) (o o' : Got Term) → IsReading text o → IsRead
 abbrev pub OneReading : Type 0
 OneReading = (text : List ℕ) (p q : Term) → IsText text p → IsText text q → p ≡ q
 
--- The text that is printed for a policy within the limits is read as the policy,
+-- The text that is printed for a term within the limits, whose numbers are literals of their fields, is read as the term.
 abbrev pub ReadBack : Type 0
 ReadBack = (p : Term) → HasLiterals p → IsPrintable p → IsText (term_text p) p
 
--- where each number is a literal of its field, as in every `Pol`.
+-- The numbers in a `Pol` are such literals, so the text of each policy within the limits is read as the policy.
 abbrev pub ReadBackPol : Type 0
 ReadBackPol = (pol : Pol) → IsPrintable (term_of pol) → IsText (term_text (term_of pol)) (term_of pol)
