@@ -13,3 +13,4 @@ pub mod Rooms
 pub mod Decimals
 pub mod Back
 pub mod ReadBack
+pub mod PolLiterals

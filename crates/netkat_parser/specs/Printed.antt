@@ -5,15 +5,39 @@ use Rattle.nk_values.specs.Ranges.{IsLiteralOf}
 use Rattle.nk_syntax.specs.Terms.{Guard, Guards, One, Zero, Test, Or, And, Not, no_guards, guard, Term, Terms, Filter, Assign, Sum, Seq, Star, Dup, no_terms, term}
 use Rattle.netkat_parser.specs.Grammar.{with_pair, protos}
 
--- each number is a literal of its field, and an `Or` or an `And` has two or more members
+-- each number is a literal of its field
+abbrev mutual
+  pub HasGuardLiterals : Guard → Type 0
+  HasGuardLiterals (Test f n) = IsLiteralOf f n
+  HasGuardLiterals (Or as') = HaveGuardLiterals as'
+  HasGuardLiterals (And as') = HaveGuardLiterals as'
+  HasGuardLiterals (Not a) = HasGuardLiterals a
+  HasGuardLiterals _ = ⊤
+
+  pub HaveGuardLiterals : Guards → Type 0
+  HaveGuardLiterals no_guards = ⊤
+  HaveGuardLiterals (guard a as') = HasGuardLiterals a × HaveGuardLiterals as'
+
+abbrev mutual
+  pub HasLiterals : Term → Type 0
+  HasLiterals (Filter a) = HasGuardLiterals a
+  HasLiterals (Assign f n) = IsLiteralOf f n
+  HasLiterals (Sum ps) = HaveLiterals ps
+  HasLiterals (Seq ps) = HaveLiterals ps
+  HasLiterals (Star p) = HasLiterals p
+  HasLiterals Dup = ⊤
+
+  pub HaveLiterals : Terms → Type 0
+  HaveLiterals no_terms = ⊤
+  HaveLiterals (term p ps) = HasLiterals p × HaveLiterals ps
+
+-- an `Or` and an `And` have two or more members
 abbrev mutual
   pub IsPlainGuard : Guard → Type 0
-  IsPlainGuard One = ⊤
-  IsPlainGuard Zero = ⊤
-  IsPlainGuard (Test f n) = IsLiteralOf f n
   IsPlainGuard (Or as') = AreTwoGuards as'
   IsPlainGuard (And as') = AreTwoGuards as'
   IsPlainGuard (Not a) = IsPlainGuard a
+  IsPlainGuard _ = ⊤
 
   pub AreTwoGuards : Guards → Type 0
   AreTwoGuards no_guards = ⊥
@@ -33,11 +57,11 @@ IsFilter (Or as') = ⊥
 IsFilter (And as') = ⊥
 IsFilter a = IsPlainGuard a
 
--- each number is a literal, a filter holds `skip`, `drop`, a test or a `not`, and each list has two or more members
+-- a filter holds `skip`, `drop`, a test or a `not`, and each list has two or more members
 abbrev mutual
   pub IsPlain : Term → Type 0
   IsPlain (Filter a) = IsFilter a
-  IsPlain (Assign f n) = IsLiteralOf f n
+  IsPlain (Assign f n) = ⊤
   IsPlain (Sum ps) = AreTwo ps
   IsPlain (Seq ps) = AreTwo ps
   IsPlain (Star p) = IsPlain p

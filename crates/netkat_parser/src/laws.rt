@@ -1,5 +1,5 @@
 // Laws of the grammar, as contracts.
-ghost use Rattle.netkat_parser.specs.Laws.{OneOutcome, OneReading, ReadBack};
+ghost use Rattle.netkat_parser.specs.Laws.{OneOutcome, OneReading, ReadBack, ReadBackPol};
 
 /// A text has one outcome: one policy, or one fault at one place. So it has at most one reading.
 pub fn one_reading()
@@ -11,5 +11,6 @@ pub fn one_reading()
 /// members, filters hold `skip`, `drop`, a test or a `not`, the printed brackets and nots nest at
 /// most 200 deep, and at most 2,000 pairs of field and value are named, at most 100 with ipProto.
 pub fn read_back()
-    ensures { ReadBack }
+    ensures term { ReadBack }
+    ensures policy { ReadBackPol }
 {}
