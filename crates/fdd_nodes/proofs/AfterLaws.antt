@@ -140,7 +140,7 @@ among_set l c n h = elim (in-either (below l c) (l ∷ above l c) n h) [
 
 -- whole copies
 
-after_apply : (c d : List Lit) (p : Packet) → IsCopy c → apply (after c d) p ≡ apply d (apply c p)
+pub after_apply : (c d : List Lit) (p : Packet) → IsCopy c → apply (after c d) p ≡ apply d (apply c p)
 after_apply c [] p h = refl
 after_apply c (l ∷ d) p h = after_apply (set_lit l c) d p (set_copy l c 0 (omega arith) h) ∙ ap (λ (x : Packet). apply d x) (set_apply l c 0 p h)
 
@@ -148,7 +148,7 @@ pub after_copy : (c d : List Lit) → IsCopy c → IsCopy (after c d)
 after_copy c [] h = h
 after_copy c (l ∷ d) h = after_copy (set_lit l c) d (set_copy l c 0 (omega arith) h)
 
-after_among : (c d : List Lit) (n : Lit) → IsIn (after c d) n → IsIn c n ⊎ IsIn d n
+pub after_among : (c d : List Lit) (n : Lit) → IsIn (after c d) n → IsIn c n ⊎ IsIn d n
 after_among c [] n h = inl h
 after_among c (l ∷ d) n h = elim (after_among (set_lit l c) d n h) [
   | inl k ↦ elim (among_set l c n k) [ inl w ↦ inl w | inr e ↦ inr (inl e) ]

@@ -4,5 +4,6 @@ pub mod MakesLaws
 pub mod NameLaws
 pub mod NormalLaws
 pub mod OrderLaws
+pub mod PathLaws
 pub mod SplitLaws
 pub mod StripLaws

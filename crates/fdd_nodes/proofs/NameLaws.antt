@@ -323,7 +323,7 @@ named_lists : (cs : List (List Lit)) (m : Lit) → IsIn (literals_of cs) m → I
 named_lists [] m h = absurd h
 named_lists (c ∷ cs) m h = elim (in-either c (literals_of cs) m h) [ inl k ↦ inl k | inr k ↦ inr (named_lists cs m k) ]
 
-named : (t : Tree) (m : Lit) → IsIn (literals t) m → Tests t m ⊎ Assigns t m
+pub named : (t : Tree) (m : Lit) → IsIn (literals t) m → Tests t m ⊎ Assigns t m
 named (Leaf cs) m h = inr (named_lists cs m h)
 named (Node l t e) m (inl k) = inl (inl k)
 named (Node l t e) m (inr h) = elim (in-either (literals t) (literals e) m h) [

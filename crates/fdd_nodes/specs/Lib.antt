@@ -5,6 +5,7 @@ pub mod Known
 pub mod Makes
 pub mod Names
 pub mod Normals
+pub mod Paths
 pub mod Proofs
 pub mod Roots
 pub mod Trees

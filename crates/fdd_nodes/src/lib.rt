@@ -8,6 +8,7 @@ pub mod fdd;
 pub mod leaf;
 pub mod node;
 pub mod normal;
+pub mod path;
 
 pub use apart::parting;
 pub use assignments::Assignments;
@@ -15,3 +16,7 @@ pub use cell::{Cell, Known};
 pub use fdd::Fdd;
 pub use leaf::Leaf;
 pub use node::Node;
+pub use path::Path;
+
+#[cfg(test)]
+mod tests;

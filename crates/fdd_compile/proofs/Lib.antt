@@ -1,0 +1,3 @@
+pub mod BreachLaws
+pub mod FoldLaws
+pub mod GuardLaws

@@ -1,0 +1,5 @@
+pub mod Breaches
+pub mod Faults
+pub mod Folds
+pub mod Guarded
+pub mod Leftmost

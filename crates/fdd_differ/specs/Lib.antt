@@ -1,0 +1,4 @@
+pub mod Differ
+pub mod Frames
+pub mod Unnamed
+pub mod Witness

@@ -1,0 +1,9 @@
+pub mod BuildLaws
+pub mod ChainLaws
+pub mod ChoiceLaws
+pub mod CofactorLaws
+pub mod PushLaws
+pub mod SequenceLaws
+pub mod UnionLaws
+pub mod NegationLaws
+pub mod OperationLaws

@@ -1,0 +1,9 @@
+pub mod Builds
+pub mod Built
+pub mod Chains
+pub mod Choices
+pub mod Cofactors
+pub mod Negations
+pub mod Operations
+pub mod Sequences
+pub mod Unions

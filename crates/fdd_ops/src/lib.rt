@@ -1,0 +1,16 @@
+// Operations on diagrams: literals, union, sequence, negation and cofactor (ICFP 2015, section 3).
+#![tactic(auto)]
+
+mod chain;
+mod choices;
+mod cofactors;
+mod leaves;
+mod negations;
+pub mod ops;
+mod sequences;
+mod unions;
+
+pub use ops::{assign, cofactor, negate, one, sequence, test, union, zero};
+
+#[cfg(test)]
+mod tests;

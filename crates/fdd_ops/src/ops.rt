@@ -1,0 +1,87 @@
+// The operations on diagrams. Each result is normal, and names only literals that its arguments name.
+ghost use Rattle.std.specs.Prelude.{IfOk};
+ghost use Rattle.fdd_nodes.specs.Fdds.{tree_of};
+ghost use Rattle.fdd_nodes.specs.Names.{AreFew};
+ghost use Rattle.fdd_ops.specs.Negations.{IsPredicate};
+ghost use Rattle.fdd_ops.specs.Operations.{OneOf, ZeroOf, TestOf, AssignmentOf, UnionOf, SequenceOf, NegationOf, CofactorOf};
+
+use crate::cofactors::cofactor_of;
+use crate::negations::negate_in;
+use crate::sequences::sequence_of;
+use crate::unions::union_in;
+use fdd_nodes::{Assignments, Cell, Fdd, Leaf, Node};
+use nk_values::Lit;
+use std::alloc::{AllocError, Global};
+
+/// The diagram that keeps every packet.
+pub fn one(alloc: Global) -> Result<Fdd, AllocError>
+    ensures { IfOk result (λ r. OneOf (tree_of r)) }
+{
+    let leaf = Leaf::of(alloc, Assignments::none(alloc))?;
+    Ok(Fdd::new(Node::Leaf(leaf)))
+}
+
+/// The diagram that keeps no packet.
+pub fn zero(alloc: Global) -> Fdd
+    ensures { ZeroOf (tree_of result) }
+{
+    Fdd::new(Node::Leaf(Leaf::empty(alloc)))
+}
+
+/// The diagram of the test `f=n`: it keeps the packets that hold the literal.
+pub fn test(alloc: Global, l: Lit) -> Result<Fdd, AllocError>
+    ensures { IfOk result (λ r. TestOf l (tree_of r)) }
+{
+    let keeps = Leaf::of(alloc, Assignments::none(alloc))?;
+    let yes = Box::new(alloc, Node::Leaf(keeps))?;
+    let no = Box::new(alloc, Node::Leaf(Leaf::empty(alloc)))?;
+    Ok(Fdd::new(Node::Test(l, yes, no)))
+}
+
+/// The diagram of the assignment `f:=n`.
+pub fn assign(alloc: Global, l: Lit) -> Result<Fdd, AllocError>
+    ensures { IfOk result (λ r. AssignmentOf l (tree_of r)) }
+{
+    let copy = Assignments::one(alloc, l)?;
+    let leaf = Leaf::of(alloc, copy)?;
+    Ok(Fdd::new(Node::Leaf(leaf)))
+}
+
+/// The union `a + b`.
+pub fn union(alloc: Global, a: &Fdd, b: &Fdd) -> Result<Fdd, AllocError>
+    requires { AreFew (tree_of a.now) (tree_of b.now) }
+    ensures { IfOk result (λ r. UnionOf (tree_of a.now) (tree_of b.now) (tree_of r)) }
+{
+    let chain = union_in(alloc, &Cell::open(), a.root(), b.root())?;
+    let root = chain.close(alloc)?;
+    Ok(Fdd::new(root))
+}
+
+/// The sequence `a; b`.
+pub fn sequence(alloc: Global, a: &Fdd, b: &Fdd) -> Result<Fdd, AllocError>
+    requires { AreFew (tree_of a.now) (tree_of b.now) }
+    ensures { IfOk result (λ r. SequenceOf (tree_of a.now) (tree_of b.now) (tree_of r)) }
+{
+    let chain = sequence_of(alloc, a.root(), b.root())?;
+    let root = chain.close(alloc)?;
+    Ok(Fdd::new(root))
+}
+
+/// The negation `not a` of a diagram that keeps packets or drops them.
+pub fn negate(alloc: Global, a: &Fdd) -> Result<Fdd, AllocError>
+    requires { IsPredicate (tree_of a.now) }
+    ensures { IfOk result (λ r. NegationOf (tree_of a.now) (tree_of r)) }
+{
+    let chain = negate_in(alloc, &Cell::open(), a.root())?;
+    let root = chain.close(alloc)?;
+    Ok(Fdd::new(root))
+}
+
+/// The diagram where a literal holds.
+pub fn cofactor(alloc: Global, a: &Fdd, l: Lit) -> Result<Fdd, AllocError>
+    ensures { IfOk result (λ r. CofactorOf l (tree_of a.now) (tree_of r)) }
+{
+    let chain = cofactor_of(alloc, a.root(), &l)?;
+    let root = chain.close(alloc)?;
+    Ok(Fdd::new(root))
+}
