@@ -88,8 +88,8 @@ impl Table {
     }
 
     /// A row that hits a packet, and that no row that hits outranks; `None` exactly where no row
-    /// hits. A row that leaves nothing open outranks all others, else the greater priority does
-    /// (OpenFlow 1.0.0, 3.4); of equal ones it is one or the other.
+    /// hits. A row that leaves nothing open outranks every row that does not, else the greater
+    /// priority does (OpenFlow 1.0.0, 3.4); of equal ones it is one or the other.
     pub fn look_up(&self, port: u16, header: &Header, tag: Tag) -> Option<&Row>
         ensures { FoundIn self.now.rows (record { port = port; header = header.now; tag = tag }) (option_map (λ r. r.now) result) }
     {

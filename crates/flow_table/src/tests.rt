@@ -361,5 +361,7 @@ fn exact_rows_outrank(rt: HostRuntime) -> Result<(), Fail> {
     table.change(rt.alloc(), &added(rt.alloc(), Pattern::any(), 65535, 2)?)?;
     table.change(rt.alloc(), &added(rt.alloc(), exact, 1, 3)?)?;
     assert_eq!(rt; met(&table), Some(Action::Output(3)));
+    table.change(rt.alloc(), &added(rt.alloc(), exact, 2, 4)?)?;
+    assert_eq!(rt; met(&table), Some(Action::Output(4)));
     Ok(())
 }

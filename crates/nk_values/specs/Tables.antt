@@ -1,5 +1,5 @@
 -- Flow tables: sets of rows, of which the highest that hits acts.
-use Rattle.std.specs.Prelude.{◌≡◌, ◌⊎◌, ℕ, ◌<◌, ◌≤◌, true, List, [], ◌∷◌, length, Option, Some, None, if◌then◌else◌}
+use Rattle.std.specs.Prelude.{◌≡◌, ◌⊎◌, ℕ, ◌+◌, ◌<◌, ◌≤◌, true, List, [], ◌∷◌, length, Option, Some, None, if◌then◌else◌}
 use Rattle.nk_values.specs.declared.pattern.Pattern.{Pattern}
 use Rattle.nk_values.specs.declared.row.Row.{Row}
 use Rattle.nk_values.specs.declared.row.Command.{Command}
@@ -10,9 +10,9 @@ use Rattle.nk_values.specs.Members.{IsIn}
 use Rattle.nk_values.specs.Patterns.{Incoming, hits, is_exact}
 use Rattle.nk_values.specs.Acts.{acted}
 
--- A row that leaves nothing open outranks every other one; else the greater priority does.
+-- A row that leaves nothing open outranks every row that does not; else the greater priority does. (Priorities are below 65536.)
 abbrev pub rank : Row → ℕ
-rank r = if is_exact r.pattern then 65536 else r.priority
+rank r = if is_exact r.pattern then 65536 + r.priority else r.priority
 
 -- no row hits
 abbrev pub NoHit : List Row → Incoming → Type 0

@@ -22,13 +22,13 @@ impl Row {
         same_pattern(&self.pattern, pattern) && self.priority == priority
     }
 
-    /// The greater it is, the more the row counts: the priority, and 65536 for a row that leaves
-    /// nothing open.
+    /// The greater it is, the more the row counts: the priority, and 65536 more for a row that leaves
+    /// nothing open (OpenFlow 1.0.0, 3.4).
     pub fn rank(&self) -> u32
         ensures { result ≡ rank self.now }
     {
         if self.pattern.is_exact() {
-            65536
+            65536 + u32::from(self.priority)
         } else {
             u32::from(self.priority)
         }
