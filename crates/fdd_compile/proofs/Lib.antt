@@ -1,3 +1,7 @@
 pub mod BreachLaws
+pub mod FilterLaws
 pub mod FoldLaws
 pub mod GuardLaws
+pub mod NamedLaws
+pub mod RowLaws
+pub mod Weights
