@@ -14,6 +14,6 @@ pairwise_more R (y ∷ xs) (u ∷ ts) x t h k = (h.0, pairwise_more R xs ts x t 
 pub pairwise_push : {X Y Z : Type 0} (R : Y → Tree → Type 0) (g : X → Y) (tree : Z → Tree) (items : List X) (i : ℕ) (x : X) (old new : List Z) (v : Z) → i < length items → x ≡ get_or items i x → new ≡ old ++ v ∷ [] → Pairwise R (map g (take i items)) (map tree old) → R (g x) (tree v) → Pairwise R (map g (take (i + 1) items)) (map tree new)
 pairwise_push {X} {Y} {Z} R g tree items i x old new v h ex en p r =
     let et : map g (take (i + 1) items) ≡ map g (take i items) ++ g x ∷ [] =
-        ap (map g) (take_more items i x h ∙ ap (λ (y : X). take i items ++ y ∷ []) (sym ex)) ∙ map-append g (take i items) (x ∷ []) in
+    ap (map g) (take_more items i x h ∙ ap (λ (y : X). take i items ++ y ∷ []) (sym ex)) ∙ map-append g (take i items) (x ∷ []) in
     let en' : map tree new ≡ map tree old ++ tree v ∷ [] = ap (map tree) en ∙ map-append tree old (v ∷ []) in
     subst (λ (ys : List Y). Pairwise R ys (map tree new)) (sym et) (subst (λ (ts : List Tree). Pairwise R (map g (take i items) ++ g x ∷ []) ts) (sym en') (pairwise_more R (map g (take i items)) (map tree old) (g x) (tree v) p r))

@@ -5,3 +5,4 @@ pub mod Folds
 pub mod Guarded
 pub mod Leftmost
 pub mod Named
+pub mod Results
