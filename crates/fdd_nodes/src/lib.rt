@@ -17,3 +17,6 @@ pub use fdd::Fdd;
 pub use leaf::Leaf;
 pub use node::Node;
 pub use path::Path;
+
+#[cfg(test)]
+mod tests;

@@ -12,7 +12,7 @@ use Rattle.fdd_nodes.specs.Trees.{Tree, Leaf, Node, leaf_at, outcomes, answers, 
 use Rattle.fdd_nodes.specs.Cells.{free, Agrees}
 use Rattle.fdd_nodes.specs.Known.{Bars}
 use Rattle.fdd_ops.specs.Builds.{NodeOf}
-use Rattle.fdd_ops.specs.Negations.{IsPredicate, IsOther, Negates}
+use Rattle.fdd_ops.specs.Negations.{IsPredicate, AssignsNone, IsOther, Negates}
 use Rattle.fdd_nodes.proofs.SplitLaws.{ordered_weaken, leaf_at-then, leaf_at-else}
 use Rattle.fdd_nodes.proofs.CellLaws.{holds_fixed, agrees_with}
 use Rattle.fdd_ops.proofs.BuildLaws.{same_leaf, node_then, node_else, node_ordered, sound_node, sound_weaken, sound_leaf}
@@ -25,20 +25,25 @@ keeps_leaf c ds e = subst (λ (x : List (List Lit)). Negates c (Leaf []) (Leaf x
   sound = sound_leaf c _ _ ([] ∷ []) (λ m k. elim k [ inl w ↦ absurd w | inr w ↦ absurd w ]);
 })
 
-drops_leaf : (c : Packet) (cs ds : List (List Lit)) → cs ≡ [] ∷ [] → ds ≡ [] → Negates c (Leaf cs) (Leaf ds)
-drops_leaf c cs ds d e =
-    subst (λ (x : List (List Lit)). Negates c (Leaf x) (Leaf ds)) (sym d)
-    (subst (λ (x : List (List Lit)). Negates c (Leaf ([] ∷ [])) (Leaf x)) (sym e) (record {
-      keeps = λ p g h. absurd (h (inl refl));
-      only = λ p q g h. absurd h;
-      ordered = λ k o. tt;
-      sound = sound_leaf c _ _ [] (λ m k. absurd k);
-    }))
+no_copy : (c : List Lit) (cs : List (List Lit)) (p : Packet) → IsPredicate (Leaf (c ∷ cs)) → IsIn (outcomes (c ∷ cs) p) p
+no_copy [] cs p h = inl refl
+no_copy (l ∷ c) cs p h = absurd (h l (inl (inl refl)))
+
+drops_leaf : (c : Packet) (x : List Lit) (cs ds : List (List Lit)) → IsPredicate (Leaf (x ∷ cs)) → ds ≡ [] → Negates c (Leaf (x ∷ cs)) (Leaf ds)
+drops_leaf c x cs ds d e = subst (λ (y : List (List Lit)). Negates c (Leaf (x ∷ cs)) (Leaf y)) (sym e) (record {
+  keeps = λ p g h. absurd (h (no_copy x cs p d));
+  only = λ p q g h. absurd h;
+  ordered = λ k o. tt;
+  sound = sound_leaf c _ _ [] (λ m k. absurd k);
+})
 
 pub negates_leaf : (c : Packet) (cs ds : List (List Lit)) → IsPredicate (Leaf cs) → IsOther cs ds → Negates c (Leaf cs) (Leaf ds)
 negates_leaf c [] ds p e = keeps_leaf c ds e
-negates_leaf c (x ∷ cs) ds (inl w) e = absurd (let k : x ∷ cs ≡ [] = w in cc)
-negates_leaf c (x ∷ cs) ds (inr w) e = drops_leaf c (x ∷ cs) ds w e
+negates_leaf c (x ∷ cs) ds p e = drops_leaf c x cs ds p e
+
+pub leaf_by_leaf : (t : Tree) → IsPredicate t → AssignsNone t
+leaf_by_leaf (Leaf cs) h = h
+leaf_by_leaf (Node l t e) h = (leaf_by_leaf t (λ m k. h m (inl k)), leaf_by_leaf e (λ m k. h m (inr k)))
 
 -- by other leaves that lie on the packet's path
 negates_at : (a a' r r' : Tree) (p : Packet) → leaf_at a p ≡ leaf_at a' p → SameAnswers (answers r p) (answers r' p) → (¬ IsIn (answers a' p) p → IsIn (answers r' p) p) → ¬ IsIn (answers a p) p → IsIn (answers r p) p

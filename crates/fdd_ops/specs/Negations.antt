@@ -3,14 +3,18 @@ use Rattle.std.specs.Prelude.{◌≡◌, ℕ, ◌⊎◌, List, [], ◌∷◌}
 use Rattle.nk_values.specs.declared.packet.Packet.{Packet}
 use Rattle.nk_values.specs.declared.lit.Lit.{Lit}
 use Rattle.nk_values.specs.Members.{IsIn}
-use Rattle.fdd_nodes.specs.Trees.{Tree, Leaf, Node, answers, IsOrderedFrom, Tests, Assigns}
+use Rattle.fdd_nodes.specs.Trees.{Tree, Leaf, Node, answers, IsOrderedFrom, Tests, IsSetBy, Assigns}
 use Rattle.fdd_nodes.specs.Cells.{Agrees}
 use Rattle.fdd_ops.specs.Builds.{Sound}
 
--- each leaf has no copy, or the one that changes nothing
+-- no leaf assigns: each one drops a packet, or keeps it as it is
 abbrev pub IsPredicate : Tree → Type 0
-IsPredicate (Leaf cs) = (cs ≡ []) ⊎ (cs ≡ [] ∷ [])
-IsPredicate (Node l t e) = IsPredicate t × IsPredicate e
+IsPredicate t = (m : Lit) → ¬ Assigns t m
+
+-- the same, leaf by leaf
+abbrev pub AssignsNone : Tree → Type 0
+AssignsNone (Leaf cs) = (m : Lit) → ¬ IsSetBy cs m
+AssignsNone (Node l t e) = AssignsNone t × AssignsNone e
 
 -- the copy that changes nothing in place of none, and none in place of any
 abbrev pub IsOther : List (List Lit) → List (List Lit) → Type 0

@@ -11,3 +11,6 @@ mod sequences;
 mod unions;
 
 pub use ops::{assign, cofactor, negate, one, sequence, test, union, zero};
+
+#[cfg(test)]
+mod tests;

@@ -2,7 +2,7 @@
 ghost use Rattle.std.specs.Prelude.{◌≡◌, IfOk};
 ghost use Rattle.fdd_nodes.specs.Trees.{tree};
 ghost use Rattle.fdd_ops.specs.Built.{built};
-ghost use Rattle.fdd_ops.specs.Negations.{IsPredicate, Negates, IsOther};
+ghost use Rattle.fdd_ops.specs.Negations.{AssignsNone, IsOther, Negates};
 
 use crate::chain::Chain;
 use fdd_nodes::{Assignments, Cell, Known, Leaf, Node};
@@ -10,7 +10,7 @@ use std::alloc::{AllocError, Global};
 
 /// The packets of a cell that a diagram drops.
 pub(crate) fn negate_in(alloc: Global, cell: &Cell, a: &Node) -> Result<Chain, AllocError>
-    requires { IsPredicate (tree a.now) }
+    requires { AssignsNone (tree a.now) }
     ensures { IfOk result (λ r. Negates cell.now (tree a.now) (built r)) }
 {
     match a {

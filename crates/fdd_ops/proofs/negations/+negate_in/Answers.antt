@@ -2,13 +2,17 @@ use Rattle.std.proofs.Common.{◌≡◌, refl, sym, subst, ap}
 use Rattle.nk_values.specs.declared.packet.Packet.{Packet}
 use Rattle.fdd_nodes.specs.Trees.{Tree, tree}
 use Rattle.fdd_nodes.proofs.MakesLaws.{if_ok}
-use Rattle.fdd_ops.specs.Negations.{Negates}
-use Rattle.fdd_ops.proofs.NegationLaws.{negates_split, negates_then, negates_else}
+use Rattle.fdd_ops.specs.Negations.{AssignsNone, Negates}
+use Rattle.fdd_ops.proofs.NegationLaws.{negates_leaf, negates_split, negates_then, negates_else}
 use Rattle.fdd_ops.proofs.negations.+negate_in.Goals as goal
 
 -- the same under other names
 named : (c c' : Packet) (a a' r r' : Tree) → c ≡ c' → a ≡ a' → r ≡ r' → Negates c a r → Negates c' a' r'
 named c c' a a' r r' e f g h = subst (λ (x : Packet). Negates x a' r') e (subst (λ (x : Tree). Negates c x r') f (subst (λ (x : Tree). Negates c a x) g h))
+
+pub returns-in_ok-other-in-Leaf : goal.returns-in_ok-other-in-Leaf
+returns-in_ok-other-in-Leaf t c =
+    named _ _ _ _ _ _ refl (sym (ap tree c.in-Leaf.is)) (sym c.leaf.ensures) (negates_leaf _ _ _ (subst AssignsNone (ap tree c.in-Leaf.is) c.requires) c.in_ok-other-in-Leaf.ensures)
 
 pub returns-in_ok-no-in-Open : goal.returns-in_ok-no-in-Open
 returns-in_ok-no-in-Open t c =

@@ -2,7 +2,8 @@ use Rattle.std.proofs.Common.{◌≡◌, sym, subst}
 use Rattle.nk_values.specs.declared.packet.Packet.{Packet}
 use Rattle.fdd_nodes.specs.Fdds.{tree_of}
 use Rattle.fdd_nodes.specs.Trees.{Tree}
-use Rattle.fdd_ops.specs.Negations.{Negates}
+use Rattle.fdd_ops.specs.Negations.{AssignsNone, Negates}
+use Rattle.fdd_ops.proofs.NegationLaws.{leaf_by_leaf}
 use Rattle.fdd_ops.specs.Operations.{NegationOf}
 use Rattle.fdd_ops.proofs.OperationLaws.{negation_of, few_of_one}
 use Rattle.fdd_ops.proofs.ops.negate.Goals as goal
@@ -20,3 +21,6 @@ pub returns : goal.returns
 returns c =
     let j = renamed _ _ _ _ _ _ c.«open».ensures c.root.ensures (sym c.in_ok-root.ensures) c.in_ok-chain.ensures in
     subst (λ (x : Tree). NegationOf (tree_of c.args.a.now) x) (sym c.new.ensures) (negation_of _ _ c.args.a.now.ordered c.args.a.now.few j)
+
+pub negate_in-requires : goal.negate_in-requires
+negate_in-requires c = subst AssignsNone (sym c.root.ensures) (leaf_by_leaf (tree_of c.args.a.now) c.requires)
