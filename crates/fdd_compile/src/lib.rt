@@ -2,6 +2,7 @@
 #![tactic(auto)]
 
 pub mod fault;
+pub mod filters;
 pub mod folds;
 pub mod guarded;
 pub mod leftmost;
