@@ -1,38 +1,28 @@
 -- Rounds of a star, and what the last one shows.
-use Rattle.std.specs.Prelude.{IfOk, IsTrue, ◌↔◌}
-use Rattle.std.proofs.Common.{Result, Ok, Err, Option, Some, None, MatchOption, ◌≡◌, ◌≢◌, ℕ, zero, suc, ◌+◌, ◌-◌, ◌*◌, ◌<◌, ◌≤◌, ◌⊎◌, inl, inr, refl, ap, sym, ◌∙◌, subst, arith, Bool, true, false, cond, eqb, ltb, ◌||◌, List, [], ◌∷◌, ◌++◌, length, take, drop, get_or, add-one}
-use Rattle.std.proofs.lemmas.Bool.{eq-eqb, ne_eqb, eqb-true, eqb-false, false≢true}
-use Rattle.std.proofs.lemmas.Bool.Decides.{eqb_tells, nat_tests}
+use Rattle.std.proofs.Common.{◌≡◌, ℕ, zero, suc, ◌+◌, ◌<◌, ◌≤◌, inl, inr, refl, sym, subst, arith, List, [], ◌∷◌, ◌++◌, length, get_or, add-one}
+use Rattle.std.proofs.lemmas.Bool.Decides.{eqb_tells}
 use Rattle.nk_values.specs.declared.field.Field.{Field}
-use Rattle.nk_values.specs.declared.field.Field.TheVariants.{Sw, Pt, EthTyp, IpProto, EthSrc, EthDst, Ip4Src, Ip4Dst, TcpSrcPort, TcpDstPort}
 use Rattle.nk_values.specs.declared.packet.Packet.{Packet}
 use Rattle.nk_values.specs.declared.lit.Lit.{Lit}
-use Rattle.nk_values.specs.Held.{Holds, put}
+use Rattle.nk_values.specs.Held.{put}
 use Rattle.nk_values.specs.Lits.{lit_field, lit_value}
-use Rattle.nk_values.specs.Members.{IsIn, Within, SameMembers}
-use Rattle.nk_values.specs.Packets.{get, with_value, IsInRange}
-use Rattle.nk_values.specs.Ranges.{place, least_value, least_literal, greatest, IsValue, IsLiteralOf}
-use Rattle.nk_values.specs.Ranks.{step, rank, lit_eq, lit_cmp}
-use Rattle.nk_values.proofs.LitLaws.{lit_small, lit_is_value, rank_field, rank_value, same_lit, same_rank, lit_eq-Decides}
-use Rattle.nk_values.proofs.MemberLaws.{in-left, in-right, in-either}
-use Rattle.nk_values.proofs.PacketLaws.{get-with_same, get-with_other, same_packet, same_field, field_cases}
-use Rattle.fdd_nodes.specs.Trees.{Tree, Leaf, Node, leaf_at, apply, outcomes, answers, SameAnswers, IsOrderedFrom, IsOrdered, Tests, IsSetBy, Assigns}
-use Rattle.fdd_nodes.specs.Roots.{IsLeaf, HasRoot, IsFrom, IsAfter, IsFirst, then_part, else_part}
-use Rattle.fdd_nodes.specs.Copies.{IsCopyFrom, IsCopy, copy_cmp, assigned, strip, below, above, set_lit, after, Puts}
-use Rattle.fdd_nodes.specs.Makes.{made, Makes, MakesAll, IsFreeOf, AreFreeOf}
-use Rattle.fdd_nodes.specs.Cells.{free, open_cell, cell_of, Agrees, Alike, IsFresh, pick, fill, IsValid, Parts, Respects}
-use Rattle.fdd_nodes.specs.Known.{Bars}
-use Rattle.fdd_nodes.specs.Names.{literals_of, literals, has_lit, distinct, name_count, IsFew, AreFew, IsFreshFor}
-use Rattle.fdd_nodes.specs.Normals.{IsRedundant, IsTight, IsNormal, IsPast, TellsTight}
+use Rattle.nk_values.specs.Members.{IsIn, Within}
+use Rattle.nk_values.specs.Packets.{get, IsInRange}
+use Rattle.nk_values.specs.Ranges.{IsValue}
+use Rattle.nk_values.proofs.LitLaws.{lit_is_value}
+use Rattle.nk_values.proofs.MemberLaws.{in-either}
+use Rattle.nk_values.proofs.PacketLaws.{get-with_same, get-with_other, field_cases}
+use Rattle.fdd_nodes.specs.Trees.{Tree, leaf_at, apply, answers}
+use Rattle.fdd_nodes.specs.Cells.{open_cell, Alike}
+use Rattle.fdd_nodes.specs.Names.{literals, IsFew, AreFew}
 use Rattle.nk_values.specs.Members.{Within}
 use Rattle.fdd_nodes.proofs.MakesLaws.{source}
 use Rattle.fdd_nodes.proofs.CellLaws.{open_agrees}
 use Rattle.fdd_nodes.proofs.NameLaws.{count_within, named, tests_literal, assigns_literal}
-use Rattle.fdd_ops.specs.Sequences.{Through}
 use Rattle.fdd_ops.specs.Operations.{OneOf, UnionOf, SequenceOf}
 use Rattle.fdd_differ.specs.Differ.{AreAlike, Shows}
 use Rattle.fdd_star.specs.Rounds.{IsNamedBy, Rounds}
-use Rattle.fdd_star.specs.Stars.{Turns, AtMost, StarOf, IsDeep}
+use Rattle.fdd_star.specs.Stars.{Turns, StarOf, IsDeep}
 
 inside : (p t : Tree) → IsNamedBy p t → (m : Lit) → IsIn (literals t) m → IsIn (literals p) m
 inside p t h m k = elim (named t m k) [ inl x ↦ tests_literal p m (h.tests m x) | inr x ↦ assigns_literal p m (h.assigns m x) ]

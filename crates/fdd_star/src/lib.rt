@@ -6,3 +6,6 @@ pub mod rounds;
 
 pub use fault::{StarDeep, StarFault};
 pub use rounds::star;
+
+#[cfg(test)]
+mod tests;

@@ -1,8 +1,7 @@
-use Rattle.std.proofs.Common.{◌≡◌, ℕ, ◌+◌, ◌≤◌, Bool, true, false, cond, List, [], ◌∷◌, ◌++◌, length, sym, subst, ap, arith, length-append}
+use Rattle.std.proofs.Common.{◌≡◌, ℕ, ◌+◌, ◌≤◌, Bool, true, false, cond, List, [], ◌∷◌, ◌++◌, length, ap, arith, length-append}
 use Rattle.nk_values.specs.declared.lit.Lit.{Lit}
-use Rattle.fdd_nodes.specs.Fdds.{tree_of}
 use Rattle.fdd_nodes.specs.Names.{literals, has_lit, distinct, AreFew}
-use Rattle.fdd_nodes.specs.Trees.{Tree, tree}
+use Rattle.fdd_nodes.specs.Trees.{Tree}
 use Rattle.fdd_ops.proofs.tests.are_few.Goals as goal
 
 one_more : (b : Bool) (l : Lit) (ls ds : List Lit) → length ds ≤ length ls → length (cond b ds (l ∷ ds)) ≤ length (l ∷ ls)

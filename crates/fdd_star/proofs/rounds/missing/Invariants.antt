@@ -1,4 +1,4 @@
-use Rattle.std.proofs.Common.{◌≡◌, take}
+use Rattle.std.proofs.Common.{take}
 use Rattle.nk_values.specs.Members.{Within}
 use Rattle.fdd_star.proofs.rounds.missing.Given as goal
 

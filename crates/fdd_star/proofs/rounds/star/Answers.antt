@@ -1,11 +1,9 @@
-use Rattle.std.proofs.Common.{◌≡◌, ◌≤◌, ℕ, ◌+◌, List, Option, Some, None, sym, subst, refl, arith, ◌∙◌, ap}
+use Rattle.std.proofs.Common.{◌≡◌, ◌≤◌, ℕ, List, Option, Some, None, subst, arith, ◌∙◌}
 use Rattle.nk_values.specs.declared.packet.Packet.{Packet}
-use Rattle.nk_values.specs.Members.{IsIn, Within}
 use Rattle.fdd_nodes.specs.Cells.{open_cell, Alike}
 use Rattle.fdd_nodes.specs.Fdds.{tree_of}
-use Rattle.fdd_nodes.specs.Trees.{Tree, tree, answers}
+use Rattle.fdd_nodes.specs.Trees.{Tree}
 use Rattle.fdd_star.specs.Rounds.{Rounds, IsMissing}
-use Rattle.fdd_star.specs.Stars.{StarOf}
 use Rattle.fdd_star.proofs.StarLaws.{few_within, named_itself, last_named, rounds_more, star_of, alike_all, deep_of, some_missing}
 use Rattle.fdd_star.proofs.rounds.star.Goals as goal
 
