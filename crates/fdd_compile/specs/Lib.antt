@@ -1,8 +1,12 @@
 pub mod Breaches
+pub mod Builds
+pub mod Compiles
+pub mod Deep
 pub mod Faults
 pub mod Filters
 pub mod Folds
 pub mod Guarded
 pub mod Leftmost
 pub mod Named
+pub mod Places
 pub mod Results
