@@ -37,7 +37,11 @@ fn copies_left(copies: &[Assignments], room: usize) -> Option<usize>
 {
     let mut left = room;
     for c in copies {
-        left = left.checked_sub(c.lits().len())?;
+        let n = c.lits().len();
+        if left < n {
+            return None;
+        }
+        left -= n;
     }
     Some(left)
 }

@@ -1,0 +1,39 @@
+-- Finite repetition of a diagram.
+use Rattle.std.specs.Prelude.{◌≡◌, ℕ, zero, suc, ◌≤◌}
+use Rattle.nk_values.specs.declared.packet.Packet.{Packet}
+use Rattle.nk_values.specs.declared.lit.Lit.{Lit}
+use Rattle.nk_values.specs.Members.{IsIn}
+use Rattle.nk_values.specs.Packets.{IsInRange}
+use Rattle.fdd_nodes.specs.Trees.{Tree, answers, Tests, Assigns}
+use Rattle.fdd_nodes.specs.Normals.{IsNormal}
+use Rattle.fdd_star.specs.declared.fault.StarFault.{StarFault}
+use Rattle.fdd_star.specs.declared.fault.StarFault.TheVariants.{Memory, Deep}
+
+-- out is what p makes of a packet in exactly n turns
+abbrev pub Turns : Tree → ℕ → Packet → Packet → Type 0
+Turns p zero pk out = pk ≡ out
+Turns p (suc n) pk out = (q : Packet) × IsIn (answers p pk) q × Turns p n q out
+
+-- in at most n turns
+abbrev pub AtMost : Tree → ℕ → Packet → Packet → Type 0
+AtMost p n pk out = (k : ℕ) × (k ≤ n) × Turns p k pk out
+
+-- On each packet in range r answers what p makes of it in any number of turns, of which 512 do. r is normal, and names
+-- only what p names.
+pub record StarOf (p r : Tree) : Type 0 where
+  pub made : (pk out : Packet) → IsIn (answers r pk) out → AtMost p 512 pk out
+  pub all : (n : ℕ) (pk out : Packet) → IsInRange pk → Turns p n pk out → IsIn (answers r pk) out
+  pub normal : IsNormal r
+  pub tests : (m : Lit) → Tests r m → Tests p m
+  pub assigns : (m : Lit) → Assigns r m → Assigns p m
+
+-- p makes out of a packet in range in 513 turns, and not in 512
+pub record IsDeep (p : Tree) (pk out : Packet) : Type 0 where
+  pub in_range : IsInRange pk
+  pub made : AtMost p 513 pk out
+  pub late : ¬ AtMost p 512 pk out
+
+-- nothing is said of memory
+abbrev pub IsFaultOf : Tree → StarFault → Type 0
+IsFaultOf p Memory = Unit {0}
+IsFaultOf p (Deep d) = IsDeep p d.packet d.output
