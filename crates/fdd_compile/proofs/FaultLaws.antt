@@ -33,8 +33,11 @@ built_star p a r flat h s = record {
 }
 
 pub deep_star : (p : Term) (a : Tree) (pk q : Packet) → BuiltOf p a → IsDeep a pk q → IsFirstDeep (Star p) pk q
-deep_star p a pk q h d = inr (h.shallow, record {
-  in_range = d.in_range;
-  made = (d.made.0, d.made.1, repeated_of p a h.diagram d.made.0 pk q d.made.2);
-  late = λ t. d.late (t.0, t.1, turns_of p a h.diagram t.0 pk q d.in_range t.2);
-})
+deep_star p a pk q h d = inr (
+  h.shallow,
+  record {
+    in_range = d.in_range;
+    made = (d.made.0, d.made.1, repeated_of p a h.diagram d.made.0 pk q d.made.2);
+    late = λ t. d.late (t.0, t.1, turns_of p a h.diagram t.0 pk q d.in_range t.2);
+  },
+)

@@ -4,6 +4,7 @@ pub mod FilterLaws
 pub mod FoldLaws
 pub mod CompileLaws
 pub mod FaultLaws
+pub mod GainLaws
 pub mod GuardLaws
 pub mod NamedLaws
 pub mod ResultLaws

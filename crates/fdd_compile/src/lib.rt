@@ -9,8 +9,12 @@ pub mod folds;
 pub mod guarded;
 pub mod leftmost;
 mod literal;
+pub mod named;
+#[cfg(test)]
+mod tests;
 
 pub use compiled::{Compiled, compile};
 pub use fault::{CompileError, CompileFault};
 pub use guarded::unguarded;
 pub use leftmost::leftmost_fault;
+pub use named::names_few;
