@@ -53,3 +53,10 @@ pub record AreFewNamed (Names : Field → ℕ → Type 0) : Type 0 where
   pub names : List Lit
   pub bound : length names ≤ 2000
   pub all : (l : Lit) → Names (lit_field l) (lit_value l) → IsIn names l
+
+-- the policy tests or assigns it
+abbrev pub TermNames : Term → Field → ℕ → Type 0
+TermNames p f n = TermTests p f n ⊎ TermAssigns p f n
+
+abbrev pub TermsName : Terms → Field → ℕ → Type 0
+TermsName ps f n = TermsTest ps f n ⊎ TermsAssign ps f n
