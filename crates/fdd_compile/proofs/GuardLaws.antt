@@ -170,7 +170,7 @@ lacking k [] h = absurd h
 lacking k (l ∷ c) (inl w) = record { lit = l; among = inl refl; lacks = w }
 lacking k (l ∷ c) (inr w) = let r = lacking k c w in record { lit = r.lit; among = inr r.among; lacks = r.lacks }
 
-made_values : (c : List Lit) (p : Packet) → IsInRange p → IsInRange (apply c p)
+pub made_values : (c : List Lit) (p : Packet) → IsInRange p → IsInRange (apply c p)
 made_values c p r = λ f. elim (at_field c f p p) [
   | inl s ↦ subst (IsValue f) (sym s.at_p) (subst (λ (j : Field). IsValue j (lit_value s.lit)) s.field (lit_is_value s.lit))
   | inr s ↦ subst (IsValue f) (sym s.0) (r f)

@@ -1,3 +1,13 @@
 pub mod BreachLaws
+pub mod BuildLaws
+pub mod FilterLaws
 pub mod FoldLaws
+pub mod CompileLaws
+pub mod FaultLaws
+pub mod GainLaws
 pub mod GuardLaws
+pub mod NamedLaws
+pub mod ResultLaws
+pub mod RowLaws
+pub mod StarTermLaws
+pub mod Weights

@@ -1,5 +1,13 @@
 pub mod Breaches
+pub mod Builds
+pub mod Compiles
+pub mod Deep
 pub mod Faults
+pub mod Filters
 pub mod Folds
+pub mod Gains
 pub mod Guarded
 pub mod Leftmost
+pub mod Named
+pub mod Places
+pub mod Results

@@ -1,8 +1,7 @@
 -- Bytes joined by a sign.
-use Rattle.std.proofs.Common.{◌≡◌, ℕ, suc, zero, ◌+◌, ◌-◌, ◌*◌, ◌^◌, ◌<◌, ◌≤◌, ◌==◌, List, Option, Some, None, refl, sym, ◌∙◌, arith}
+use Rattle.std.proofs.Common.{◌≡◌, ℕ, suc, ◌+◌, ◌-◌, ◌*◌, ◌^◌, ◌<◌, ◌≤◌, ◌==◌, List, Option, Some, None, refl, sym, ◌∙◌, arith}
 use Rattle.std.proofs.Math.Pow.{pow_mono, pow-add}
 use Rattle.std.specs.List.{before_first, after_first}
-use Rattle.std.specs.Option.{option_map, option_and_then}
 use Rattle.netkat_parser.specs.declared.number.Part.{Part}
 use Rattle.netkat_parser.specs.Numbers.{joined, byte_form}
 

@@ -9,3 +9,8 @@ pub mod Rules
 pub mod Unique
 pub mod Suffixes
 pub mod Outcomes
+pub mod Rooms
+pub mod Decimals
+pub mod Back
+pub mod ReadBack
+pub mod PolLiterals

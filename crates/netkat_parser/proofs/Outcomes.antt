@@ -1,12 +1,12 @@
 -- A text is a policy or has a fault, never both, and its fault is one.
-use Rattle.std.proofs.Common.{◌≡◌, ℕ, List, [], ◌++◌, false, sym, ap, ◌∙◌, subst}
+use Rattle.std.proofs.Common.{◌≡◌, ℕ, List, ◌++◌, false, sym, ap, ◌∙◌, subst}
 use Rattle.std.proofs.lemmas.List.{append_cancel_right}
 use Rattle.nk_syntax.specs.Terms.{Term}
 use Rattle.netkat_parser.specs.declared.fault.Fault.{Fault}
 use Rattle.netkat_parser.specs.declared.fault.Place.{Place}
 use Rattle.netkat_parser.specs.declared.fault.ParseFault.{ParseFault}
 use Rattle.netkat_parser.specs.declared.sign.Sign.TheVariants.{End}
-use Rattle.netkat_parser.specs.Signs.{sign, ahead}
+use Rattle.netkat_parser.specs.Signs.{sign}
 use Rattle.netkat_parser.specs.Grammar.{Spot, Got, Read, Bad, ended_by, start, IsPolicy, IsText}
 use Rattle.netkat_parser.specs.Places.{place_behind, HasFault}
 use Rattle.netkat_parser.proofs.Unique.{reading-one}

@@ -1,5 +1,5 @@
 -- The grammar, rule by rule, as the parser goes by it.
-use Rattle.std.proofs.Common.{◌≡◌, ◌≢◌, ℕ, ◌+◌, ◌<◌, ◌⊎◌, Bool, true, false, List, [], ◌∷◌, ◌++◌, Ok, Err, Result, refl, sym, ap, subst, append_assoc}
+use Rattle.std.proofs.Common.{◌≡◌, ◌≢◌, ℕ, ◌+◌, Bool, true, false, List, [], ◌∷◌, ◌++◌, Ok, Err, Result, refl, sym, ap, subst, append_assoc}
 use Rattle.std.specs.Borrow.{Bor}
 use Rattle.nk_values.specs.declared.field.Field.{Field}
 use Rattle.nk_syntax.specs.Terms.{Term, Star}
@@ -10,9 +10,9 @@ use Rattle.netkat_parser.specs.declared.sign.Sign.TheVariants as to_sign
 use Rattle.netkat_parser.specs.declared.sign.Sign.TheVariants.{Plus, Semicolon, Close}
 use Rattle.netkat_parser.specs.declared.stop.Stop.{Stop}
 use Rattle.netkat_parser.specs.declared.stop.Stop.TheVariants as stop
-use Rattle.netkat_parser.specs.Signs.{sign, past}
-use Rattle.netkat_parser.specs.Grammar.{Spot, Got, Read, Bad, step, stray, strays, gathered, negated, sum_of, seq_of, closed_by, starred_by, Opens, EndsBefore, IsPolicy, AreSummands, IsSequence, AreFactors, IsUnary, IsAtom, IsLeaf, sum, last_summand, more_summands, sequence, last_factor, more_factors, negation, post, bracket, leaf}
-use Rattle.netkat_parser.specs.Answers.{Stops, Gives, spot, behind}
+use Rattle.netkat_parser.specs.Signs.{sign}
+use Rattle.netkat_parser.specs.Grammar.{Spot, Got, Read, Bad, step, strays, gathered, sum_of, seq_of, closed_by, starred_by, Opens, IsPolicy, AreSummands, IsSequence, AreFactors, IsUnary, IsAtom, sum, last_summand, more_summands, sequence, last_factor, more_factors, post, bracket}
+use Rattle.netkat_parser.specs.Answers.{Stops, Gives, behind}
 
 stopped : {B : Type 0} (Q R : Got B → Type 0) (e : Stop) → ((o : Got B) → Q o → R o) → Stops Q e → Stops R e
 stopped Q R (stop.Fault f at) rule h = rule (Bad f at.now) h

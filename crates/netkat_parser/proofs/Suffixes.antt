@@ -1,8 +1,7 @@
 -- What reading leaves is the end of its text.
-use Rattle.std.proofs.Common.{◌≡◌, ℕ, ◌+◌, ◌-◌, ◌≤◌, ◌⊎◌, inl, inr, Bool, true, false, cond, not, ◌==◌, List, [], ◌∷◌, ◌++◌, length, take, drop, Option, Some, None, refl, sym, ap, ◌∙◌, subst, append_assoc, length-append, arith}
+use Rattle.std.proofs.Common.{◌≡◌, ℕ, ◌+◌, ◌-◌, ◌≤◌, inl, inr, Bool, true, false, cond, not, ◌==◌, List, [], ◌∷◌, ◌++◌, length, take, drop, Option, Some, None, refl, sym, ap, ◌∙◌, subst, append_assoc, length-append, arith}
 use Rattle.std.proofs.lemmas.List.{take-append-drop, take_at}
 use Rattle.nk_values.specs.declared.field.Field.{Field}
-use Rattle.nk_values.specs.Ranges.{IsLiteralOf}
 use Rattle.nk_syntax.specs.Terms.{Term, Filter, Test, Assign}
 use Rattle.netkat_parser.specs.declared.fault.Fault as fault_type
 use Rattle.netkat_parser.specs.declared.sign.Sign.{Sign}
@@ -11,7 +10,7 @@ use Rattle.netkat_parser.specs.declared.sign.Sign.TheVariants.{Dup, Name, Equals
 use Rattle.netkat_parser.specs.Signs.{sign, past, run, past_run, ahead, is_blank, sign_len, is_run_byte}
 use Rattle.std.specs.List.{prefix_len}
 use Rattle.netkat_parser.specs.Numbers.{number}
-use Rattle.netkat_parser.specs.Grammar.{Spot, Got, Read, Bad, step, gathered, negated, sum_of, seq_of, closed, closed_by, starred, starred_by, ended, ended_by, start, literal, is_too_many, with_pair, IsNumber, IsRun, IsPair, IsLeaf, IsPolicy, AreSummands, IsSequence, AreFactors, IsUnary, IsAtom, IsReading, sum, last_summand, more_summands, sequence, last_factor, more_factors, negation, post, bracket, leaf}
+use Rattle.netkat_parser.specs.Grammar.{Spot, Got, Read, Bad, step, gathered, negated, sum_of, seq_of, closed, closed_by, starred, starred_by, ended, ended_by, start, literal, is_too_many, IsNumber, IsRun, IsPair, IsLeaf, IsPolicy, AreSummands, IsSequence, AreFactors, IsUnary, IsAtom, IsReading, sum, last_summand, more_summands, sequence, last_factor, more_factors, negation, post, bracket, leaf}
 
 pub record IsEnd (end text : List ℕ) : Type 0 where
   pub front : List ℕ

@@ -1,13 +1,13 @@
 -- A text has one outcome.
-use Rattle.std.proofs.Common.{◌≡◌, ◌≢◌, ℕ, ◌+◌, ◌⊎◌, inl, inr, Bool, true, false, List, [], ◌∷◌, Option, Some, None, refl, sym, ap, ◌∙◌, subst}
+use Rattle.std.proofs.Common.{◌≡◌, ℕ, ◌+◌, inl, inr, Bool, true, false, List, [], ◌∷◌, Option, Some, None, sym, ap, ◌∙◌, subst}
 use Rattle.nk_values.specs.declared.field.Field.{Field}
 use Rattle.nk_values.specs.Ranges.{IsLiteralOf}
 use Rattle.nk_syntax.specs.Terms.{Term, Filter, Test, Assign}
 use Rattle.netkat_parser.specs.declared.sign.Sign.{Sign}
-use Rattle.netkat_parser.specs.declared.sign.Sign.TheVariants.{Dup, Name, Equals, Becomes, Plus, Semicolon}
+use Rattle.netkat_parser.specs.declared.sign.Sign.TheVariants.{Name, Equals, Becomes, Plus, Semicolon}
 use Rattle.netkat_parser.specs.Signs.{sign, past, run}
 use Rattle.netkat_parser.specs.Numbers.{number}
-use Rattle.netkat_parser.specs.Grammar.{Spot, Got, Read, Bad, step, gathered, negated, sum_of, seq_of, closed, starred, ended, start, Where, EndsBefore, IsNumber, IsRun, IsPair, IsLeaf, IsPolicy, AreSummands, IsSequence, AreFactors, IsUnary, IsAtom, IsReading, IsText, sum, last_summand, more_summands, sequence, last_factor, more_factors, negation, post, bracket, leaf}
+use Rattle.netkat_parser.specs.Grammar.{Spot, Got, Read, step, gathered, negated, sum_of, seq_of, closed, starred, ended, start, Where, EndsBefore, IsNumber, IsRun, IsPair, IsLeaf, IsPolicy, AreSummands, IsSequence, AreFactors, IsUnary, IsAtom, IsReading, IsText, sum, last_summand, more_summands, sequence, last_factor, more_factors, negation, post, bracket, leaf}
 
 where-one : (P : Type 0) (o o' x y : Got Term) → Where P (o ≡ x) (o ≡ y) → Where P (o' ≡ x) (o' ≡ y) → o ≡ o'
 where-one P o o' x y (inl h) (inl h') = h.1 ∙ sym h'.1

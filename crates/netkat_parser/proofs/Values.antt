@@ -1,5 +1,5 @@
 -- The value behind `=` or `:=`.
-use Rattle.std.proofs.Common.{◌≡◌, ◌≢◌, ℕ, Bool, true, false, not, cond, ◌==◌, List, [], ◌∷◌, length, Some, inl, refl, sym, arith}
+use Rattle.std.proofs.Common.{◌≡◌, ◌≢◌, ℕ, Bool, true, false, not, cond, ◌==◌, List, [], ◌∷◌, length, Some, inl, refl, arith}
 use Rattle.std.proofs.lemmas.Bool.Decides.{nat_tests}
 use Rattle.nk_values.specs.declared.field.Field.{Field}
 use Rattle.nk_values.specs.Ranges.{IsLiteralOf}
@@ -11,12 +11,12 @@ use Rattle.netkat_parser.specs.Grammar.{Spot, Got, Read, Bad, literal, is_too_ma
 use Rattle.netkat_parser.specs.declared.sign.Sign.TheVariants.{Equals, Becomes}
 use Rattle.netkat_parser.specs.Answers.{spot}
 
-run-literal : (depth : ℕ) (f : Field) (make : ℕ → Term) (s : Spot) (r : List ℕ) (n : ℕ) (o : Got Term)
+pub run-literal : (depth : ℕ) (f : Field) (make : ℕ → Term) (s : Spot) (r : List ℕ) (n : ℕ) (o : Got Term)
     → length r ≢ 0 → number f r ≡ Some n → IsLiteralOf f n → o ≡ literal f make s n → IsRun depth f make s r o
 run-literal depth f make s [] n o some e l h = absurd (some refl)
 run-literal depth f make s (b ∷ bs) n o some e l h = rw e (inl (l, h))
 
-read-by : (f : Field) (make : ℕ → Term) (s : Spot) (n : ℕ) (b : Bool) → b ≡ false
+pub read-by : (f : Field) (make : ℕ → Term) (s : Spot) (n : ℕ) (b : Bool) → b ≡ false
     → Read (make n) (record { text = past_run s.text; named = with_pair s.named f n })
     ≡ cond b (Bad fault.TooManyValues s.text) (Read (make n) (record { text = past_run s.text; named = with_pair s.named f n }))
 read-by f make s n b e = rw e refl

@@ -1,9 +1,9 @@
 -- What the answers of the parser stand for.
-use Rattle.std.specs.Prelude.{◌≡◌, ⊤, ℕ, List, ◌++◌, Result, Ok, Err}
+use Rattle.std.specs.Prelude.{⊤, ℕ, List, ◌++◌, Result, Ok, Err}
 use Rattle.std.specs.Borrow.{Bor}
 use Rattle.nk_values.specs.declared.field.Field.{Field}
 use Rattle.nk_values.specs.declared.lit.Lit.{Lit}
-use Rattle.nk_values.specs.Lits.{lit_field, lit_value}
+use Rattle.nk_values.specs.Lits.{lit_value}
 use Rattle.nk_syntax.specs.Terms.{Term}
 use Rattle.netkat_parser.specs.declared.stop.Stop.{Stop}
 use Rattle.netkat_parser.specs.declared.stop.Stop.TheVariants.{Fault, Memory}

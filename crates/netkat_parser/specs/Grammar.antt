@@ -4,7 +4,7 @@
 --   unary    = "not" unary | post
 --   post     = atom [ "*" ]
 --   atom     = "skip" | "drop" | "dup" | field "=" value | field ":=" value | "(" policy ")"
-use Rattle.std.specs.Prelude.{◌≡◌, ◌≢◌, ◌⊎◌, ⊤, ℕ, ◌+◌, ◌<◌, ◌≤◌, nat_le, Bool, true, false, not, ◌==◌, ◌&&◌, ◌||◌, List, [], ◌∷◌, ◌++◌, length, count_by, Option, None, Some, if◌then◌else◌}
+use Rattle.std.specs.Prelude.{◌≡◌, ◌≢◌, ◌⊎◌, ⊤, ℕ, ◌+◌, ◌<◌, nat_le, Bool, true, false, not, ◌==◌, ◌&&◌, ◌||◌, List, [], ◌∷◌, ◌++◌, length, count_by, Option, None, Some, if◌then◌else◌}
 use Rattle.std.specs.List.{list_any}
 use Rattle.nk_values.specs.declared.field.Field.{Field}
 use Rattle.nk_values.specs.declared.field.Field.TheVariants.{IpProto}
@@ -30,6 +30,7 @@ pub data Got (A : Type 0) : Type 0 where
   Read : A → Spot → Got A
   Bad : Fault → List ℕ → Got A
 
+-- at the first sign of a text
 abbrev pub start : List ℕ → Spot
 start text = record { text = ahead false text; named = [] }
 
@@ -45,6 +46,7 @@ stray depth Open = if nat_le 200 depth then fault.TooDeep else fault.Unexpected
 stray depth to_sign.Not = if nat_le 200 depth then fault.TooDeep else fault.Unexpected
 stray depth _ = fault.Unexpected
 
+-- reading stops here, at a sign that has no place
 abbrev pub strays : {A : Type 0} → ℕ → Spot → Got A
 strays depth s = Bad (stray depth (sign s.text)) s.text
 
@@ -74,6 +76,7 @@ abbrev mutual
   all_taken no_terms = no_guards
   all_taken (term p ps) = guard (taken p) (all_taken ps)
 
+-- the filter of the predicate that a `not` makes of its operand
 abbrev pub negated : Term → Term
 negated p = Filter (to.Not (taken p))
 
@@ -84,22 +87,24 @@ Where P A B = (P × A) ⊎ ((P → ⊥) × B)
 abbrev pub is_pair : Field → ℕ → Field × ℕ → Bool
 is_pair f n pair = (place f == place pair.0) && (n == pair.1)
 
+-- the pair is among them
 abbrev pub is_named : List (Field × ℕ) → Field → ℕ → Bool
 is_named named f n = list_any (is_pair f n) named
 
--- how many values of ipProto are named
+-- how many pairs with ipProto are named
 abbrev pub protos : List (Field × ℕ) → ℕ
 protos named = count_by (λ pair. place pair.0 == place IpProto) named
 
--- a pair is the 2,001st, or one of the 101st value of ipProto
+-- a pair that is not named yet would be the 2,001st, or the 101st with ipProto
 abbrev pub is_too_many : List (Field × ℕ) → Field → ℕ → Bool
 is_too_many named f n =
     not (is_named named f n) && (nat_le 2000 (length named) || ((place f == place IpProto) && nat_le 100 (protos named)))
 
+-- the pairs with this one among them
 abbrev pub with_pair : List (Field × ℕ) → Field → ℕ → List (Field × ℕ)
 with_pair named f n = if is_named named f n then named else named ++ (f, n) ∷ []
 
--- a literal, which is one of the policy's values
+-- the outcome at a literal, which may be one too many
 abbrev pub literal : Field → (ℕ → Term) → Spot → ℕ → Got Term
 literal f make s n =
     if is_too_many s.named f n then Bad fault.TooManyValues s.text

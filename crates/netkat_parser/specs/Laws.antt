@@ -1,7 +1,11 @@
 -- Laws of the grammar.
 use Rattle.std.specs.Prelude.{◌≡◌, ℕ, List}
 use Rattle.nk_syntax.specs.Terms.{Term}
+use Rattle.nk_syntax.specs.Prints.{term_text}
 use Rattle.netkat_parser.specs.Grammar.{Got, IsReading, IsText}
+use Rattle.netkat_parser.specs.Printed.{HasLiterals, IsPrintable}
+use Rattle.nk_syntax.specs.declared.pol.Pol.{Pol}
+use Rattle.nk_syntax.specs.Views.{term_of}
 
 -- A text has one outcome: one policy, or one fault at one place.
 abbrev pub OneOutcome : Type 0
@@ -10,3 +14,11 @@ OneOutcome = (text : List ℕ) (o o' : Got Term) → IsReading text o → IsRead
 -- A text has at most one reading as a policy.
 abbrev pub OneReading : Type 0
 OneReading = (text : List ℕ) (p q : Term) → IsText text p → IsText text q → p ≡ q
+
+-- The text that is printed for a term within the limits, whose numbers are literals of their fields, is read as the term.
+abbrev pub ReadBack : Type 0
+ReadBack = (p : Term) → HasLiterals p → IsPrintable p → IsText (term_text p) p
+
+-- The numbers in a `Pol` are such literals, so the text of each policy within the limits is read as the policy.
+abbrev pub ReadBackPol : Type 0
+ReadBackPol = (pol : Pol) → IsPrintable (term_of pol) → IsText (term_text (term_of pol)) (term_of pol)

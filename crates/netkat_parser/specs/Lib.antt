@@ -1,7 +1,9 @@
 pub mod Answers
+pub mod Faults
 pub mod Grammar
 pub mod Laws
 pub mod Numbers
 pub mod Pairs
 pub mod Places
+pub mod Printed
 pub mod Signs

@@ -1,5 +1,5 @@
--- From bytes to signs: what stands between signs, marks, names, and the runs that values are read from.
-use Rattle.std.specs.Prelude.{◌≡◌, ℕ, zero, suc, Bool, true, false, not, ◌==◌, ◌&&◌, ◌||◌, List, [], ◌∷◌, drop, slice_index, codes, Option, None, Some, if◌then◌else◌}
+-- From bytes to signs, the tokens but for values: what stands between them, marks, names, and the runs that values are read from.
+use Rattle.std.specs.Prelude.{ℕ, Bool, true, false, not, ◌==◌, ◌&&◌, ◌||◌, List, [], ◌∷◌, drop, slice_index, codes, Option, None, Some, if◌then◌else◌}
 use Rattle.std.specs.List.{find, prefix_len, take_while}
 use Rattle.std.specs.Char.{is_ascii_alphabetic, is_ascii_alphanumeric}
 use Rattle.std.specs.Str.{bytes_eq}

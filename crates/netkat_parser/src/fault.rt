@@ -1,5 +1,5 @@
 // Why a text is no policy.
-use std::alloc::{AllocError, AllocFailed};
+ghost use Rattle.std.specs.Prelude.{◌≡◌};
 
 /// A fault of a policy's text.
 #[derive(Clone, Copy, Debug, PartialEq, Eq, Hash)]
@@ -18,6 +18,25 @@ pub enum Fault {
     TooDeep,
     /// The 2,001st pair of field and value, or the 101st value of ipProto.
     TooManyValues,
+}
+
+impl Fault {
+    ghost use Rattle.netkat_parser.specs.Faults.{number_of};
+
+    /// The number that the fault is told by, 1 to 7.
+    pub fn number(self) -> u8
+        ensures { result ≡ number_of self }
+    {
+        match self {
+            Fault::BadChar => 1,
+            Fault::Unexpected => 2,
+            Fault::UnknownName => 3,
+            Fault::ValueRange => 4,
+            Fault::NotPredicate => 5,
+            Fault::TooDeep => 6,
+            Fault::TooManyValues => 7,
+        }
+    }
 }
 
 /// A place in a text: its line and column, both from 1, the column in bytes.

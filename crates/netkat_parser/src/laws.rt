@@ -1,8 +1,16 @@
 // Laws of the grammar, as contracts.
-ghost use Rattle.netkat_parser.specs.Laws.{OneOutcome, OneReading};
+ghost use Rattle.netkat_parser.specs.Laws.{OneOutcome, OneReading, ReadBack, ReadBackPol};
 
 /// A text has one outcome: one policy, or one fault at one place. So it has at most one reading.
 pub fn one_reading()
     ensures outcome { OneOutcome }
     ensures reading { OneReading }
+{}
+
+/// The text that is printed for a policy is read as the policy, where lists have two or more
+/// members, filters hold `skip`, `drop`, a test or a `not`, the printed brackets and nots nest at
+/// most 200 deep, and at most 2,000 pairs of field and value are named, at most 100 with ipProto.
+pub fn read_back()
+    ensures term { ReadBack }
+    ensures policy { ReadBackPol }
 {}

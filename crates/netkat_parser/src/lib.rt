@@ -3,14 +3,14 @@
 
 pub mod fault;
 pub mod laws;
-pub mod leaf;
-pub mod named;
-pub mod number;
+mod leaf;
+mod named;
+mod number;
 pub mod parse;
-pub mod parser;
-pub mod sign;
-pub mod stop;
-pub mod taken;
+mod parser;
+mod sign;
+mod stop;
+mod taken;
 #[cfg(test)]
 mod tests;
 

@@ -18,7 +18,19 @@ use nk_syntax::Pol;
 use std::alloc::Global;
 
 /// Reads a whole text as a policy, or tells its first fault. Lines and columns count from 1,
-/// columns in bytes.
+/// columns in bytes. Blanks, tabs, CR, LF and comments, from `#` to the end of the line, may stand
+/// between tokens.
+///
+/// ```text
+/// policy   = sequence { "+" sequence }
+/// sequence = unary { ";" unary }
+/// unary    = "not" unary | atom [ "*" ]
+/// atom     = "skip" | "drop" | "dup" | field "=" value | field ":=" value | "(" policy ")"
+/// ```
+///
+/// A value is 1 to 20 decimal digits, or `0x` and 1 to 16 hexadecimal ones; for ethSrc and ethDst
+/// also six pairs of hexadecimal digits joined by `:`, for ip4Src and ip4Dst four numbers of 1 to
+/// 3 digits, each at most 255, joined by `.`.
 pub fn parse_policy(alloc: Global, text: &[u8]) -> Result<Pol, ParseError>
     ensures read { IfOk result (λ pol. IsText text.now (term_of pol)) }
     ensures fault { (f : Located) → result ≡ Err (ParseError.Fault f) → HasFault text_start text.now f }

@@ -1,5 +1,5 @@
 -- What is known of a line without a fault.
-use Rattle.std.proofs.Common.{◌≡◌, ℕ, ◌<◌, ◌≤◌, Bool, true, false, cond, not, nat_le, nat_lt, ◌&&◌, ◌||◌, List, [], ◌∷◌, length, refl, Option, Some, None, is_some, arith}
+use Rattle.std.proofs.Common.{◌≡◌, ℕ, ◌<◌, ◌≤◌, Bool, true, false, cond, not, nat_le, nat_lt, ◌&&◌, ◌||◌, List, length, refl, Option, Some, None, is_some, arith}
 use Rattle.std.proofs.lemmas.Bool.Decides.{nat_tests}
 use Rattle.topology_model.specs.Layouts.{Layout, place_of, has_switch, has_port, same_place, far_end}
 use Rattle.topology_model.specs.Lines.{line_fault, has_repeat}

@@ -9,7 +9,7 @@ use Rattle.topology_model.specs.Layouts.{Layout, place_of, both_ways, edges_of, 
 use Rattle.nk_syntax.specs.Terms as to
 use Rattle.nk_syntax.specs.Views.{term_of, terms_of, term_row}
 use Rattle.nk_syntax.specs.declared.pol.Pol.{Pol}
-use Rattle.nk_syntax.specs.declared.pol.Pols.{Pols, roll-Pols}
+use Rattle.nk_syntax.specs.declared.pol.Pols.{roll-Pols}
 use Rattle.nk_syntax.specs.declared.pol.Pol.TheVariants as pol
 use Rattle.nk_syntax.proofs.Equations.{term_of-sum, term_of-seq}
 

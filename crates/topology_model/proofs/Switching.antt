@@ -1,18 +1,18 @@
 -- One more switch.
-use Rattle.std.proofs.Common.{◌≡◌, ◌≢◌, ℕ, ◌+◌, ◌<◌, ◌≤◌, Bool, true, false, cond, ◌&&◌, ◌||◌, ◌==◌, ◌⊎◌, inl, inr, List, [], ◌∷◌, ◌++◌, length, map, refl, ap, sym, ◌∙◌, subst, Option, Some, None, option_map, is_some, length-append, arith}
+use Rattle.std.proofs.Common.{◌≡◌, ℕ, Bool, true, false, cond, ◌&&◌, ◌||◌, ◌==◌, ◌⊎◌, inl, inr, List, [], ◌∷◌, ◌++◌, length, map, refl, ap, sym, ◌∙◌, subst, Option, Some, None, option_map, is_some, length-append, arith}
 use Rattle.std.specs.List.{list_any, All}
 use Rattle.std.specs.Option.{option_flatten}
-use Rattle.std.proofs.lemmas.Bool.Decides.{Decides-eqb, nat_tests}
+use Rattle.std.proofs.lemmas.Bool.Decides.{Decides-eqb}
 use Rattle.std.proofs.lemmas.List.Elements.{All-head, All-tail}
 use Rattle.std.proofs.lemmas.List.Folds.{list_any-append}
-use Rattle.nk_values.specs.declared.field.Field.TheVariants.{Sw, Pt}
+use Rattle.nk_values.specs.declared.field.Field.TheVariants.{Pt}
 use Rattle.nk_values.specs.Members.{IsIn}
 use Rattle.nk_values.specs.Ranges.{IsValue}
-use Rattle.nk_values.proofs.MemberLaws.{in-left, in-right, in-either}
+use Rattle.nk_values.proofs.MemberLaws.{in-left, in-either}
 use Rattle.history_meaning.specs.Network.{Place}
 use Rattle.topology_model.specs.Layouts.{Layout, place_of, place_in, has_switch, has_port, far_end}
 use Rattle.topology_model.specs.Lines.{IsLineInRange, has_repeat}
-use Rattle.topology_model.specs.Wired.{NoRepeat, IsSite, IsDeclared, IsSound}
+use Rattle.topology_model.specs.Wired.{NoRepeat, IsSite, IsSound}
 use Rattle.topology_model.specs.declared.line.Site.{Site}
 use Rattle.topology_model.specs.declared.line.TopoLine.TheVariants.{Switch}
 use Rattle.topology_model.proofs.Positions.{position-other, position-new}

@@ -1,7 +1,7 @@
 -- Why lines are refused.
 use Rattle.std.specs.Prelude.{◌≡◌, ℕ, List, Option, Some, None}
 use Rattle.topology_model.specs.Layouts.{Layout}
-use Rattle.topology_model.specs.Lines.{line_fault, fault_from, IsFirstFault}
+use Rattle.topology_model.specs.Lines.{fault_from, IsFirstFault}
 use Rattle.topology_model.specs.declared.line.TopoLine.{TopoLine}
 use Rattle.topology_model.specs.declared.fault.LineError.{LineError}
 use Rattle.topology_model.specs.declared.fault.LineError.TheVariants as line

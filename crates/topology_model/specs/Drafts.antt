@@ -1,5 +1,5 @@
 -- What a draft keeps beside the lists that it shows.
-use Rattle.std.specs.Prelude.{◌≡◌, ℕ, nat_eq, List, [], ◌∷◌, is_some, option_map}
+use Rattle.std.specs.Prelude.{◌≡◌, ℕ, nat_eq, is_some, option_map}
 use Rattle.std.specs.Option.{option_flatten}
 use Rattle.std.specs.List.{flat_map}
 use Rattle.std.specs.HashMap.{get}

@@ -135,7 +135,8 @@ impl Topology {
         self.draft.has_port((sw, pt))
     }
 
-    /// The sum of `sw=a; pt=b; sw:=c; pt:=d` over both directions of each link.
+    /// The links as a policy: the sum of `sw=a; pt=b; sw:=c; pt:=d` over both directions of each link
+    /// (POPL 2014, section 2).
     pub fn link_term(&self, alloc: Global) -> Result<Pol, AllocError>
         ensures { IfOk result (λ p. term_of p ≡ link_term (wiring self.now)) }
     {

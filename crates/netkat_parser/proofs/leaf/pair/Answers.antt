@@ -1,5 +1,4 @@
-use Rattle.std.proofs.Common.{sym, ◌∙◌}
-use Rattle.nk_values.specs.Lits.{lit_field, lit_value}
+use Rattle.std.proofs.Common.{sym}
 use Rattle.nk_syntax.specs.Views.{term_of}
 use Rattle.nk_syntax.specs.Terms.{Filter, Test, Assign}
 use Rattle.nk_syntax.proofs.Equations.{term_of-filter, term_of-assign, guard_of-test}

@@ -1,8 +1,8 @@
-use Rattle.std.proofs.Common.{◌≡◌, sym, ◌∙◌, ◌+◌, true, map, arith}
+use Rattle.std.proofs.Common.{sym, ◌∙◌, ◌+◌, true, map, arith}
 use Rattle.std.proofs.lemmas.List.{map-append}
 use Rattle.nk_syntax.specs.Views.{term_of}
 use Rattle.nk_syntax.proofs.Equations.{term_of-filter, term_of-star, guard_of-not}
-use Rattle.netkat_parser.specs.Signs.{sign, past}
+use Rattle.netkat_parser.specs.Signs.{sign}
 use Rattle.netkat_parser.specs.Grammar.{IsPolicy, IsSequence, IsUnary, IsAtom, IsLeaf, Read, Bad, bracket, leaf, negation, post}
 use Rattle.netkat_parser.specs.Answers.{spot}
 use Rattle.netkat_parser.specs.Pairs.{pairs}

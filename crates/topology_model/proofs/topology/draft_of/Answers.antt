@@ -1,10 +1,7 @@
-use Rattle.std.proofs.Common.{◌∙◌, sym, ap, subst, below_more}
-use Rattle.nk_values.specs.Members.{IsIn}
+use Rattle.std.proofs.Common.{◌∙◌, sym, ap, below_more}
 use Rattle.topology_model.specs.Lines.{with_line}
 use Rattle.topology_model.specs.Layouts.{Layout}
-use Rattle.topology_model.specs.declared.line.TopoLine.{TopoLine}
 use Rattle.topology_model.proofs.Growth.{found, layout_next, fault_next, line_cause}
-use Rattle.topology_model.proofs.Ranges.{in-get_or}
 use Rattle.topology_model.proofs.topology.draft_of.Goals as goal
 
 pub returns-in-Err-clause-cause : goal.returns-in-Err-clause-cause

@@ -1,4 +1,4 @@
-use Rattle.std.proofs.Common.{◌==◌, sym, ap, ◌∙◌, is_some}
+use Rattle.std.proofs.Common.{◌==◌, ap, ◌∙◌, is_some}
 use Rattle.topology_model.proofs.Positions.{is_some-position}
 use Rattle.topology_model.proofs.draft.Draft.has_switch.Goals as goal
 

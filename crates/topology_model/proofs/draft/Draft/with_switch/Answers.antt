@@ -4,7 +4,7 @@ use Rattle.std.specs.List.{list_any}
 use Rattle.topology_model.specs.Drafts.{layout}
 use Rattle.topology_model.specs.Ends.{entry}
 use Rattle.topology_model.specs.Layouts.{Layout, place_of, place_in, has_port}
-use Rattle.topology_model.specs.Lines.{line_fault, IsLineInRange}
+use Rattle.topology_model.specs.Lines.{line_fault}
 use Rattle.topology_model.specs.Wired.{IsSound}
 use Rattle.topology_model.specs.declared.line.Site.{Site}
 use Rattle.topology_model.specs.declared.line.TopoLine.TheVariants.{Switch}

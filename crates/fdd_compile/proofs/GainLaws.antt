@@ -1,0 +1,70 @@
+-- How lists gain what policies name.
+use Rattle.std.proofs.Common.{◌≡◌, ℕ, ◌+◌, ◌<◌, ◌≤◌, ◌⊎◌, inl, inr, ap, sym, ◌∙◌, subst, List, [], ◌∷◌, ◌++◌, length, map, drop, get_or, refl, Box}
+use Rattle.std.specs.declared.alloc.Global.{Global}
+use Rattle.std.proofs.lemmas.List.{drop_more}
+use Rattle.nk_values.specs.declared.field.Field.{Field}
+use Rattle.nk_values.specs.declared.lit.Lit.{Lit}
+use Rattle.nk_values.specs.Lits.{lit_field, lit_value}
+use Rattle.nk_values.specs.Members.{IsIn}
+use Rattle.nk_values.proofs.LitLaws.{same_lit}
+use Rattle.nk_values.proofs.MemberLaws.{in-left, in-right}
+use Rattle.nk_syntax.specs.Terms.{Guard, Guards, Term, Terms, no_guards, guard, no_terms, term, Filter, Assign, Sum, Seq, Star, Dup}
+use Rattle.nk_syntax.specs.Views.{guard_row, guard_of, guards_of, term_row, term_of, terms_of}
+use Rattle.nk_syntax.specs.declared.pred.Pred.{Pred}
+use Rattle.nk_syntax.specs.declared.pred.Preds.{Preds}
+use Rattle.nk_syntax.specs.declared.pol.Pol.{Pol}
+use Rattle.nk_syntax.specs.declared.pol.Pols.{Pols}
+use Rattle.fdd_compile.specs.Gains.{Gains}
+use Rattle.fdd_compile.specs.Named.{GuardTests, GuardsTest, TermNames, TermsName, AreFewNamed}
+
+pub gains_known : (l : Lit) (old : List Lit) → IsIn old l → Gains (λ f n. (lit_field l ≡ f) × (lit_value l ≡ n)) old old
+gains_known l old h = record { kept = λ m k. k; has = λ m k. subst (λ (x : Lit). IsIn old x) (same_lit l m k.0 k.1) h }
+
+pub gains_new : (l : Lit) (old new : List Lit) → new ≡ old ++ l ∷ [] → Gains (λ f n. (lit_field l ≡ f) × (lit_value l ≡ n)) old new
+gains_new l old new e = record {
+  kept = λ m k. subst (λ (x : List Lit). IsIn x m) (sym e) (in-left old (l ∷ []) m k);
+  has = λ m k. subst (λ (x : List Lit). IsIn x m) (sym e) (in-right old (l ∷ []) m (inl (same_lit l m k.0 k.1)));
+}
+
+pub gains_none : (N : Field → ℕ → Type 0) (old : List Lit) → ((f : Field) (n : ℕ) → N f n → ⊥) → Gains N old old
+gains_none N old h = record { kept = λ m k. k; has = λ m k. absurd (h (lit_field m) (lit_value m) k) }
+
+pub gains_as : (N M : Field → ℕ → Type 0) (old new : List Lit) → ((f : Field) (n : ℕ) → M f n → N f n) → Gains N old new → Gains M old new
+gains_as N M old new h g = record { kept = g.kept; has = λ m k. g.has m (h (lit_field m) (lit_value m) k) }
+
+-- what is still to come makes the whole of it
+pub record Grows (Whole Rest : Field → ℕ → Type 0) (first now : List Lit) : Type 0 where
+  pub whole : (last : List Lit) → Gains Rest now last → Gains Whole first last
+
+pub grows_first : (W R : Field → ℕ → Type 0) (first : List Lit) → ((f : Field) (n : ℕ) → W f n → R f n) → Grows W R first first
+grows_first W R first h = record { whole = λ last g. gains_as R W first last h g }
+
+pub grows_end : (W R : Field → ℕ → Type 0) (first now : List Lit) → ((f : Field) (n : ℕ) → R f n → ⊥) → Grows W R first now → Gains W first now
+grows_end W R first now h g = g.whole now (gains_none R now h)
+
+pub grows_more : (W R One Rest : Field → ℕ → Type 0) (first now next : List Lit) → ((f : Field) (n : ℕ) → R f n → One f n ⊎ Rest f n) → Grows W R first now → Gains One now next → Grows W Rest first next
+grows_more W R One Rest first now next h g one = record {
+  whole = λ last rest. g.whole last (record {
+    kept = λ m k. rest.kept m (one.kept m k);
+    has = λ m k. elim (h (lit_field m) (lit_value m) k) [ inl w ↦ rest.kept m (one.has m w) | inr w ↦ rest.has m w ];
+  });
+}
+
+-- rows
+
+pub guards_from : (items : List Pred) (i : ℕ) (x : Pred) → i < length items → x ≡ get_or items i x → (f : Field) (n : ℕ) → GuardsTest (guard_row (map guard_of (drop i items))) f n → GuardTests (guard_of x) f n ⊎ GuardsTest (guard_row (map guard_of (drop (i + 1) items))) f n
+guards_from items i x h e f n k =
+    subst (λ (ys : List Pred). GuardsTest (guard_row (map guard_of ys)) f n) (drop_more items i x h ∙ ap (λ (y : Pred). y ∷ drop (i + 1) items) (sym e)) k
+
+pub terms_from : (items : List Pol) (i : ℕ) (x : Pol) → i < length items → x ≡ get_or items i x → (f : Field) (n : ℕ) → TermsName (term_row (map term_of (drop i items))) f n → TermNames (term_of x) f n ⊎ TermsName (term_row (map term_of (drop (i + 1) items))) f n
+terms_from items i x h e f n k =
+    let d = drop_more items i x h ∙ ap (λ (y : Pol). y ∷ drop (i + 1) items) (sym e) in
+    split (subst (λ (ys : List Pol). TermsName (term_row (map term_of ys)) f n) d k) where
+      split : TermsName (term (term_of x) (term_row (map term_of (drop (i + 1) items)))) f n → TermNames (term_of x) f n ⊎ TermsName (term_row (map term_of (drop (i + 1) items))) f n
+      split (inl (inl w)) = inl (inl w)
+      split (inl (inr w)) = inr (inl w)
+      split (inr (inl w)) = inl (inr w)
+      split (inr (inr w)) = inr (inr w)
+
+pub few_of_list : (N : Field → ℕ → Type 0) (names : List Lit) → Gains N [] names → length names ≤ 2000 → AreFewNamed N
+few_of_list N names g h = record { names = names; bound = h; all = g.has }

@@ -1,0 +1,17 @@
+use Rattle.std.proofs.Common.{◌≡◌, sym, ◌∙◌, None, Some}
+use Rattle.nk_syntax.specs.Views.{term_of}
+use Rattle.fdd_compile.specs.Leftmost.{leftmost}
+use Rattle.fdd_compile.proofs.CompileLaws.{leftmost_told, flat_of, keeps_types, compiled_of}
+use Rattle.fdd_compile.proofs.compiled.compile.Goals as goal
+
+pub returns-in-Some : goal.returns-in-Some
+returns-in-Some c = leftmost_told (term_of c.args.pol.now) c.in-Some.fault (sym c.leftmost_fault.ensures ∙ c.in-Some.is)
+
+pub build-requires-clause-flat : goal.build-requires-clause-flat
+build-requires-clause-flat c = flat_of (term_of c.args.pol.now) (sym c.leftmost_fault.ensures ∙ c.in_default.is)
+
+pub unguarded-requires : goal.unguarded-requires
+unguarded-requires c = keeps_types (term_of c.args.pol.now) _ (sym c.leftmost_fault.ensures ∙ c.in_default.is) c.in_ok-diagram.ensures.diagram
+
+pub returns-in-None : goal.returns-in-None
+returns-in-None c = compiled_of (term_of c.args.pol.now) _ (sym c.leftmost_fault.ensures ∙ c.in_default.is) c.in_ok-diagram.ensures c.in-None.ensures
