@@ -1,11 +1,11 @@
 -- Policies, from what their parts give.
-use Rattle.std.proofs.Common.{◌≡◌, ℕ, zero, suc, ◌+◌, ◌<◌, ◌⊎◌, inl, inr, ap, sym, ◌∙◌, subst, arith, true, List, [], ◌∷◌, ◌++◌, length, map, take, drop, get_or, refl, Box, Vec, add-one}
+use Rattle.std.proofs.Common.{◌≡◌, ℕ, zero, suc, ◌+◌, ◌<◌, inl, inr, ap, sym, ◌∙◌, subst, arith, true, List, [], ◌∷◌, length, map, drop, get_or, Box}
 use Rattle.std.proofs.lemmas.List.{drop_more}
 use Rattle.std.specs.declared.alloc.Global.{Global}
 use Rattle.nk_values.specs.declared.field.Field.{Field}
 use Rattle.nk_values.specs.declared.packet.Packet.{Packet}
 use Rattle.nk_values.specs.declared.lit.Lit.{Lit}
-use Rattle.nk_syntax.specs.Terms.{Term, Terms, Filter, Assign, Sum, Seq, Star, Dup, no_terms, term}
+use Rattle.nk_syntax.specs.Terms.{Term, Terms, Sum, Seq, Star, term}
 use Rattle.nk_syntax.specs.Views.{guard_of, term_row, term_of, terms_of}
 use Rattle.nk_syntax.specs.declared.pred.Pred.{Pred}
 use Rattle.nk_syntax.specs.declared.pol.Pol.{Pol}
@@ -21,11 +21,11 @@ use Rattle.fdd_star.specs.declared.fault.StarFault.{StarFault}
 use Rattle.fdd_star.specs.declared.fault.StarFault.TheVariants.{Memory, Deep}
 use Rattle.fdd_star.specs.Stars.{StarOf, IsFaultOf}
 use Rattle.fdd_compile.specs.Builds.{BuiltOf, BuiltAll}
-use Rattle.fdd_compile.specs.Deep.{HasNoDeep, HaveNoDeep, IsFirstDeep, IsFirstDeepOf, TellsDeep, TellsDeepOf}
+use Rattle.fdd_compile.specs.Deep.{HasNoDeep, HaveNoDeep, IsFirstDeep, TellsDeep, TellsDeepOf}
 use Rattle.fdd_compile.specs.Filters.{FilterOf}
 use Rattle.fdd_compile.specs.Folds.{AreSmall, UnionOfAll, SequenceOfAll}
-use Rattle.fdd_compile.specs.Named.{AreFewNamed, TermTests, TermsTest, TermAssigns, TermsAssign, TermNames, TermsName}
-use Rattle.fdd_compile.specs.Results.{DiagramOf, DiagramsOf}
+use Rattle.fdd_compile.specs.Named.{AreFewNamed, TermNames, TermsName}
+use Rattle.fdd_compile.specs.Results.{DiagramsOf}
 use Rattle.fdd_compile.proofs.FaultLaws.{built_star, deep_star}
 use Rattle.fdd_compile.proofs.NamedLaws.{small_of, fewer}
 use Rattle.fdd_compile.proofs.ResultLaws.{diagram_filter, diagram_assign, diagram_sum, diagram_seq, terms_normal, terms_tests, terms_assigns}

@@ -1,7 +1,7 @@
 -- Diagrams of predicates, from those of their parts.
 use Rattle.std.specs.Prelude.{◌↔◌}
-use Rattle.std.proofs.Common.{◌≡◌, ◌≢◌, ℕ, zero, suc, ◌+◌, ◌<◌, length, map, get_or, ◌⊎◌, inl, inr, refl, ap, sym, ◌∙◌, subst, arith, Bool, true, false, not, cond, ◌||◌, ◌&&◌, List, [], ◌∷◌, ◌++◌}
-use Rattle.std.proofs.lemmas.Bool.{eq-eqb, ne_eqb, eqb-true, eqb-false}
+use Rattle.std.proofs.Common.{◌≡◌, ℕ, zero, suc, ◌<◌, length, map, get_or, ◌⊎◌, inl, inr, refl, ap, sym, ◌∙◌, subst, arith, Bool, true, false, not, ◌||◌, ◌&&◌, List, [], ◌∷◌}
+use Rattle.std.proofs.lemmas.Bool.{ne_eqb, eqb-true, eqb-false}
 use Rattle.std.proofs.lemmas.Bool.Decides.{eqb_tells}
 use Rattle.nk_values.specs.declared.field.Field.{Field}
 use Rattle.nk_values.specs.declared.packet.Packet.{Packet}
@@ -10,7 +10,7 @@ use Rattle.nk_values.specs.Held.{Holds}
 use Rattle.nk_values.specs.Lits.{lit_field, lit_value}
 use Rattle.nk_values.specs.Members.{IsIn}
 use Rattle.nk_values.specs.Packets.{get}
-use Rattle.nk_syntax.specs.Terms.{Guard, Guards, One, Zero, Test, Or, And, Not, no_guards, guard}
+use Rattle.nk_syntax.specs.Terms.{Guard, One, Zero, Test, Or, And, Not}
 use Rattle.nk_syntax.specs.Views.{guard_row, guard_of, guards_of}
 use Rattle.nk_syntax.specs.declared.pred.Pred.{Pred}
 use Rattle.nk_syntax.specs.declared.pred.Pred.TheVariants as pred
@@ -19,9 +19,8 @@ use Rattle.nk_syntax.proofs.Equations.{guard_of-or, guard_of-and}
 use Rattle.fdd_nodes.specs.declared.fdd.Fdd.{Fdd}
 use Rattle.fdd_nodes.specs.Fdds.{tree_of}
 use Rattle.history_meaning.specs.Meaning.{meets, meets_one, meets_all}
-use Rattle.fdd_nodes.specs.Trees.{Tree, Leaf, Node, answers, outcomes, leaf_at}
+use Rattle.fdd_nodes.specs.Trees.{Tree, Leaf, Node, answers, outcomes}
 use Rattle.fdd_nodes.proofs.SplitLaws.{leaf_at-then, leaf_at-else}
-use Rattle.fdd_ops.specs.Negations.{IsPredicate}
 use Rattle.fdd_ops.specs.Operations.{OneOf, ZeroOf, TestOf, NegationOf}
 use Rattle.fdd_compile.specs.Filters.{FilterOf, FiltersOf, ConstantOf}
 use Rattle.fdd_compile.specs.Folds.{SomeTests, SomeAssigns, AreNormal, AreSmall, SomeAnswers, AnswersThrough, UnionOfAll, SequenceOfAll}

@@ -8,7 +8,7 @@ use Rattle.nk_values.specs.declared.packet.Packet.{Packet}
 use Rattle.nk_values.specs.declared.lit.Lit.{Lit}
 use Rattle.nk_values.specs.Members.{IsIn}
 use Rattle.nk_values.proofs.MemberLaws.{in-left, in-right, in-either}
-use Rattle.fdd_nodes.specs.Names.{literals, distinct, AreFew}
+use Rattle.fdd_nodes.specs.Names.{literals, AreFew}
 use Rattle.fdd_nodes.specs.Normals.{IsNormal}
 use Rattle.fdd_nodes.specs.Trees.{Tree, Leaf, Node, answers, Tests, IsSetBy, Assigns}
 use Rattle.fdd_nodes.proofs.NameLaws.{tests_literal, assigns_literal, count_within}

@@ -1,6 +1,5 @@
 -- How lists gain what policies name.
-use Rattle.std.proofs.Common.{◌≡◌, ℕ, ◌+◌, ◌<◌, ◌≤◌, ◌⊎◌, inl, inr, ap, sym, ◌∙◌, subst, List, [], ◌∷◌, ◌++◌, length, map, drop, get_or, refl, Box}
-use Rattle.std.specs.declared.alloc.Global.{Global}
+use Rattle.std.proofs.Common.{◌≡◌, ℕ, ◌+◌, ◌<◌, ◌≤◌, ◌⊎◌, inl, inr, ap, sym, ◌∙◌, subst, List, [], ◌∷◌, ◌++◌, length, map, drop, get_or}
 use Rattle.std.proofs.lemmas.List.{drop_more}
 use Rattle.nk_values.specs.declared.field.Field.{Field}
 use Rattle.nk_values.specs.declared.lit.Lit.{Lit}
@@ -8,12 +7,10 @@ use Rattle.nk_values.specs.Lits.{lit_field, lit_value}
 use Rattle.nk_values.specs.Members.{IsIn}
 use Rattle.nk_values.proofs.LitLaws.{same_lit}
 use Rattle.nk_values.proofs.MemberLaws.{in-left, in-right}
-use Rattle.nk_syntax.specs.Terms.{Guard, Guards, Term, Terms, no_guards, guard, no_terms, term, Filter, Assign, Sum, Seq, Star, Dup}
-use Rattle.nk_syntax.specs.Views.{guard_row, guard_of, guards_of, term_row, term_of, terms_of}
+use Rattle.nk_syntax.specs.Terms.{term}
+use Rattle.nk_syntax.specs.Views.{guard_row, guard_of, term_row, term_of}
 use Rattle.nk_syntax.specs.declared.pred.Pred.{Pred}
-use Rattle.nk_syntax.specs.declared.pred.Preds.{Preds}
 use Rattle.nk_syntax.specs.declared.pol.Pol.{Pol}
-use Rattle.nk_syntax.specs.declared.pol.Pols.{Pols}
 use Rattle.fdd_compile.specs.Gains.{Gains}
 use Rattle.fdd_compile.specs.Named.{GuardTests, GuardsTest, TermNames, TermsName, AreFewNamed}
 

@@ -1,13 +1,12 @@
 -- Few values named.
-use Rattle.std.proofs.Common.{◌≡◌, ℕ, ◌+◌, ◌<◌, ◌≤◌, ◌⊎◌, inl, inr, subst, arith, Bool, true, false, cond, List, [], ◌∷◌, length}
+use Rattle.std.proofs.Common.{ℕ, ◌≤◌, ◌⊎◌, inl, inr, arith, Bool, true, false, cond, List, [], ◌∷◌, length}
 use Rattle.nk_values.specs.declared.field.Field.{Field}
 use Rattle.nk_values.specs.declared.lit.Lit.{Lit}
 use Rattle.nk_values.specs.Lits.{lit_field, lit_value}
 use Rattle.nk_values.specs.Members.{IsIn}
 use Rattle.nk_values.proofs.MemberLaws.{in-either}
-use Rattle.nk_syntax.specs.Terms.{Guard, Guards}
 use Rattle.fdd_nodes.specs.Names.{has_lit, distinct, literals}
-use Rattle.fdd_nodes.specs.Trees.{Tree, Tests, Assigns}
+use Rattle.fdd_nodes.specs.Trees.{Tree}
 use Rattle.fdd_nodes.proofs.NameLaws.{count_within}
 use Rattle.fdd_compile.specs.Folds.{all_literals, SomeTests, SomeAssigns, AreNormal, AreSmall}
 use Rattle.fdd_compile.specs.Named.{AreFewNamed}

@@ -1,32 +1,16 @@
 -- Results of stars, packet by packet.
-use Rattle.std.specs.Prelude.{◌↔◌}
-use Rattle.std.proofs.Common.{◌≡◌, ℕ, zero, suc, ◌+◌, ◌-◌, ◌≤◌, ◌⊎◌, inl, inr, refl, ap, sym, ◌∙◌, subst, arith, Bool, true, false, cond, List, [], ◌∷◌, ◌++◌, map}
-use Rattle.std.specs.List.{flat_map}
-use Rattle.std.proofs.lemmas.Bool.Decides.{eqb_tells}
-use Rattle.nk_values.specs.declared.field.Field.{Field}
+use Rattle.std.proofs.Common.{◌≡◌, ℕ, zero, suc, ◌+◌, inl, refl, ap, sym, ◌∙◌, subst, arith}
 use Rattle.nk_values.specs.declared.packet.Packet.{Packet}
-use Rattle.nk_values.specs.declared.lit.Lit.{Lit}
-use Rattle.nk_values.specs.Held.{put}
-use Rattle.nk_values.specs.Lits.{lit_field, lit_value}
-use Rattle.nk_values.specs.Members.{IsIn, Within}
-use Rattle.nk_values.specs.Packets.{get, with_value, IsInRange}
-use Rattle.nk_values.specs.Ranges.{IsValue}
-use Rattle.nk_values.specs.Trails.{Trail, start, renewed}
-use Rattle.nk_values.proofs.MemberLaws.{in-left, in-right, in-either, in-flat_map, from-flat_map, flat_map-within}
-use Rattle.nk_syntax.specs.Terms.{Guard, Term, Terms, Filter, Assign, Sum, Seq, Star, Dup, no_terms, term}
-use Rattle.nk_syntax.specs.Views.{term_row}
-use Rattle.history_meaning.specs.Laws.{IsFlat, AreFlat}
-use Rattle.history_meaning.specs.Meaning.{meets, den, union, chain, times, up_to, IsResult}
-use Rattle.history_meaning.proofs.Local.{den-flat}
-use Rattle.history_meaning.proofs.MoreTurns.{den-more}
-use Rattle.fdd_nodes.specs.Trees.{Tree, leaf_at, answers}
-use Rattle.fdd_nodes.proofs.MakesLaws.{source}
-use Rattle.fdd_ops.specs.Operations.{AssignmentOf}
-use Rattle.fdd_star.specs.Stars.{Turns, AtMost, StarOf}
-use Rattle.fdd_compile.specs.Filters.{FilterOf}
-use Rattle.fdd_compile.specs.Folds.{SomeTests, SomeAssigns, AreNormal, SomeAnswers, AnswersThrough, UnionOfAll, SequenceOfAll}
-use Rattle.fdd_compile.specs.Named.{TermTests, TermsTest, TermAssigns, TermsAssign}
-use Rattle.fdd_compile.specs.Results.{HasResult, DiagramOf, DiagramsOf}
+use Rattle.nk_values.specs.Members.{IsIn}
+use Rattle.nk_values.specs.Packets.{IsInRange}
+use Rattle.nk_values.specs.Trails.{Trail, start}
+use Rattle.nk_values.proofs.MemberLaws.{in-flat_map, from-flat_map}
+use Rattle.nk_syntax.specs.Terms.{Term, Star}
+use Rattle.history_meaning.specs.Laws.{IsFlat}
+use Rattle.history_meaning.specs.Meaning.{den, times}
+use Rattle.fdd_nodes.specs.Trees.{Tree, answers}
+use Rattle.fdd_star.specs.Stars.{Turns, StarOf}
+use Rattle.fdd_compile.specs.Results.{HasResult, DiagramOf}
 use Rattle.fdd_compile.proofs.ResultLaws.{stays_flat, more_turns, times_more, in_up_to, from_up_to, answer_range, just}
 
 -- stars

@@ -2,7 +2,7 @@
 use crate::compiled::{Compiled, compile};
 use crate::fault::{CompileError, CompileFault};
 use crate::named::names_few;
-use fdd_differ::difference;
+use fdd_nodes::Node;
 use history_meaning::some_results;
 use nk_syntax::{Pol, Pols, Pred};
 use nk_values::{Field, Header, History, Lit, Packet, well_shaped};
@@ -149,5 +149,31 @@ fn answers_are_results(rt: HostRuntime) -> Result<(), Fail> {
     let history = History::new(alloc, PLAIN);
     assert_eq!(rt; some_results(alloc, &pol, &history, 2)?.len(), 3);
     assert_eq!(rt; some_results(alloc, &pol, &history, 1)?.len(), 2);
+    Ok(())
+}
+
+#[test]
+fn tests_that_say_nothing_are_left_out(rt: HostRuntime) -> Result<(), Fail> {
+    let alloc = rt.alloc();
+    let either = or(
+        alloc,
+        is(Field::Pt, 1)?,
+        then(alloc, is_not(alloc, Field::Pt, 1)?, set(Field::Pt, 1)?)?,
+    )?;
+    let done = diagram(alloc, &either)?;
+    assert!(rt; matches!(done.diagram().root(), Node::Leaf(_)));
+    let kept = then(
+        alloc,
+        is(Field::EthTyp, 2054)?,
+        is_not(alloc, Field::IpProto, 6)?,
+    )?;
+    let done = diagram(alloc, &kept)?;
+    match done.diagram().root() {
+        Node::Test(_, yes, _) => {
+            let inner: &Node = yes;
+            assert!(rt; matches!(inner, Node::Test(_, _, _)));
+        }
+        Node::Leaf(_) => return Err(Fail::from("a test")),
+    }
     Ok(())
 }

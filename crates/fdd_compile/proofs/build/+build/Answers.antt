@@ -5,9 +5,9 @@ use Rattle.nk_syntax.specs.declared.pol.Pol.{Pol}
 use Rattle.fdd_nodes.specs.Fdds.{tree_of}
 use Rattle.fdd_compile.specs.Builds.{BuiltOf}
 use Rattle.fdd_compile.specs.Results.{DiagramOf}
-use Rattle.fdd_compile.proofs.BuildLaws.{few_sum, few_seq, few_star, flat_sum, flat_seq, flat_star, item_flat, item_named, parts_small, built_filter, built_assign, built_sum, built_seq, built_star_of, deep_in_sum, deep_in_seq, deep_in_star, deep_here, goes_from, goes_on, goes_wrong}
+use Rattle.fdd_compile.proofs.BuildLaws.{few_sum, few_seq, flat_sum, flat_seq, flat_star, item_flat, item_named, parts_small, built_filter, built_assign, built_sum, built_seq, built_star_of, deep_here, goes_on}
 use Rattle.fdd_compile.proofs.RowLaws.{pairwise_push}
-use Rattle.fdd_compile.proofs.Weights.{sum_load, seq_load, star_load, item_load}
+use Rattle.fdd_compile.proofs.Weights.{sum_load, seq_load, item_load}
 use Rattle.fdd_compile.proofs.build.+build.Goals as goal
 
 cases : {X E : Type 0} (r : Result X E) (P P' : X → Type 0) (Q Q' : E → Type 0) → MatchResult r P Q → ((x : X) → P x → P' x) → ((e : E) → Q e → Q' e) → MatchResult r P' Q'

@@ -1,6 +1,5 @@
-use Rattle.std.proofs.Common.{◌≡◌, sym, ◌∙◌, None, Some}
+use Rattle.std.proofs.Common.{sym, ◌∙◌}
 use Rattle.nk_syntax.specs.Views.{term_of}
-use Rattle.fdd_compile.specs.Leftmost.{leftmost}
 use Rattle.fdd_compile.proofs.CompileLaws.{leftmost_told, flat_of, keeps_types, compiled_of}
 use Rattle.fdd_compile.proofs.compiled.compile.Goals as goal
 

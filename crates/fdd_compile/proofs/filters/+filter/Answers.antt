@@ -1,10 +1,10 @@
-use Rattle.std.proofs.Common.{refl, arith, sym, ◌∙◌, map}
+use Rattle.std.proofs.Common.{refl, arith}
 use Rattle.fdd_nodes.specs.Fdds.{tree_of}
 use Rattle.fdd_nodes.proofs.MakesLaws.{if_ok}
 use Rattle.nk_syntax.specs.Views.{guard_of}
 use Rattle.fdd_compile.specs.Filters.{FilterOf}
 use Rattle.fdd_compile.proofs.FilterLaws.{filters_small, item_few, few_or, few_and, is_or, is_and, filters_named, filter_or, filter_nor, filter_and, filter_nand}
-use Rattle.fdd_compile.proofs.Weights.{or_weight, and_weight, not_weight, item_weight}
+use Rattle.fdd_compile.proofs.Weights.{or_weight, item_weight}
 use Rattle.fdd_compile.proofs.RowLaws.{pairwise_push}
 use Rattle.fdd_compile.proofs.filters.+filter.Goals as goal
 

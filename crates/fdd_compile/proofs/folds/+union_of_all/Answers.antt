@@ -1,5 +1,4 @@
-use Rattle.std.specs.Prelude.{IfOk}
-use Rattle.std.proofs.Common.{refl, subst, arith, List, ◌++◌, map}
+use Rattle.std.proofs.Common.{refl, subst, arith, List}
 use Rattle.fdd_nodes.specs.Fdds.{tree_of}
 use Rattle.fdd_nodes.specs.Trees.{Tree}
 use Rattle.fdd_nodes.proofs.MakesLaws.{if_ok}
