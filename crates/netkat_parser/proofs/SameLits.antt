@@ -1,35 +1,48 @@
 -- Literals are compared by field and number.
-use Rattle.std.proofs.Common.{◌≡◌, Bool, ◌&&◌, ◌==◌, List, [], ◌∷◌, ◌++◌, map, cond, false, refl, ap, ◌∙◌}
+use Rattle.std.proofs.Common.{◌≡◌, ℕ, ◌+◌, ◌*◌, ◌<◌, Bool, true, false, ◌&&◌, ◌==◌, List, [], ◌∷◌, ◌++◌, map, cond, refl, ap, sym, ◌∙◌, arith}
+use Rattle.std.proofs.lemmas.Bool.{eq-eqb, eqb-true}
 use Rattle.std.proofs.lemmas.List.{map-append}
 use Rattle.indexmap.specs.IndexSet.{insert_key}
 use Rattle.std.specs.List.{list_any}
 use Rattle.nk_values.specs.declared.field.Field.{Field}
 use Rattle.nk_values.specs.declared.field.Field.TheVariants.{Sw, Pt, EthTyp, IpProto, EthSrc, EthDst, Ip4Src, Ip4Dst, TcpSrcPort, TcpDstPort}
 use Rattle.nk_values.specs.Ranges.{place}
-use Rattle.nk_values.specs.contracts.field.FieldPartialEq.TheImpl as field
 use Rattle.nk_values.specs.declared.lit.Lit.{Lit}
 use Rattle.nk_values.specs.Lits.{lit_field, lit_value}
-use Rattle.nk_values.specs.contracts.lit.LitPartialEq.TheImpl.{eq-value}
+use Rattle.nk_values.specs.Ranks.{step, lit_eq}
+use Rattle.nk_values.proofs.LitLaws.{lit_small}
 use Rattle.netkat_parser.specs.Grammar.{is_pair, is_named}
 use Rattle.netkat_parser.specs.Pairs.{pair_of}
 
-same-field : (f g : Field) → field.eq-value.it f g ≡ (place f == place g)
-same-field Sw Sw = refl
-same-field Pt Pt = refl
-same-field EthTyp EthTyp = refl
-same-field IpProto IpProto = refl
-same-field EthSrc EthSrc = refl
-same-field EthDst EthDst = refl
-same-field Ip4Src Ip4Src = refl
-same-field Ip4Dst Ip4Dst = refl
-same-field TcpSrcPort TcpSrcPort = refl
-same-field TcpDstPort TcpDstPort = refl
-same-field f g = refl
+true-not-false : true ≡ false → ⊥
+true-not-false e = cc
 
-same-pair : (l x : Lit) → eq-value.it l x ≡ is_pair (lit_field l) (lit_value l) (pair_of x)
-same-pair l x = ap (λ b. b && (lit_value l == lit_value x)) (same-field (lit_field l) (lit_field x))
+-- by the place of the field and the number, which is below a step
+ranked : (p q v w : ℕ) (same field number : Bool) → v < step → w < step
+    → (step * p + v == step * q + w) ≡ same → (p == q) ≡ field → (v == w) ≡ number → same ≡ (field && number)
+ranked p q v w true true true hv hw e f g = refl
+ranked p q v w false false number hv hw e f g = refl
+ranked p q v w false true false hv hw e f g = refl
+ranked p q v w true false number hv hw e f g =
+    let same : step * p + v ≡ step * q + w = eqb-true _ _ e in
+    let place : p ≡ q = omega (arith, same) in
+    absurd (true-not-false (sym (eq-eqb p q place) ∙ f))
+ranked p q v w true true false hv hw e f g =
+    let same : step * p + v ≡ step * q + w = eqb-true _ _ e in
+    let value : v ≡ w = omega (arith, same) in
+    absurd (true-not-false (sym (eq-eqb v w value) ∙ g))
+ranked p q v w false true true hv hw e f g =
+    let place : p ≡ q = eqb-true _ _ f in
+    let value : v ≡ w = eqb-true _ _ g in
+    let same : step * p + v ≡ step * q + w = omega (arith, place, value) in
+    absurd (true-not-false (sym (eq-eqb (step * p + v) (step * q + w) same) ∙ e))
 
-pub has-named : (l : Lit) (ks : List Lit) → list_any (eq-value.it l) ks ≡ is_named (map pair_of ks) (lit_field l) (lit_value l)
+same-pair : (l x : Lit) → lit_eq l x ≡ is_pair (lit_field l) (lit_value l) (pair_of x)
+same-pair l x =
+    ranked (place (lit_field l)) (place (lit_field x)) (lit_value l) (lit_value x) (lit_eq l x) (place (lit_field l) == place (lit_field x)) (lit_value l == lit_value x)
+    (lit_small l) (lit_small x) refl refl refl
+
+pub has-named : (l : Lit) (ks : List Lit) → list_any (lit_eq l) ks ≡ is_named (map pair_of ks) (lit_field l) (lit_value l)
 has-named l [] = refl
 has-named l (x ∷ ks) = rw (same-pair l x, has-named l ks) refl
 
@@ -37,7 +50,7 @@ inserted : (ks : List Lit) (l : Lit) (b : Bool) → b ≡ false → cond b ks (k
 inserted ks l b e = rw e refl
 
 -- a new literal goes last
-pub pairs-insert : (l : Lit) (ks ks' : List Lit) → ks' ≡ insert_key eq-value.it ks l → is_named (map pair_of ks) (lit_field l) (lit_value l) ≡ false
+pub pairs-insert : (l : Lit) (ks ks' : List Lit) → ks' ≡ insert_key lit_eq ks l → is_named (map pair_of ks) (lit_field l) (lit_value l) ≡ false
     → map pair_of ks' ≡ map pair_of ks ++ (lit_field l, lit_value l) ∷ []
 pairs-insert l ks ks' e new =
-    ap (map pair_of) (e ∙ inserted ks l (list_any (eq-value.it l) ks) (has-named l ks ∙ new)) ∙ map-append pair_of ks (l ∷ [])
+    ap (map pair_of) (e ∙ inserted ks l (list_any (lit_eq l) ks) (has-named l ks ∙ new)) ∙ map-append pair_of ks (l ∷ [])
