@@ -38,11 +38,6 @@ fn two_copies(alloc: Global) -> Result<Leaf, Fail> {
     Ok(leaf)
 }
 
-// The leaf that keeps packets.
-fn keeps(alloc: Global) -> Result<Leaf, Fail> {
-    Ok(Leaf::of(alloc, Assignments::none(alloc))?)
-}
-
 #[test]
 fn copies_rise_and_stand_once(rt: HostRuntime) -> Result<(), Fail> {
     let leaf = two_copies(rt.alloc())?;
@@ -86,7 +81,8 @@ fn a_diagram_answers(rt: HostRuntime) -> Result<(), Fail> {
 #[test]
 fn answers_are_the_copies(rt: HostRuntime) -> Result<(), Fail> {
     let alloc = rt.alloc();
-    let a = Fdd::new(Node::Leaf(keeps(alloc)?));
+    let keeps = Leaf::of(alloc, Assignments::none(alloc))?;
+    let a = Fdd::new(Node::Leaf(keeps));
     let answer = a.answer(alloc, &packet(1, 9))?;
     assert!(rt; answer.as_slice() == [packet(1, 9)].as_slice());
     assert!(rt; a.normal());
