@@ -11,6 +11,8 @@ pub mod leftmost;
 mod literal;
 pub mod named;
 #[cfg(test)]
+mod table;
+#[cfg(test)]
 mod tests;
 
 pub use compiled::{Compiled, compile};
