@@ -21,7 +21,8 @@ use Rattle.fdd_ops.specs.Operations.{AssignmentOf}
 use Rattle.fdd_compile.specs.Filters.{FilterOf}
 use Rattle.fdd_compile.specs.Folds.{SomeTests, SomeAssigns, AreNormal, SomeAnswers, AnswersThrough, UnionOfAll, SequenceOfAll}
 use Rattle.fdd_compile.specs.Named.{TermsTest, TermsAssign}
-use Rattle.fdd_compile.specs.Results.{HasResult, DiagramOf, DiagramsOf}
+use Rattle.history_meaning.specs.Plain.{HasResult}
+use Rattle.fdd_compile.specs.Results.{DiagramOf, DiagramsOf}
 use Rattle.fdd_compile.proofs.GuardLaws.{made_values}
 
 -- histories of one packet stay such

@@ -10,7 +10,8 @@ use Rattle.fdd_compile.specs.declared.fault.CompileError.{CompileError}
 use Rattle.fdd_compile.specs.declared.fault.CompileError.TheVariants.{Memory, Fault}
 use Rattle.fdd_compile.specs.Deep.{HasNoDeep, IsFirstDeep}
 use Rattle.fdd_compile.specs.Leftmost.{leftmost}
-use Rattle.fdd_compile.specs.Results.{HasResult, DiagramOf}
+use Rattle.history_meaning.specs.Plain.{HasResult}
+use Rattle.fdd_compile.specs.Results.{DiagramOf}
 
 -- a well-shaped packet of which the policy has a result that is not well shaped
 pub record IsUnguarded (p : Term) (packet : Packet) : Type 0 where

@@ -5,7 +5,7 @@ use Rattle.nk_values.specs.Packets.{IsInRange}
 use Rattle.nk_syntax.specs.Terms.{Term, Terms, Filter, Assign, Sum, Seq, Star, Dup, no_terms, term}
 use Rattle.fdd_star.specs.declared.fault.StarFault.{StarFault}
 use Rattle.fdd_star.specs.declared.fault.StarFault.TheVariants.{Memory, Deep}
-use Rattle.fdd_compile.specs.Results.{HasResult}
+use Rattle.history_meaning.specs.Plain.{HasResult}
 
 -- q is reached from pk by exactly n repetitions of the policy
 abbrev pub Repeated : Term → ℕ → Packet → Packet → Type 0

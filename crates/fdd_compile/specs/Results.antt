@@ -5,19 +5,12 @@ use Rattle.nk_values.specs.declared.lit.Lit.{Lit}
 use Rattle.nk_values.specs.Lits.{lit_field, lit_value}
 use Rattle.nk_values.specs.Members.{IsIn}
 use Rattle.nk_values.specs.Packets.{IsInRange}
-use Rattle.nk_values.specs.Trails.{Trail, start}
 use Rattle.nk_syntax.specs.Terms.{Term}
-use Rattle.history_meaning.specs.Meaning.{IsResult}
+use Rattle.history_meaning.specs.Plain.{HasResult}
 use Rattle.fdd_nodes.specs.Normals.{IsNormal}
 use Rattle.fdd_nodes.specs.Trees.{Tree, answers, Tests, Assigns}
 use Rattle.fdd_compile.specs.Filters.{Pairwise}
 use Rattle.fdd_compile.specs.Named.{TermTests, TermAssigns}
-
--- q is the newest packet of a result of the policy from the history of pk alone
-pub record HasResult (p : Term) (pk q : Packet) : Type 0 where
-  pub history : Trail
-  pub is_result : IsResult p (start pk) history
-  pub newest : history.newest ≡ q
 
 -- On each packet in range r answers the policy's results. It is normal, and names only what the policy names.
 pub record DiagramOf (p : Term) (r : Tree) : Type 0 where
