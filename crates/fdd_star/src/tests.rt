@@ -6,8 +6,9 @@ ghost use Rattle.fdd_nodes.specs.Trees.{tree};
 
 use crate::fault::StarFault;
 use crate::rounds::star;
+use fdd_differ::difference;
 use fdd_nodes::{Assignments, Fdd, Node};
-use fdd_ops::{assign, sequence, test, union};
+use fdd_ops::{assign, sequence, test, union, zero};
 use nk_values::{Field, Header, Lit, Packet};
 use std::alloc::Global;
 use std::test::Fail;
@@ -146,5 +147,28 @@ fn a_star_too_deep(rt: HostRuntime) -> Result<(), Fail> {
     };
     assert_eq!(rt; deep.packet.header.eth_dst, 1);
     assert_eq!(rt; deep.output.header.eth_dst, 514);
+    Ok(())
+}
+
+// `pt=1; pt:=2`, beside itself and beside `drop`
+#[test]
+fn a_difference(rt: HostRuntime) -> Result<(), Fail> {
+    let alloc = rt.alloc();
+    let from = test(alloc, Lit::new(Field::Pt, 1).ok_or("no literal")?)?;
+    let to = assign(alloc, Lit::new(Field::Pt, 2).ok_or("no literal")?)?;
+    if !are_few(&from, &to) {
+        return Err("too many values".into());
+    }
+    let policy = sequence(alloc, &from, &to)?;
+    if !are_few(&policy, &policy) {
+        return Err("too many values".into());
+    }
+    assert_eq!(rt; difference(&policy, &policy), None);
+    let nothing = zero(alloc);
+    if !are_few(&policy, &nothing) {
+        return Err("too many values".into());
+    }
+    let apart = difference(&policy, &nothing).ok_or("no packet")?;
+    assert_eq!(rt; apart.pt, 1);
     Ok(())
 }
