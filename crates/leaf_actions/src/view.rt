@@ -1,0 +1,35 @@
+// A port of a switch, and the other ports beside it.
+ghost use Rattle.std.specs.Prelude.{◌≡◌};
+ghost use Rattle.leaf_actions.specs.Views.{port_in};
+
+use nk_values::PortKind;
+
+/// A declared port of a switch, and whether a link has it.
+#[derive(Clone, Copy, Debug, PartialEq, Eq)]
+pub struct SwitchPort {
+    pub pt: u16,
+    pub kind: PortKind,
+}
+
+/// A port of a switch as its rows see it: the switch and the port, what kind of port it is, the VLAN id that packets carry
+/// between switches, and the declared ports of the switch.
+#[derive(Debug, Drop)]
+pub struct PortView {
+    pub sw: u16,
+    pub pt: u16,
+    pub kind: PortKind,
+    pub stamp: u16,
+    pub ports: Vec<SwitchPort>,
+}
+
+// The port with a number, if it is declared.
+pub(crate) fn port_in(ports: &[SwitchPort], n: u64) -> Option<SwitchPort>
+    ensures { result ≡ port_in ports.now n }
+{
+    for port in ports {
+        if u64::from(port.pt) == n {
+            return Some(*port);
+        }
+    }
+    None
+}
