@@ -1,8 +1,8 @@
 // The actions of a leaf of a diagram.
 #![tactic(auto)]
 
-pub mod made;
 mod fields;
+pub mod made;
 mod order;
 mod pairs;
 pub mod route;

@@ -9,9 +9,9 @@ ghost use Rattle.leaf_actions.specs.Chains.{keeps_fields, keeps, Climbs};
 ghost use Rattle.leaf_actions.specs.Listing.{setting, change, changed, retagged, port_number, listed, IsActionList, Bars};
 ghost use Rattle.leaf_actions.specs.Settable.{AreSettable, CanSet, settable};
 
-use crate::pairs::first_apart;
 use crate::fields::{SETTABLE, fixed};
 use crate::order::{climbs, listing};
+use crate::pairs::first_apart;
 use crate::route::Route;
 use crate::view::PortView;
 use fdd_nodes::{Cell, Leaf, Path};
@@ -49,7 +49,12 @@ impl From<AllocError> for ActionsError {
 /// The actions that make the copies of a leaf, for the packets of a path at a port (OpenFlow 1.0.0, 5.2.4): copies to ports
 /// that are not declared are left out, and the others are listed by the number of header fields that they set and the path
 /// does not fix, then by port and assignments. The error carries the first two copies that no order makes both.
-pub fn actions(alloc: Global, path: &Path, leaf: &Leaf, view: &PortView) -> Result<Actions, ActionsError>
+pub fn actions(
+    alloc: Global,
+    path: &Path,
+    leaf: &Leaf,
+    view: &PortView,
+) -> Result<Actions, ActionsError>
     requires settable { AreSettable leaf.now }
     requires stamp { IsVlanId view.now.stamp }
     ensures list { IfOk result (IsActionList path.now view.now leaf.now) }

@@ -53,9 +53,7 @@ fn routes_of(
 fn out_of(view: &PortView, copy: &Assignments) -> u64
     ensures { result ≡ out_of view.now copy.now }
 {
-    let at_port = Cell::open()
-        .generic()
-        .with(Field::Pt, u64::from(view.pt));
+    let at_port = Cell::open().generic().with(Field::Pt, u64::from(view.pt));
     copy.apply(&at_port).pt
 }
 

@@ -2,8 +2,8 @@
 ghost use Rattle.std.specs.Prelude.{◌≡◌, IfOk};
 ghost use Rattle.leaf_actions.specs.Listing.{apart, first_from, first_apart};
 
-use crate::made::Unordered;
 use crate::fields::first_beyond;
+use crate::made::Unordered;
 use crate::route::Route;
 use fdd_nodes::Cell;
 use std::alloc::{AllocError, Global};
@@ -17,9 +17,8 @@ pub(crate) fn first_apart(
     ensures { IfOk result (λ o. o ≡ first_apart cell.now routes.now) }
 {
     for i in 0..routes.len() {
-        let found = first_from(alloc, cell, &routes[i], &routes[i + 1..])?;
-        if found.is_some() {
-            return Ok(found);
+        if let Some(found) = first_from(alloc, cell, &routes[i], &routes[i + 1..])? {
+            return Ok(Some(found));
         }
     }
     Ok(None)
@@ -35,21 +34,15 @@ fn first_from(
     ensures { IfOk result (λ o. o ≡ first_from cell.now a.now routes.now) }
 {
     for b in routes {
-        let found = apart(alloc, cell, a, b)?;
-        if found.is_some() {
-            return Ok(found);
+        if let Some(found) = apart(alloc, cell, a, b)? {
+            return Ok(Some(found));
         }
     }
     Ok(None)
 }
 
 // Two copies, if each changes a field that the other does not.
-fn apart(
-    alloc: Global,
-    cell: &Cell,
-    a: &Route,
-    b: &Route,
-) -> Result<Option<Unordered>, AllocError>
+fn apart(alloc: Global, cell: &Cell, a: &Route, b: &Route) -> Result<Option<Unordered>, AllocError>
     ensures { IfOk result (λ o. o ≡ apart cell.now a.now b.now) }
 {
     let Some(field_a) = first_beyond(cell, &a.copy, &b.copy) else {
