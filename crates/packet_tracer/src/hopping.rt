@@ -8,7 +8,7 @@ ghost use Rattle.packet_tracer.specs.Hops.{arriving, NoTie, IsHop, ends_of, flig
 
 use crate::flight::{Flight, Hopped};
 use flow_table::{Table, act};
-use nk_values::{History, Packet, Sent};
+use nk_values::{Header, History, Packet, Sent, Tag};
 use std::alloc::{AllocError, Global};
 use topology_model::Topology;
 
@@ -28,18 +28,31 @@ pub fn hop(
 {
     let packet = flight.history.newest();
     let sw = packet.sw as u16;
-    let pt = packet.pt as u16;
-    let sent = match table.look_up(pt, &packet.header, flight.tag) {
-        None => Vec::new(alloc),
-        Some(row) => act(
-            alloc,
-            row.actions.as_slice(),
-            pt,
-            &packet.header,
-            flight.tag,
-        )?,
-    };
+    let sent = handled(
+        alloc,
+        table,
+        packet.pt as u16,
+        &packet.header,
+        flight.tag,
+    )?;
     outcomes(alloc, topology, sw, flight, &sent)
+}
+
+// What a switch with this table sends of a packet.
+fn handled(
+    alloc: Global,
+    table: &Table,
+    port: u16,
+    header: &Header,
+    tag: Tag,
+) -> Result<Vec<Sent>, AllocError>
+    requires { NoTie table.now.rows (record { port = port; header = header.now; tag = tag }) }
+    ensures { IfOk result (λ v. Handles table.now.rows (record { port = port; header = header.now; tag = tag }) v.items) }
+{
+    match table.look_up(port, header, tag) {
+        None => Ok(Vec::new(alloc)),
+        Some(row) => act(alloc, row.actions.as_slice(), port, header, tag),
+    }
 }
 
 /// What becomes of what the switch `sw` sends of a copy that stands there.
