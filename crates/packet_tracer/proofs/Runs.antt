@@ -38,7 +38,7 @@ pub from-up_to : (n : ℕ) (step : Trail → List Trail) (h t : Trail) → IsIn 
 from-up_to zero step h t i = (zero, i)
 from-up_to (suc n) step h t i = elim (in-either (up_to n step h) (times (suc n) step h) t i) [ inl w ↦ from-up_to n step h t w | inr w ↦ (suc n, w) ]
 
-at_most : (k n : ℕ) → k ≤ suc n → (k ≤ n) ⊎ (suc n ≡ k)
+pub at_most : (k n : ℕ) → k ≤ suc n → (k ≤ n) ⊎ (suc n ≡ k)
 at_most k n h = grind arith
 
 pub in-up_to : (n k : ℕ) (step : Trail → List Trail) (h t : Trail) → k ≤ n → IsIn (times k step h) t → IsIn (up_to n step h) t

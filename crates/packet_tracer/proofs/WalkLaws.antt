@@ -1,5 +1,5 @@
 -- The way of a packet by the rows of a policy is that of the policy.
-use Rattle.std.proofs.Common.{◌≡◌, ℕ, zero, suc, ◌+◌, ◌*◌, ◌<◌, ◌≤◌, ◌⊎◌, inl, inr, List, [], ◌∷◌, map, length, refl, sym, ◌∙◌, ap, subst, arith, Option, Some, None}
+use Rattle.std.proofs.Common.{◌≡◌, ℕ, zero, suc, ◌+◌, ◌*◌, ◌<◌, ◌≤◌, ◌⊎◌, inl, inr, List, [], ◌∷◌, ◌++◌, map, length, refl, sym, ◌∙◌, ap, subst, arith, append-nil, Option, Some, None, is_some, false}
 use Rattle.std.specs.List.{flat_map}
 use Rattle.nk_values.specs.declared.packet.Packet.{Packet}
 use Rattle.nk_values.specs.declared.rows.PortRows.{PortRows}
@@ -24,13 +24,34 @@ use Rattle.packet_tracer.specs.Walks.{IsDone, IsWalk}
 use Rattle.packet_tracer.proofs.Links.{leave}
 use Rattle.packet_tracer.proofs.Placing.{IsPlaced, entered-placed, next-placed, answered}
 use Rattle.packet_tracer.proofs.Reaching.{Reaches, Finishes, from-open, to-open, from-complete, to-complete, finished-length}
-use Rattle.packet_tracer.proofs.Runs.{in-map, from-map}
+use Rattle.packet_tracer.proofs.Runs.{in-map, from-map, at_most}
 use Rattle.packet_tracer.proofs.Stepping.{ends-leave, leave-ends, flights-next, flights-hop, hop-flights}
 
 next-counted : (f : Flight) (q : Packet) (tag : Option ℕ) (o : Option Place) (g : Flight) → IsIn (next_flight f q tag o) g → g.hops ≡ suc f.hops
 next-counted f q tag None g m = absurd m
 next-counted f q tag (Some b) g (inl e) = sym (ap (λ (c : Flight). c.hops) e)
 next-counted f q tag (Some b) g (inr m) = absurd m
+
+pub none_in : {X : Type 0} (xs : List X) → length xs ≡ 0 → xs ≡ []
+none_in [] e = refl
+none_in (x ∷ xs) e = absurd (omega arith)
+
+pub untagged : (tag : Option ℕ) → is_some tag ≡ false → tag ≡ None
+untagged None e = refl
+untagged (Some v) e = absurd (cc)
+
+-- once no copy is left, nothing more comes
+pub stopped : (ports : List PortRows) (t : Layout) (f : Flight) (k n : ℕ) → k ≤ n → flights_after ports t f k ≡ [] →
+    (flights_after ports t f n ≡ []) × (ends_after ports t f n ≡ ends_after ports t f k)
+stopped ports t f k zero l none = let e : k ≡ 0 = omega arith in (subst (λ (j : ℕ). flights_after ports t f j ≡ []) e none, ap (ends_after ports t f) (sym e))
+stopped ports t f k (suc n) l none = elim (at_most k n l) [
+  | inl w ↦
+      let r = stopped ports t f k n w none in (
+        ap (flat_map (flights_at ports t)) r.0,
+        ap (λ (fs : List Flight). ends_after ports t f n ++ flat_map (ends_at ports t) fs) r.0 ∙ append-nil (ends_after ports t f n) ∙ r.1,
+      )
+  | inr e ↦ (subst (λ (j : ℕ). flights_after ports t f j ≡ []) (sym e) none, ap (ends_after ports t f) e)
+]
 
 -- each copy after k hops has taken k more
 pub after-counted : (ports : List PortRows) (t : Layout) (f : Flight) (k : ℕ) (g : Flight) → IsIn (flights_after ports t f k) g → g.hops ≡ k + f.hops

@@ -8,7 +8,7 @@ ghost use Rattle.nk_syntax.specs.Terms.{Term};
 ghost use Rattle.topology_model.specs.Layouts.{wiring};
 ghost use Rattle.packet_tracer.specs.declared.flight.Flight.{Flight};
 ghost use Rattle.packet_tracer.specs.Means.{RowsMean, standing, port_place};
-ghost use Rattle.packet_tracer.specs.Turns.{rows_at, sent_by, ends_at, flights_at};
+ghost use Rattle.packet_tracer.specs.Turns.{rows_at, sent_by, ends_at, flights_at, ends_after, flights_after};
 ghost use Rattle.packet_tracer.specs.Walks.{IsWalk};
 
 use crate::flight::{Flight, Hopped, Walk};
@@ -36,7 +36,60 @@ pub fn walk(
     ensures { (p : Term) → RowsMean rows.now p topology.now →
         IfOk result (λ walk. IsWalk (wiring topology.now) p packet.now tag hops walk.finished.items walk.in_flight.items) }
 {
-    Err(AllocError)
+    // every topology is sound
+    let _switches = topology.switches();
+    if tag.id().is_some() {
+        return Ok(Walk {
+            finished: Vec::new(alloc),
+            in_flight: Vec::new(alloc),
+        });
+    }
+    let flight = Flight {
+        history: History::new(alloc, *packet),
+        tag,
+        hops: 0,
+        arrival: 0,
+    };
+    let hopped = turns(alloc, rows.ports.as_slice(), topology, flight, hops)?;
+    Ok(Walk {
+        finished: hopped.finished,
+        in_flight: histories(alloc, hopped.flights)?,
+    })
+}
+
+// What so many hops make of a copy that took none. It stops where none is in flight.
+fn turns(
+    alloc: Global,
+    ports: &[PortRows],
+    topology: &Topology,
+    flight: Flight,
+    hops: u64,
+) -> Result<Hopped, AllocError>
+    requires { flight.hops ≡ 0 }
+    ensures finished { IfOk result (λ h. h.finished.items ≡ ends_after ports.now topology.now flight hops) }
+    ensures flights { IfOk result (λ h. h.flights.items ≡ flights_after ports.now topology.now flight hops) }
+{
+    let mut finished = Vec::new(alloc);
+    let mut flights = Vec::new(alloc);
+    flights.push(flight)?;
+    for _turn in 0..hops {
+        if flights.is_empty() {
+            return Ok(Hopped { finished, flights });
+        }
+        flights = turn(alloc, ports, topology, &flights, &mut finished)?;
+    }
+    Ok(Hopped { finished, flights })
+}
+
+// The histories of copies.
+fn histories(alloc: Global, flights: Vec<Flight>) -> Result<Vec<History>, AllocError>
+    ensures { IfOk result (λ v. v.items ≡ map (λ f. f.history) flights.items) }
+{
+    let mut histories = Vec::new(alloc);
+    for flight in flights {
+        histories.push(flight.history)?;
+    }
+    Ok(histories)
 }
 
 // One hop of each copy. What is finished goes to the end of what was.
