@@ -78,7 +78,7 @@ out_cases (l ∷ c) x = elim (out_cases c (put l x)) [
 
 is_out : (v : PortView) (x : Packet) (cs : List (List Lit)) (r : Route) → IsRouteOf v x cs r → IsOut v r
 is_out v x cs r k =
-    let e : r.port ≡ out_of v r.copy = sym k.port ∙ port_found v.ports.items (out_of v r.copy) k.site k.found in
+    let e : r.port ≡ out_of v r.copy = sym k.port ∙ port_found v.ports (out_of v r.copy) k.site k.found in
     elim (out_cases r.copy (with_value open_cell Pt v.pt)) [
       | inl d ↦ inl (e ∙ d)
       | inr l ↦ let low = l.low in let high = l.value.high in inr (omega (arith, low, e), omega (arith, high, e))

@@ -51,11 +51,11 @@ pub record IsRouteOf (v : PortView) (x : Packet) (cs : List (List Lit)) (r : Rou
   pub copy : IsIn cs r.copy
   pub count : r.count ≡ change_count x r.copy
   pub site : SwitchPort
-  pub found : port_in v.ports.items (out_of v r.copy) ≡ Some site
+  pub found : port_in v.ports (out_of v r.copy) ≡ Some site
   pub port : site.pt ≡ r.port
   pub kind : site.kind ≡ r.kind
 
-by_port : (v : PortView) (x : Packet) (c : List Lit) (cs : List (List Lit)) (o : Option SwitchPort) → port_in v.ports.items (out_of v c) ≡ o → (r : Route) → IsIn (route_by x c o) r → IsRouteOf v x (c ∷ cs) r
+by_port : (v : PortView) (x : Packet) (c : List Lit) (cs : List (List Lit)) (o : Option SwitchPort) → port_in v.ports (out_of v c) ≡ o → (r : Route) → IsIn (route_by x c o) r → IsRouteOf v x (c ∷ cs) r
 by_port v x c cs None e r h = absurd h
 by_port v x c cs (Some s) e r (inr h) = absurd h
 by_port v x c cs (Some s) e r (inl d) =
@@ -67,8 +67,8 @@ more v x c cs r h = record { copy = inr h.copy; count = h.count; site = h.site; 
 route_known : (v : PortView) (x : Packet) (cs : List (List Lit)) (r : Route) → IsIn (routes_of v x cs) r → IsRouteOf v x cs r
 route_known v x [] r h = absurd h
 route_known v x (c ∷ cs) r h =
-    elim (in-either (route_by x c (port_in v.ports.items (out_of v c))) (routes_of v x cs) r h) [
-      | inl k ↦ by_port v x c cs (port_in v.ports.items (out_of v c)) refl r k
+    elim (in-either (route_by x c (port_in v.ports (out_of v c))) (routes_of v x cs) r h) [
+      | inl k ↦ by_port v x c cs (port_in v.ports (out_of v c)) refl r k
       | inr k ↦ more v x c cs r (route_known v x cs r k)
     ]
 
@@ -116,9 +116,9 @@ out_at v p c e = apply_at c p (with_value open_cell Pt v.pt) Pt e
 sent_all : (v : PortView) (x p : Packet) (cs : List (List Lit)) → p.pt ≡ v.pt → map (sent_route v p) (routes_of v x cs) ≡ sendings v cs p
 sent_all v x p [] e = refl
 sent_all v x p (c ∷ cs) e =
-    map-append (sent_route v p) (route_by x c (port_in v.ports.items (out_of v c))) (routes_of v x cs) ∙
-    ap (λ (l : List Sent). l ++ map (sent_route v p) (routes_of v x cs)) (sent_one v x p c (port_in v.ports.items (out_of v c)) ∙ ap (λ n. sent_by_port v (apply c p) (port_in v.ports.items n)) (sym (out_at v p c e))) ∙
-    ap (λ (l : List Sent). sent_by_port v (apply c p) (port_in v.ports.items (apply c p).pt) ++ l) (sent_all v x p cs e)
+    map-append (sent_route v p) (route_by x c (port_in v.ports (out_of v c))) (routes_of v x cs) ∙
+    ap (λ (l : List Sent). l ++ map (sent_route v p) (routes_of v x cs)) (sent_one v x p c (port_in v.ports (out_of v c)) ∙ ap (λ n. sent_by_port v (apply c p) (port_in v.ports n)) (sym (out_at v p c e))) ∙
+    ap (λ (l : List Sent). sent_by_port v (apply c p) (port_in v.ports (apply c p).pt) ++ l) (sent_all v x p cs e)
 
 in_map : {X Y : Type 0} (f : X → Y) (xs : List X) (y : Y) → IsIn (map f xs) y → (x : X) × IsIn xs x × (f x ≡ y)
 in_map f [] y h = absurd h

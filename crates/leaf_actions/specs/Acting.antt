@@ -19,7 +19,7 @@ sent_by_port v q (Some s) = record { port = s.pt; header = q.header; tag = tag_a
 
 -- a packet as it leaves by its port, if that port is declared: untagged at an edge port, with the stamp at a linked one
 abbrev pub sent_at : PortView → Packet → List Sent
-sent_at v q = sent_by_port v q (port_in v.ports.items q.pt)
+sent_at v q = sent_by_port v q (port_in v.ports q.pt)
 
 -- what copies make of a packet, as it leaves by declared ports
 abbrev pub sendings : PortView → List (List Lit) → Packet → List Sent

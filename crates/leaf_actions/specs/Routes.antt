@@ -27,7 +27,7 @@ route_by x c (Some p) = record { count = change_count x c; port = p.pt; kind = p
 -- the copies that leave by declared ports, where x is what the path fixes
 abbrev pub routes_of : PortView → Packet → List (List Lit) → List Route
 routes_of v x [] = []
-routes_of v x (c ∷ cs) = route_by x c (port_in v.ports.items (out_of v c)) ++ routes_of v x cs
+routes_of v x (c ∷ cs) = route_by x c (port_in v.ports (out_of v c)) ++ routes_of v x cs
 
 -- the order of listing: by the number of changed fields, then the out port, then the assignments
 abbrev pub route_cmp : Route → Route → Ordering

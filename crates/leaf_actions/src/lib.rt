@@ -12,7 +12,7 @@ pub mod view;
 pub use made::{ActionsError, Unordered, actions};
 pub use route::Route;
 pub use settable::are_settable;
-pub use view::{PortView, SwitchPort};
+pub use view::{PortView, SwitchPort, SwitchPorts};
 
 #[cfg(test)]
 mod tests;

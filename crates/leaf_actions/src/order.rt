@@ -5,7 +5,7 @@ ghost use Rattle.leaf_actions.specs.Chains.{loses, keeps_fields, keeps, Climbs};
 
 use crate::fields::{SETTABLE, change_count};
 use crate::route::Route;
-use crate::view::{PortView, port_in};
+use crate::view::PortView;
 use fdd_nodes::{Assignments, Cell};
 use nk_values::{Field, Packet};
 use std::alloc::{AllocError, Global};
@@ -37,7 +37,7 @@ fn routes_of(
 {
     let mut routes = Vec::new(alloc);
     for copy in copies {
-        if let Some(port) = port_in(&view.ports, out_of(view, copy)) {
+        if let Some(port) = view.ports.find(out_of(view, copy)) {
             routes.push(Route {
                 count: change_count(cell, copy),
                 port: port.pt,

@@ -1,7 +1,7 @@
 // Lists of actions at a port of a switch.
 use crate::made::{ActionsError, Unordered, actions};
 use crate::settable::are_settable;
-use crate::view::{PortView, SwitchPort};
+use crate::view::{PortView, SwitchPort, SwitchPorts};
 use fdd_nodes::{Assignments, Leaf, Path};
 use nk_values::{Action, Field, Lit, PortKind};
 use std::alloc::Global;
@@ -13,7 +13,7 @@ fn lit(f: Field, n: u64) -> Result<Lit, Fail> {
 
 // Port 1 of a switch with edge ports 1 and 3, and a link at port 2.
 fn view(alloc: Global, pt: u16, kind: PortKind) -> Result<PortView, Fail> {
-    let mut ports = Vec::new(alloc);
+    let mut ports = SwitchPorts::new(alloc);
     for (pt, kind) in [
         (1, PortKind::Edge),
         (2, PortKind::Linked),

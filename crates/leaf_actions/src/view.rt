@@ -3,6 +3,8 @@ ghost use Rattle.std.specs.Prelude.{◌≡◌};
 ghost use Rattle.leaf_actions.specs.Views.{port_in};
 
 use nk_values::PortKind;
+use std::alloc::{AllocError, Global};
+use std::marker::Model;
 
 /// A declared port of a switch, and whether a link has it.
 #[derive(Clone, Copy, Debug, PartialEq, Eq)]
@@ -19,11 +21,54 @@ pub struct PortView {
     pub pt: u16,
     pub kind: PortKind,
     pub stamp: u16,
-    pub ports: Vec<SwitchPort>,
+    pub ports: SwitchPorts,
 }
 
-// The port with a number, if it is declared.
-pub(crate) fn port_in(ports: &[SwitchPort], n: u64) -> Option<SwitchPort>
+/// The declared ports of a switch. Clauses see them as a list.
+#[derive(Debug, Drop)]
+pub struct SwitchPorts {
+    items: Vec<SwitchPort>,
+}
+
+impl Model for SwitchPorts {
+    ghost use Rattle.std.specs.Prelude.{List};
+    ghost use Rattle.leaf_actions.specs.declared.view.SwitchPort.{SwitchPort};
+
+    ghost Value = { List SwitchPort };
+
+    ghost view = { λ p. p.items.items };
+}
+
+impl SwitchPorts {
+    ghost use Rattle.std.specs.Prelude.{OnOk, OnErr, [], ◌∷◌, ◌++◌};
+
+    /// No ports.
+    pub fn new(alloc: Global) -> SwitchPorts
+        ensures { result ≡ [] }
+    {
+        SwitchPorts {
+            items: Vec::new(alloc),
+        }
+    }
+
+    /// Puts one more at the end.
+    pub fn push(&mut self, port: SwitchPort) -> Result<(), AllocError>
+        ensures ok { OnOk result (self.new ≡ self.old ++ port ∷ []) }
+        ensures err { OnErr result (self.new ≡ self.old) }
+    {
+        self.items.push(port)?;
+        Ok(())
+    }
+
+    /// The port with a number, if it is declared.
+    pub fn find(&self, n: u64) -> Option<SwitchPort>
+        ensures { result ≡ port_in self.now n }
+    {
+        port_in(&self.items, n)
+    }
+}
+
+fn port_in(ports: &[SwitchPort], n: u64) -> Option<SwitchPort>
     ensures { result ≡ port_in ports.now n }
 {
     for port in ports {
