@@ -13,9 +13,9 @@ use std::alloc::{AllocError, Global};
 // How many values a policy may name.
 const MOST_NAMES: usize = 2000;
 
-/// Whether a policy names at most 2,000 values. It is told only where this holds.
+/// Whether a policy names at most 2,000 values: what the compiler asks of it.
 pub fn names_few(alloc: Global, pol: &Pol) -> Result<bool, AllocError>
-    ensures { IfOk result (λ few. IsTrue few → AreFewNamed (TermNames (term_of pol.now))) }
+    ensures { IfOk result (λ few. IsTrue few ↔ AreFewNamed (TermNames (term_of pol.now))) }
 {
     let mut names = Vec::new(alloc);
     add_names(pol, &mut names)?;

@@ -267,7 +267,8 @@ among_has l (m ∷ ms) h = elim (told (lit_eq l m)) [
   ]
 ]
 
-abbrev EachOnce : List Lit → Type 0
+-- no literal twice
+abbrev pub EachOnce : List Lit → Type 0
 EachOnce [] = Unit {0}
 EachOnce (l ∷ ls) = (IsIn ls l → ⊥) × EachOnce ls
 
@@ -308,7 +309,8 @@ among_lacking v w (x ∷ xs) d h = elim (told (lit_eq x v)) [
       (elim h [ inl e ↦ inl e | inr m ↦ inr (among_lacking v w xs d m) ])
 ]
 
-once_shorter : (xs ys : List Lit) → EachOnce xs → ((m : Lit) → IsIn xs m → IsIn ys m) → length xs ≤ length ys
+-- what has no literal twice is no longer than what has all of them
+pub once_shorter : (xs ys : List Lit) → EachOnce xs → ((m : Lit) → IsIn xs m → IsIn ys m) → length xs ≤ length ys
 once_shorter [] ys o h = omega arith
 once_shorter (x ∷ xs) ys o h =
     let s = lacking_shorter x ys (h x (inl refl)) in

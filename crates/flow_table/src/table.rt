@@ -1,12 +1,12 @@
 // Tables of rows.
-ghost use Rattle.std.specs.Prelude.{◌≡◌, ◌⊎◌, ◌<◌, ◌≤◌, [], ◌∷◌, ◌++◌, length, slice_index_or, IfSome, IfNone, OnOk, OnErr, List, option_map, Ok, Err};
+ghost use Rattle.std.specs.Prelude.{◌≡◌, [], ◌∷◌, ◌++◌, OnOk, OnErr, List, option_map, Ok, Err};
 ghost use Rattle.nk_values.specs.declared.row.Row.{Row};
 ghost use Rattle.nk_values.specs.Patterns.{Incoming};
-ghost use Rattle.nk_values.specs.Tables.{FoundIn, SameKey, IsNew, Distinct, row_of};
-ghost use Rattle.flow_table.specs.Added.{IsAdded};
+ghost use Rattle.nk_values.specs.Tables.{FoundIn, Distinct};
 
+use crate::changing::{add, modify, remove};
 use crate::hitting::hits;
-use nk_values::{Command, FlowMod, Header, Pattern, Row, Tag};
+use nk_values::{Command, FlowMod, Header, Row, Tag};
 use std::alloc::{AllocError, AllocFailed, Global};
 use std::marker::Model;
 
@@ -20,7 +20,7 @@ pub struct Table {
 
 impl Model for Table {
     ghost use Rattle.nk_values.specs.Tables.{Distinct};
-    ghost use Rattle.flow_table.specs.Added.{TableValue};
+    ghost use Rattle.flow_table.specs.Changed.{TableValue};
 
     ghost Value = { TableValue };
 
@@ -60,7 +60,7 @@ impl<T: Drop> From<AllocFailed<T>> for ChangeError {
 }
 
 impl Table {
-    ghost use Rattle.nk_values.specs.Tables.{IsChanged, IsFull};
+    ghost use Rattle.nk_values.specs.Changes.{IsChanged, IsFull};
 
     /// An empty table for so many rows.
     pub fn new(alloc: Global, capacity: usize) -> Table
@@ -96,8 +96,8 @@ impl Table {
         best(&self.rows, port, header, tag)
     }
 
-    /// Changes the rows. `Full` exactly where an added row is new and the table holds its capacity.
-    /// After an error the table is as it was.
+    /// Changes the rows (OpenFlow 1.0.0, 4.6). `Full` exactly where a row would be added and the table
+    /// holds its capacity. After an error the table is as it was.
     pub fn change(&mut self, alloc: Global, change: &FlowMod) -> Result<(), ChangeError>
         ensures ok { OnOk result (IsChanged self.old.rows change.now self.new.rows) }
         ensures capacity { self.new.capacity ≡ self.old.capacity }
@@ -105,9 +105,18 @@ impl Table {
         ensures full { result ≡ Err ChangeError.Full → IsFull self.old.capacity self.old.rows change.now }
         ensures err { OnErr result (self.new ≡ self.old) }
     {
-        let row = change.row(alloc)?;
         match change.command {
-            Command::Add => add(&mut self.rows, self.capacity, row),
+            Command::Add => add(&mut self.rows, self.capacity, change.row(alloc)?),
+            Command::Modify => modify(alloc, &mut self.rows, self.capacity, change),
+            Command::ModifyStrict => modify(alloc, &mut self.rows, self.capacity, change),
+            Command::Delete => {
+                remove(&mut self.rows, change);
+                Ok(())
+            }
+            Command::DeleteStrict => {
+                remove(&mut self.rows, change);
+                Ok(())
+            }
         }
     }
 }
@@ -146,39 +155,4 @@ fn better<'a>(
             }
         }
     }
-}
-
-// Puts a row in the place of the one with its pattern and priority, or adds it.
-fn add(rows: &mut Vec<Row>, capacity: usize, row: Row) -> Result<(), ChangeError>
-    requires { Distinct rows.old.items }
-    ensures ok { OnOk result (IsAdded rows.old.items row rows.new.items) }
-    ensures room { OnOk result (¬ ((capacity ≤ length rows.old.items) × IsNew rows.old.items row.pattern row.priority)) }
-    ensures full { result ≡ Err ChangeError.Full → (capacity ≤ length rows.old.items) × IsNew rows.old.items row.pattern row.priority }
-    ensures err { OnErr result (rows.new.items ≡ rows.old.items) }
-{
-    match key_place(rows, &row.pattern, row.priority) {
-        Some(place) => {
-            rows[place] = row;
-            Ok(())
-        }
-        None if rows.len() >= capacity => Err(ChangeError::Full),
-        None => {
-            rows.push(row)?;
-            Ok(())
-        }
-    }
-}
-
-// The place of a row with this pattern and priority, if there is one.
-fn key_place(rows: &[Row], pattern: &Pattern, priority: u16) -> Option<usize>
-    ensures within { IfSome result (λ k. k < length rows.now) }
-    ensures found { IfSome result (λ k. (d : Row) → SameKey (slice_index_or rows.now k d) pattern.now priority) }
-    ensures none { IfNone result (IsNew rows.now pattern.now priority) }
-{
-    for (place, row) in rows.iter().enumerate() {
-        if row.has_key(pattern, priority) {
-            return Some(place);
-        }
-    }
-    None
 }

@@ -1,5 +1,13 @@
+use Rattle.std.proofs.Common.{◌≡◌, true, false, List, sym, subst, ◌∙◌}
+use Rattle.nk_values.specs.declared.lit.Lit.{Lit}
+use Rattle.nk_values.specs.Members.{IsIn}
 use Rattle.fdd_compile.proofs.GainLaws.{gains_new}
 use Rattle.fdd_compile.proofs.named.add.Goals as goal
 
+true-false : true ≡ false → ⊥
+true-false e = cc
+
 pub returns-in_ok-push : goal.returns-in_ok-push
-returns-in_ok-push c = gains_new _ _ _ c.in_ok-push.ensures.items
+returns-in_ok-push c =
+    let lacks : ¬ IsIn c.args.names.now.items c.args.l.now = λ h. true-false (sym (c.has.ensures.1 (subst (λ (ls : List Lit). IsIn ls c.args.l.now) (sym c.deref.ensures.value) h)) ∙ c.if-not-has.true) in
+    gains_new _ _ _ lacks c.in_ok-push.ensures.items
