@@ -1,0 +1,30 @@
+-- What the actions of a leaf are to send.
+use Rattle.std.specs.Prelude.{◌≡◌, List, [], ◌∷◌, Option, Some, None}
+use Rattle.std.specs.List.{flat_map}
+use Rattle.nk_values.specs.declared.action.Action.{Action}
+use Rattle.nk_values.specs.declared.packet.Packet.{Packet}
+use Rattle.nk_values.specs.declared.lit.Lit.{Lit}
+use Rattle.nk_values.specs.declared.sent.Sent.{Sent}
+use Rattle.nk_values.specs.Acts.{acted}
+use Rattle.nk_values.specs.Members.{SameMembers}
+use Rattle.fdd_nodes.specs.Paths.{Way, IsOnPath}
+use Rattle.fdd_nodes.specs.Trees.{outcomes}
+use Rattle.leaf_actions.specs.declared.view.PortView.{PortView}
+use Rattle.leaf_actions.specs.declared.view.SwitchPort.{SwitchPort}
+use Rattle.leaf_actions.specs.Views.{port_in, tag_at, arriving}
+
+abbrev pub sent_by_port : PortView → Packet → Option SwitchPort → List Sent
+sent_by_port v q None = []
+sent_by_port v q (Some s) = record { port = s.pt; header = q.header; tag = tag_at s.kind v.stamp } ∷ []
+
+-- a packet as it leaves by its port, if that port is declared: untagged at an edge port, with the stamp at a linked one
+abbrev pub sent_at : PortView → Packet → List Sent
+sent_at v q = sent_by_port v q (port_in v.ports q.pt)
+
+-- what copies make of a packet, as it leaves by declared ports
+abbrev pub sendings : PortView → List (List Lit) → Packet → List Sent
+sendings v cs p = flat_map (sent_at v) (outcomes cs p)
+
+-- Of each packet of the path at the view's port, with the tag of that port, the actions send just the copies.
+pub record ActsAs (w : Way) (v : PortView) (cs : List (List Lit)) (as' : List Action) : Type 0 where
+  pub same : (p : Packet) → IsOnPath w p → p.pt ≡ v.pt → SameMembers (acted as' (arriving v p)) (sendings v cs p)

@@ -1,0 +1,172 @@
+// The actions of a leaf.
+ghost use Rattle.std.specs.Prelude.{◌≡◌, ◌≢◌, OnOk, IfOk, IfErr, true, [], ◌∷◌, ◌++◌};
+ghost use Rattle.nk_values.specs.Ranges.{IsValue};
+ghost use Rattle.nk_values.specs.Tags.{IsVlanId};
+ghost use Rattle.fdd_nodes.specs.Cells.{IsValid};
+ghost use Rattle.leaf_actions.specs.Acting.{ActsAs};
+ghost use Rattle.leaf_actions.specs.Changes.{fixed};
+ghost use Rattle.leaf_actions.specs.Chains.{keeps_fields, keeps, Climbs};
+ghost use Rattle.leaf_actions.specs.Listing.{setting, change, changed, retagged, port_number, listed, IsActionList, Bars};
+ghost use Rattle.leaf_actions.specs.Settable.{AreSettable, CanSet, settable};
+
+use crate::fields::{SETTABLE, fixed};
+use crate::order::{climbs, listing};
+use crate::pairs::first_apart;
+use crate::route::Route;
+use crate::view::PortView;
+use fdd_nodes::{Cell, Leaf, Path};
+use nk_values::{Action, Actions, Field, IN_PORT, Packet, PortKind};
+use std::alloc::{AllocError, Global};
+
+/// Two copies, `a` before `b` in the order of listing, that each set a header field which the other leaves and the path
+/// does not fix: with each its first such field.
+#[derive(Drop)]
+pub struct Unordered {
+    pub a: Route,
+    pub b: Route,
+    pub field_a: Field,
+    pub field_b: Field,
+}
+
+/// Memory ran out, or no list of actions makes all the copies, since none gives a field back its original number.
+#[derive(Drop)]
+pub enum ActionsError {
+    Memory,
+    Unordered(Unordered),
+}
+
+impl From<AllocError> for ActionsError {
+    ghost use Rattle.std.specs.Prelude.{◌≡◌};
+    ghost use Rattle.leaf_actions.specs.declared.made.ActionsError.TheVariants.{Memory};
+
+    ghost from_gives = { λ f e. e ≡ Memory };
+
+    fn from(_error: AllocError) -> Self {
+        ActionsError::Memory
+    }
+}
+
+/// The actions that make the copies of a leaf, for the packets of a path at a port (OpenFlow 1.0.0, 5.2.4): copies to ports
+/// that are not declared are left out, and the others are listed by the number of header fields that they set and the path
+/// does not fix, then by port and assignments. The error carries the first two copies that no order makes both.
+pub fn actions(
+    alloc: Global,
+    path: &Path,
+    leaf: &Leaf,
+    view: &PortView,
+) -> Result<Actions, ActionsError>
+    requires settable { AreSettable leaf.now }
+    requires stamp { IsVlanId view.now.stamp }
+    ensures list { IfOk result (IsActionList path.now view.now leaf.now) }
+    ensures acts { IfOk result (ActsAs path.now view.now leaf.now) }
+    ensures barred { IfErr result (Bars path.now view.now leaf.now) }
+{
+    let cell = fixed(path);
+    let routes = listing(alloc, &cell, leaf.copies(), view)?;
+    if climbs(&cell, &routes) {
+        return Ok(listed(alloc, &cell, &routes, view)?);
+    }
+    match first_apart(alloc, &cell, &routes)? {
+        Some(unordered) => Err(ActionsError::Unordered(unordered)),
+        None => unreachable!(),
+    }
+}
+
+// The actions of copies in order.
+fn listed(
+    alloc: Global,
+    cell: &Cell,
+    routes: &[Route],
+    view: &PortView,
+) -> Result<Actions, AllocError>
+    requires climbs { Climbs cell.now cell.now routes.now }
+    requires valid { IsValid cell.now }
+    ensures { IfOk result (λ as'. as' ≡ listed view.now cell.now cell.now view.now.kind routes.now) }
+{
+    let mut actions = Actions::new(alloc);
+    let mut known = *cell.generic();
+    let mut kind = view.kind;
+    for route in routes {
+        let next = route.copy.apply(cell.generic());
+        push_changes(&mut actions, &known, &next)?;
+        push_tag(&mut actions, view.stamp, kind, route.kind)?;
+        actions.push(Action::Output(port_number(view, route.port)))?;
+        known = next;
+        kind = route.kind;
+    }
+    Ok(actions)
+}
+
+// Adds what turns the header fields of one packet into those of another.
+fn push_changes(actions: &mut Actions, known: &Packet, next: &Packet) -> Result<(), AllocError>
+    requires kept { keeps known.now next.now ≡ true }
+    requires valid { IsValid next.now }
+    ensures { OnOk result (actions.new ≡ actions.old ++ changed known.now next.now settable) }
+{
+    push_fields(actions, known, next, &SETTABLE)
+}
+
+fn push_fields(
+    actions: &mut Actions,
+    known: &Packet,
+    next: &Packet,
+    fields: &[Field],
+) -> Result<(), AllocError>
+    requires kept { keeps_fields known.now next.now fields.now ≡ true }
+    requires valid { IsValid next.now }
+    ensures { OnOk result (actions.new ≡ actions.old ++ changed known.now next.now fields.now) }
+{
+    for f in fields {
+        push_change(actions, *f, known.get(*f), next.get(*f))?;
+    }
+    Ok(())
+}
+
+// Adds what turns a number of a field into another.
+fn push_change(actions: &mut Actions, f: Field, old: u64, new: u64) -> Result<(), AllocError>
+    requires { old ≢ new → IsValue f new }
+    ensures { OnOk result (actions.new ≡ actions.old ++ change f old new) }
+{
+    if old == new {
+        return Ok(());
+    }
+    actions.push(setting(f, new))
+}
+
+// The action that sets a header field.
+fn setting(f: Field, n: u64) -> Action
+    requires value { IsValue f n }
+    ensures { result ≡ setting f n }
+{
+    match f {
+        Field::EthDst => Action::SetDlDst(n),
+        Field::Ip4Src => Action::SetNwSrc(n as u32),
+        Field::Ip4Dst => Action::SetNwDst(n as u32),
+        Field::TcpSrcPort => Action::SetTpSrc(n as u16),
+        Field::TcpDstPort => Action::SetTpDst(n as u16),
+        _ => Action::SetDlSrc(n),
+    }
+}
+
+// Adds what turns the tag of one kind of port into that of another.
+fn push_tag(
+    actions: &mut Actions,
+    stamp: u16,
+    from: PortKind,
+    to: PortKind,
+) -> Result<(), AllocError>
+    ensures { OnOk result (actions.new ≡ actions.old ++ retagged stamp from to) }
+{
+    match (from, to) {
+        (PortKind::Edge, PortKind::Linked) => actions.push(Action::SetVlanVid(stamp)),
+        (PortKind::Linked, PortKind::Edge) => actions.push(Action::StripVlan),
+        _ => Ok(()),
+    }
+}
+
+// The number by which a port is sent to.
+fn port_number(view: &PortView, port: u16) -> u16
+    ensures { result ≡ port_number view.now port }
+{
+    if port == view.pt { IN_PORT } else { port }
+}

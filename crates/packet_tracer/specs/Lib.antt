@@ -1,0 +1,4 @@
+pub mod Hops
+pub mod Means
+pub mod Turns
+pub mod Walks

@@ -1,0 +1,7 @@
+pub mod Emission
+pub mod Entries
+pub mod Faults
+pub mod Kinds
+pub mod Parts
+pub mod Patterns
+pub mod Sizes
