@@ -13,7 +13,7 @@ use Rattle.history_meaning.specs.Laws.{IsFlat, AreFlat}
 use Rattle.history_meaning.specs.Meaning.{meets, den, union, chain, times, up_to, IsResult}
 use Rattle.history_meaning.specs.Plain.{HasResult, IsSettable, IsBare, AreBare}
 use Rattle.history_meaning.proofs.Local.{den-flat}
-use Rattle.packet_tracer.proofs.Runs.{only, in-map, from-map, from-chain}
+use Rattle.packet_tracer.proofs.Runs.{only, in-map, from-map}
 
 mutual
   flat : (p : Term) → IsBare p → IsFlat p

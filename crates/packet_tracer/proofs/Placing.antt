@@ -1,5 +1,5 @@
 -- Copies on their way stand where the rows of their port answer them.
-use Rattle.std.proofs.Common.{◌≡◌, ℕ, ◌⊎◌, inl, inr, Bool, true, false, ◌&&◌, not, List, [], ◌∷◌, map, refl, sym, ◌∙◌, ap, subst, if◌then◌else◌, Option, Some, None, is_some}
+use Rattle.std.proofs.Common.{◌≡◌, ℕ, inl, inr, Bool, true, false, ◌&&◌, not, List, [], ◌∷◌, map, refl, sym, ◌∙◌, ap, subst, if◌then◌else◌, Option, Some, None}
 use Rattle.std.specs.List.{flat_map}
 use Rattle.nk_values.specs.declared.field.Field.{Field}
 use Rattle.nk_values.specs.declared.field.Field.TheVariants.{Sw, Pt, EthTyp, IpProto, EthSrc, EthDst, Ip4Src, Ip4Dst, TcpSrcPort, TcpDstPort}
@@ -15,9 +15,9 @@ use Rattle.nk_values.specs.Packets.{IsInRange, IsWellShaped, get}
 use Rattle.nk_values.specs.Ranges.{IsValue}
 use Rattle.nk_syntax.specs.Terms.{Term}
 use Rattle.history_meaning.specs.Network.{Place}
-use Rattle.topology_model.specs.Layouts.{Layout, place_of, same_place, has_port, is_edge, is_linked, places_at, edges_of, wiring}
+use Rattle.topology_model.specs.Layouts.{Layout, same_place, has_port, is_linked, places_at, edges_of, wiring}
 use Rattle.topology_model.specs.Wired.{IsDeclared, IsSound}
-use Rattle.topology_model.proofs.Ranges.{in_range, is_place, edge_declared, edge_test, edges_apart}
+use Rattle.topology_model.proofs.Ranges.{in_range, is_place, edge_declared, edge_test}
 use Rattle.topology_model.proofs.Wires.{place-same, same-place, linked}
 use Rattle.packet_tracer.specs.declared.flight.Flight.{Flight}
 use Rattle.packet_tracer.specs.Hops.{moved}

@@ -1,5 +1,5 @@
 -- Copies hop by hop, complete histories and those in flight.
-use Rattle.std.proofs.Common.{◌≡◌, ℕ, zero, suc, ◌+◌, ◌*◌, ◌<◌, ◌≤◌, inl, List, [], ◌∷◌, length, refl, sym, ◌∙◌, ap, subst, arith, Option, None}
+use Rattle.std.proofs.Common.{◌≡◌, ℕ, zero, suc, ◌+◌, ◌*◌, inl, [], ◌∷◌, length, refl, sym, ap, subst, arith, Option, None}
 use Rattle.nk_values.specs.declared.packet.Packet.{Packet}
 use Rattle.nk_values.specs.Members.{IsIn}
 use Rattle.nk_values.specs.Trails.{Trail, start, packets}
@@ -10,7 +10,6 @@ use Rattle.history_meaning.specs.Meaning.{den, times, IsResult}
 use Rattle.history_meaning.specs.Network.{Wiring, hop, rest, edge_term, IsComplete, IsOpen}
 use Rattle.history_meaning.specs.Plain.{IsBare}
 use Rattle.packet_tracer.specs.Means.{standing}
-use Rattle.packet_tracer.specs.Walks.{IsDone}
 use Rattle.packet_tracer.proofs.Links.{leave, from-leave, from-hop, from-edges, in-edges}
 use Rattle.packet_tracer.proofs.Runs.{only, more_turns, times_more, from-up_to, in-up_to, from-chain, in-chain}
 

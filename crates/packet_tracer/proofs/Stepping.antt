@@ -1,5 +1,5 @@
 -- A hop by the rows of a policy is a hop of the policy.
-use Rattle.std.proofs.Common.{◌≡◌, ℕ, suc, ◌⊎◌, inl, inr, Bool, true, false, ◌&&◌, not, List, [], ◌∷◌, refl, sym, ◌∙◌, ap, subst, if◌then◌else◌, Option, Some, None}
+use Rattle.std.proofs.Common.{◌≡◌, ℕ, suc, inl, inr, List, refl, sym, ◌∙◌, ap, subst, Option, Some, None}
 use Rattle.nk_values.specs.declared.packet.Packet.{Packet}
 use Rattle.nk_values.specs.declared.row.Row.{Row}
 use Rattle.nk_values.specs.declared.sent.Sent.{Sent}
@@ -19,8 +19,7 @@ use Rattle.packet_tracer.specs.declared.flight.Flight.{Flight}
 use Rattle.packet_tracer.specs.Hops.{arriving, ended, carried, next_flight, ends_of, flights_of, all_ends, all_flights}
 use Rattle.packet_tracer.specs.Means.{Answers, standing, sent_packet, sent_as}
 use Rattle.packet_tracer.proofs.Bare.{from-filter, in-filter}
-use Rattle.packet_tracer.proofs.Links.{leave, Leaves, from-leave, to-leave, GoesOn, from-hop, to-hop}
-use Rattle.packet_tracer.proofs.Runs.{only}
+use Rattle.packet_tracer.proofs.Links.{leave, from-leave, to-leave, from-hop, to-hop}
 
 -- a packet of the switch is what the switch sends at its port
 same_packet : (sw : ℕ) (q : Packet) (tag : Option ℕ) → q.sw ≡ sw → q ≡ sent_packet sw (sent_as q tag)

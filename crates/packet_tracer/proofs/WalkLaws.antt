@@ -1,5 +1,5 @@
 -- The way of a packet by the rows of a policy is that of the policy.
-use Rattle.std.proofs.Common.{◌≡◌, ℕ, zero, suc, ◌+◌, ◌*◌, ◌<◌, ◌≤◌, ◌⊎◌, inl, inr, List, [], ◌∷◌, ◌++◌, map, length, refl, sym, ◌∙◌, ap, subst, arith, append-nil, Option, Some, None, is_some, false}
+use Rattle.std.proofs.Common.{◌≡◌, ℕ, zero, suc, ◌+◌, ◌<◌, ◌≤◌, ◌⊎◌, inl, inr, List, [], ◌∷◌, ◌++◌, map, length, refl, sym, ◌∙◌, ap, subst, arith, append-nil, Option, Some, None, is_some, false}
 use Rattle.std.specs.List.{flat_map}
 use Rattle.nk_values.specs.declared.packet.Packet.{Packet}
 use Rattle.nk_values.specs.declared.rows.PortRows.{PortRows}
@@ -13,14 +13,14 @@ use Rattle.nk_values.proofs.MemberLaws.{in-left, in-right, in-either, in-flat_ma
 use Rattle.nk_syntax.specs.Terms.{Term}
 use Rattle.history_meaning.specs.Meaning.{IsResult}
 use Rattle.history_meaning.specs.Network.{Place, hop}
-use Rattle.topology_model.specs.Layouts.{Layout, edges_of, far_end, wiring}
+use Rattle.topology_model.specs.Layouts.{Layout, far_end, wiring}
 use Rattle.topology_model.specs.Wired.{IsSound}
 use Rattle.topology_model.proofs.Ranges.{edges_apart}
 use Rattle.packet_tracer.specs.declared.flight.Flight.{Flight}
 use Rattle.packet_tracer.specs.Hops.{arriving, next_flight, flights_of, all_ends, all_flights}
 use Rattle.packet_tracer.specs.Means.{Answers, RowsMean, standing, sent_packet}
 use Rattle.packet_tracer.specs.Turns.{rows_at, sent_by, sent_on, ends_at, flights_at, flights_after, ends_after, entered}
-use Rattle.packet_tracer.specs.Walks.{IsDone, IsWalk}
+use Rattle.packet_tracer.specs.Walks.{IsWalk}
 use Rattle.packet_tracer.proofs.Links.{leave}
 use Rattle.packet_tracer.proofs.Placing.{IsPlaced, entered-placed, next-placed, answered}
 use Rattle.packet_tracer.proofs.Reaching.{Reaches, Finishes, from-open, to-open, from-complete, to-complete, finished-length}
@@ -141,7 +141,7 @@ module _ (rows : Rows) (p : Term) (t : Layout) (sound : IsSound t) (mean : RowsM
     | inl a ↦ in-left (ends_after rows.ports t f n) (flat_map (ends_at rows.ports t) (flights_after rows.ports t f n)) e (in-ends_after f n k g e placed a r m)
     | inr b ↦
         in-right (ends_after rows.ports t f n) (flat_map (ends_at rows.ports t) (flights_after rows.ports t f n)) e
-            (this_turn f n g e placed (subst (λ (j : ℕ). Reaches (wiring t) p f.history j g) b r) m)
+        (this_turn f n g e placed (subst (λ (j : ℕ). Reaches (wiring t) p f.history j g) b r) m)
   ]
     where
       last : (k n : ℕ) → k < suc n → (k < n) ⊎ (k ≡ n)
@@ -169,6 +169,6 @@ module _ (rows : Rows) (p : Term) (t : Layout) (sound : IsSound t) (mean : RowsM
           (λ o.
               let r = in-after (entered pk tag) hops h placed (from-open (wiring t) p pk tag hops h o) in
               subst (λ (x : Trail). IsIn (map (λ (f : Flight). f.history) (flights_after rows.ports t (entered pk tag) hops)) x) r.2
-                  (in-map (λ (f : Flight). f.history) (flights_after rows.ports t (entered pk tag) hops) r.0 r.1)),
+              (in-map (λ (f : Flight). f.history) (flights_after rows.ports t (entered pk tag) hops) r.0 r.1)),
         );
       }

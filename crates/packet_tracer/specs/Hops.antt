@@ -1,5 +1,5 @@
 -- One hop: what becomes of a copy at a switch.
-use Rattle.std.specs.Prelude.{◌≡◌, ℕ, suc, true, List, [], ◌∷◌, map, Option, Some, None, if◌then◌else◌}
+use Rattle.std.specs.Prelude.{◌≡◌, ℕ, suc, true, List, [], ◌∷◌, Option, Some, None, if◌then◌else◌}
 use Rattle.std.specs.List.{flat_map}
 use Rattle.nk_values.specs.declared.packet.Packet.{Packet}
 use Rattle.nk_values.specs.declared.row.Row.{Row}

@@ -28,13 +28,7 @@ pub fn hop(
 {
     let packet = flight.history.newest();
     let sw = packet.sw as u16;
-    let sent = handled(
-        alloc,
-        table,
-        packet.pt as u16,
-        &packet.header,
-        flight.tag,
-    )?;
+    let sent = handled(alloc, table, packet.pt as u16, &packet.header, flight.tag)?;
     outcomes(alloc, topology, sw, flight, &sent)
 }
 

@@ -3,6 +3,8 @@
 
 pub mod flight;
 pub mod hopping;
+#[cfg(test)]
+mod tests;
 pub mod version;
 pub mod walking;
 

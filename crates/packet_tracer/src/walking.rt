@@ -58,7 +58,7 @@ pub fn walk(
 }
 
 // What so many hops make of a copy that took none. It stops where none is in flight.
-fn turns(
+pub(crate) fn turns(
     alloc: Global,
     ports: &[PortRows],
     topology: &Topology,
@@ -138,12 +138,7 @@ fn step(
 }
 
 // What is sent of a packet at a port, by the first row that hits.
-fn sent(
-    alloc: Global,
-    port: &PortRows,
-    header: &Header,
-    tag: Tag,
-) -> Result<Vec<Sent>, AllocError>
+fn sent(alloc: Global, port: &PortRows, header: &Header, tag: Tag) -> Result<Vec<Sent>, AllocError>
     ensures { IfOk result (λ v. v.items ≡ sent_by (first (record { port = port.now.pt; header = header.now; tag = tag }) port.now.rows) (record { port = port.now.pt; header = header.now; tag = tag })) }
 {
     match first_hit(port.rows.as_slice(), port.pt, header, tag) {

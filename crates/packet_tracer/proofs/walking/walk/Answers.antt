@@ -16,11 +16,11 @@ returns c = λ p mean.
     let way = walked c.args.rows.now p t c.switches-switches.ensures.topology.sound mean c.args.packet.now tag c.args.hops none c.requires.shaped c.requires.edge in
     let flight : Trail → Flight = λ h. record { history = h; tag = tag; hops = 0; arrival = 0 } in
     let ends : c.in_ok-hopped.hopped.finished.items ≡ ends_after c.args.rows.now.ports t (entered c.args.packet.now tag) c.args.hops =
-        c.in_ok-hopped.ensures.finished ∙ ap (λ (ps : List PortRows). ends_after ps t (flight c.new-2.result) c.args.hops) c.as_slice.ensures
-        ∙ ap (λ (h : Trail). ends_after c.args.rows.now.ports t (flight h) c.args.hops) c.new-2.ensures in
+    c.in_ok-hopped.ensures.finished ∙ ap (λ (ps : List PortRows). ends_after ps t (flight c.new-2.result) c.args.hops) c.as_slice.ensures
+    ∙ ap (λ (h : Trail). ends_after c.args.rows.now.ports t (flight h) c.args.hops) c.new-2.ensures in
     let copies : c.in_ok-hopped.hopped.flights.items ≡ flights_after c.args.rows.now.ports t (entered c.args.packet.now tag) c.args.hops =
-        c.in_ok-hopped.ensures.flights ∙ ap (λ (ps : List PortRows). flights_after ps t (flight c.new-2.result) c.args.hops) c.as_slice.ensures
-        ∙ ap (λ (h : Trail). flights_after c.args.rows.now.ports t (flight h) c.args.hops) c.new-2.ensures in
+    c.in_ok-hopped.ensures.flights ∙ ap (λ (ps : List PortRows). flights_after ps t (flight c.new-2.result) c.args.hops) c.as_slice.ensures
+    ∙ ap (λ (h : Trail). flights_after c.args.rows.now.ports t (flight h) c.args.hops) c.new-2.ensures in
     let still = c.in_ok-histories.ensures ∙ ap (map (λ (f : Flight). f.history)) copies in
     subst (λ (hs : List Trail). IsWalk (wiring t) p c.args.packet.now tag c.args.hops hs c.in_ok-histories.field-0.items) (sym ends)
     (subst (λ (hs : List Trail). IsWalk (wiring t) p c.args.packet.now tag c.args.hops (ends_after c.args.rows.now.ports t (entered c.args.packet.now tag) c.args.hops) hs) (sym still) way)
