@@ -1,12 +1,12 @@
 // The document that a source holds.
-ghost use Rattle.std.specs.Prelude.{◌≡◌, IfSome, OnOk};
+ghost use Rattle.std.specs.Prelude.{◌≡◌, IfOk, IfSome, OnOk, Err};
 ghost use Rattle.std.specs.Io.KnownBytes.{IsAtEnd};
 ghost use Rattle.outside_io.specs.Causes.{Rose};
-ghost use Rattle.controller_program.specs.Documents.{reading};
+ghost use Rattle.document_text.specs.Answers.{doc_of};
 ghost use Rattle.controller_program.specs.Input.{ReadsInput};
+ghost use Rattle.controller_program.specs.Sound.{IsSound};
 
-use crate::document::{Document, DocumentError};
-use crate::reader::read_document;
+use document_text::{DocFault, Document, DocumentError, read_document};
 use outside_io::{ReadError, Source, read_up_to};
 use std::alloc::Global;
 
@@ -18,16 +18,17 @@ pub const READ_LIMIT: usize = 4194305;
 pub enum InputError {
     /// A read failed.
     Failed,
-    /// The first line that is not as it should be.
-    Later(u64),
+    /// The first fault of the text.
+    Fault(DocFault),
     /// Want of memory.
     Memory,
 }
 
 /// Reads the source, and its document.
 pub fn read_input<S: Source>(alloc: Global, source: &mut S) -> Result<Document, InputError>
-    ensures document { IfSome (S.left source.old) (λ xs. ReadsInput (reading xs) result) }
+    ensures document { IfSome (S.left source.old) (λ xs. ReadsInput xs result) }
     ensures ended { OnOk result (IsAtEnd (S.left source.new)) }
+    ensures sound { IfOk result (λ d. IsSound (doc_of d)) }
     ensures cause { result ≡ Err InputError.Failed → Rose (S.faults source.old) (S.faults source.new) }
 {
     let bytes = match read_up_to(alloc, READ_LIMIT, source) {
@@ -37,7 +38,7 @@ pub fn read_input<S: Source>(alloc: Global, source: &mut S) -> Result<Document, 
     };
     match read_document(alloc, &bytes) {
         Ok(document) => Ok(document),
-        Err(DocumentError::Later(line)) => Err(InputError::Later(line)),
+        Err(DocumentError::Fault(fault)) => Err(InputError::Fault(fault)),
         Err(DocumentError::Memory) => Err(InputError::Memory),
     }
 }

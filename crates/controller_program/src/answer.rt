@@ -1,0 +1,53 @@
+// What a command comes to, before anything is written.
+ghost use Rattle.std.specs.Prelude.{◌≡◌, IfOk};
+ghost use Rattle.std.specs.Io.KnownBytes.{IsAtEnd};
+ghost use Rattle.outside_io.specs.Causes.{Rose};
+ghost use Rattle.report_text.specs.Faults.{fault_text};
+ghost use Rattle.controller_program.specs.Told.{Tells, TellsEnd, TellsCause, TellsRefusal};
+
+use crate::command::Command;
+use crate::faults::placed_fault;
+use crate::input::{InputError, read_input};
+use crate::output::output;
+use crate::versions::PolicyError;
+use outside_io::Source;
+use report_text::{Fault, Text, fault_text};
+use std::alloc::Global;
+
+/// What there is to write, and how the call ends once it is written.
+#[derive(Debug, Drop)]
+pub enum Answer {
+    Done(Text),
+    Refused(Text),
+    ReadFault,
+    Memory,
+}
+
+/// Reads the source, and carries the command out on its document.
+pub fn answer<S: Source>(alloc: Global, command: Command, source: &mut S) -> Answer
+    ensures tells { Tells command (S.left source.old) result }
+    ensures ended { TellsEnd (S.left source.new) result }
+    ensures cause { TellsCause (S.faults source.old) (S.faults source.new) result }
+{
+    let document = match read_input(alloc, source) {
+        Ok(document) => document,
+        Err(InputError::Failed) => return Answer::ReadFault,
+        Err(InputError::Fault(fault)) => return refusal(alloc, &placed_fault(&fault)),
+        Err(InputError::Memory) => return Answer::Memory,
+    };
+    match output(alloc, command, &document) {
+        Ok(text) => Answer::Done(text),
+        Err(PolicyError::Fault(fault)) => refusal(alloc, &fault),
+        Err(PolicyError::Memory) => Answer::Memory,
+    }
+}
+
+// The refusal by a fault.
+fn refusal(alloc: Global, fault: &Fault) -> Answer
+    ensures { TellsRefusal fault.now result }
+{
+    match fault_text(alloc, fault) {
+        Ok(text) => Answer::Refused(text),
+        Err(_) => Answer::Memory,
+    }
+}
