@@ -1,0 +1,4 @@
+pub mod Faults
+pub mod Histories
+pub mod Rules
+pub mod Values

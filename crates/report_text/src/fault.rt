@@ -1,0 +1,50 @@
+// What goes wrong.
+use fdd_compile::CompileFault;
+use nk_values::EmitFault;
+
+/// A fault of a document's text.
+#[derive(Clone, Copy, Debug, PartialEq, Eq, Hash)]
+pub enum TextFault {
+    BadChar,
+    Unexpected,
+    UnknownName,
+    ValueRange,
+    NotPredicate,
+    TooDeep,
+    TooManyValues,
+    BadLine,
+    NoPolicy,
+    Limit,
+    StampRange,
+    TooFewStamps,
+    NotEdge,
+    DupSwitch,
+    UnknownSwitch,
+    UnknownPort,
+    PortUsedTwice,
+    TooMany,
+    NoEdge,
+}
+
+/// Why nkctl does not do what it was asked.
+#[derive(Clone, Copy, Debug, PartialEq, Eq)]
+pub enum Fault {
+    /// A fault of the document, at a line and a column, both from 1.
+    Line {
+        line: u64,
+        column: u64,
+        fault: TextFault,
+    },
+    /// A policy, by its number from 1, is not compiled.
+    Compile { policy: u64, fault: CompileFault },
+    /// A policy, by its number from 1, has no rows.
+    Emit { policy: u64, fault: EmitFault },
+    /// The source failed.
+    Read,
+    /// A pair of links could not be made.
+    Net,
+    /// A thread could not be started.
+    NoThread,
+    /// The words are no command line.
+    Usage,
+}

@@ -1,0 +1,15 @@
+// What nkctl prints: rows, traces, histories and faults.
+#![tactic(auto)]
+
+pub mod fault;
+mod faults;
+mod histories;
+mod rules;
+pub mod text;
+mod values;
+
+pub use fault::{Fault, TextFault};
+pub use faults::fault_text;
+pub use histories::history_text;
+pub use rules::rules_text;
+pub use text::Text;
