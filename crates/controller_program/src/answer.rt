@@ -16,7 +16,7 @@ use std::alloc::Global;
 
 /// What there is to write, and how the call ends once it is written.
 #[derive(Debug, Drop)]
-pub enum Answer {
+pub enum Ending {
     Done(Text),
     Refused(Text),
     ReadFault,
@@ -24,30 +24,30 @@ pub enum Answer {
 }
 
 /// Reads the source, and carries the command out on its document.
-pub fn answer<S: Source>(alloc: Global, command: Command, source: &mut S) -> Answer
+pub fn answer<S: Source>(alloc: Global, command: Command, source: &mut S) -> Ending
     ensures tells { Tells command (S.left source.old) result }
     ensures ended { TellsEnd (S.left source.new) result }
     ensures cause { TellsCause (S.faults source.old) (S.faults source.new) result }
 {
     let document = match read_input(alloc, source) {
         Ok(document) => document,
-        Err(InputError::Failed) => return Answer::ReadFault,
+        Err(InputError::Failed) => return Ending::ReadFault,
         Err(InputError::Fault(fault)) => return refusal(alloc, &placed_fault(&fault)),
-        Err(InputError::Memory) => return Answer::Memory,
+        Err(InputError::Memory) => return Ending::Memory,
     };
     match output(alloc, command, &document) {
-        Ok(text) => Answer::Done(text),
+        Ok(text) => Ending::Done(text),
         Err(PolicyError::Fault(fault)) => refusal(alloc, &fault),
-        Err(PolicyError::Memory) => Answer::Memory,
+        Err(PolicyError::Memory) => Ending::Memory,
     }
 }
 
 // The refusal by a fault.
-fn refusal(alloc: Global, fault: &Fault) -> Answer
+fn refusal(alloc: Global, fault: &Fault) -> Ending
     ensures { TellsRefusal fault.now result }
 {
     match fault_text(alloc, fault) {
-        Ok(text) => Answer::Refused(text),
-        Err(_) => Answer::Memory,
+        Ok(text) => Ending::Refused(text),
+        Err(_) => Ending::Memory,
     }
 }

@@ -5,10 +5,10 @@ pub mod fault;
 pub mod laws;
 mod leaf;
 mod named;
-mod number;
+pub mod number;
 pub mod parse;
 mod parser;
-mod sign;
+pub mod sign;
 mod stop;
 mod taken;
 #[cfg(test)]
