@@ -6,6 +6,7 @@ mod faults;
 mod histories;
 mod rules;
 pub mod text;
+mod traces;
 mod values;
 
 pub use fault::{Fault, TextFault};
@@ -13,3 +14,4 @@ pub use faults::fault_text;
 pub use histories::history_text;
 pub use rules::rules_text;
 pub use text::Text;
+pub use traces::trace_text;
