@@ -1,6 +1,5 @@
 -- Texts one after another, from the front.
 use Rattle.std.proofs.Common.{◌≡◌, ℕ, suc, ◌+◌, ◌<◌, List, [], ◌∷◌, ◌++◌, length, get_or, drop, refl, sym, ◌∙◌, ap, subst, append_assoc, append-nil, add-one, drop-cons, Result, Ok, Err, IfOk}
-use Rattle.std.proofs.lemmas.List.{drop_all}
 use Rattle.report_text.specs.Traces.{AreTexts}
 
 -- a clause from two

@@ -5,6 +5,8 @@ pub mod fault;
 mod faults;
 mod histories;
 mod rules;
+#[cfg(test)]
+mod tests;
 pub mod text;
 mod traces;
 mod values;
