@@ -36,9 +36,15 @@ pub enum Fault {
         fault: TextFault,
     },
     /// A policy, by its number from 1, is not compiled.
-    Compile { policy: u64, fault: CompileFault },
+    Compile {
+        policy: u64,
+        fault: CompileFault,
+    },
     /// A policy, by its number from 1, has no rows.
-    Emit { policy: u64, fault: EmitFault },
+    Emit {
+        policy: u64,
+        fault: EmitFault,
+    },
     /// The source failed.
     Read,
     /// A pair of links could not be made.

@@ -5,7 +5,10 @@ pub mod fault;
 mod faults;
 mod histories;
 mod rules;
+#[cfg(test)]
+mod tests;
 pub mod text;
+mod traces;
 mod values;
 
 pub use fault::{Fault, TextFault};
@@ -13,3 +16,4 @@ pub use faults::fault_text;
 pub use histories::history_text;
 pub use rules::rules_text;
 pub use text::Text;
+pub use traces::trace_text;

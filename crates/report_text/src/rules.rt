@@ -90,12 +90,7 @@ fn put_switch(
 }
 
 // Puts the rows of a port at the end, if it is the switch's.
-fn put_port_at(
-    alloc: Global,
-    out: &mut String,
-    port: &PortRows,
-    sw: u16,
-) -> Result<(), AllocError>
+fn put_port_at(alloc: Global, out: &mut String, port: &PortRows, sw: u16) -> Result<(), AllocError>
     ensures { OnOk result (string_bytes out.new ≡ string_bytes out.old ++ port_text sw port.now) }
 {
     if port.sw == sw {

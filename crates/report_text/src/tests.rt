@@ -1,0 +1,322 @@
+// Printed texts, whole.
+use crate::fault::{Fault, TextFault};
+use crate::faults::fault_text;
+use crate::histories::history_text;
+use crate::rules::rules_text;
+use crate::traces::trace_text;
+use fdd_compile::CompileFault;
+use nk_syntax::{Pol, Pred};
+use nk_values::{
+    Action, Actions, Band, EmitFault, Field, FieldSet, Header, History, Packet, Pattern, PortKind,
+    PortLists, PortRows, Row, RowList, Rows,
+};
+use packet_tracer::{Version, Walk};
+use std::alloc::{AllocError, Global};
+use std::process::Abort;
+use std::test::Fail;
+use topology_model::{End, Ports, TopoError, TopoLine, Topology};
+
+// A packet at a port for this destination.
+fn packet((sw, pt): (u64, u64), eth_dst: u64) -> Packet {
+    let header = Header {
+        eth_typ: 2048,
+        ip_proto: 0,
+        eth_src: 0,
+        eth_dst,
+        ip4_src: 0,
+        ip4_dst: 0,
+        tcp_src_port: 0,
+        tcp_dst_port: 0,
+    };
+    Packet { sw, pt, header }
+}
+
+// A history through these ports, oldest first.
+fn history(alloc: Global, ports: &[(u64, u64)]) -> Result<History, AllocError> {
+    let mut history = History::new(alloc, packet((1, 1), 0));
+    for port in ports {
+        history.double()?;
+        history.set_newest(packet(*port, 0));
+    }
+    Ok(history)
+}
+
+#[test]
+fn histories(rt: HostRuntime) -> Result<(), Fail> {
+    let alloc = rt.alloc();
+    let mut history = history(alloc, &[(1, 2), (2, 1)])?;
+    let text = history_text(alloc, &history)?;
+    assert_eq!(rt; text.as_str(), "1:1>1:2>2:1");
+    history.double()?;
+    let mut last = packet((2, 2), 0x0000_1234_5678_9abc);
+    last.header.eth_typ = 0x86dd;
+    last.header.ip4_dst = 0x0a00_01ff;
+    last.header.tcp_dst_port = 80;
+    history.set_newest(last);
+    let text = history_text(alloc, &history)?;
+    assert_eq!(rt;
+        text.as_str(),
+        "1:1>1:2>2:1>2:2{ethTyp=0x86dd,ethDst=12:34:56:78:9a:bc,ip4Dst=10.0.1.255,tcpDstPort=80}"
+    );
+    Ok(())
+}
+
+#[test]
+fn a_trace(rt: HostRuntime) -> Result<(), Fail> {
+    let alloc = rt.alloc();
+    let finished = vec![in alloc;
+        history(alloc, &[(1, 2)])?,
+        history(alloc, &[(1, 10)])?,
+        history(alloc, &[(1, 2)])?,
+    ]?;
+    let in_flight = vec![in alloc; history(alloc, &[(1, 2), (2, 1)])?]?;
+    let first = Walk {
+        finished,
+        in_flight,
+    };
+    let second = Walk {
+        finished: Vec::new(alloc),
+        in_flight: Vec::new(alloc),
+    };
+    let walks = vec![in alloc; vec![in alloc; first, second]?, Vec::new(alloc)]?;
+    let text = trace_text(alloc, &walks)?;
+    assert_eq!(rt;
+        text.as_str(),
+        "policy 1\npacket 1\ndone 1:1>1:10\ndone 1:1>1:2\nopen 1:1>1:2>2:1\npacket 2\npolicy 2\n"
+    );
+    Ok(())
+}
+
+// Switches 1 and on with ports 1 and 2, and links.
+fn lines(alloc: Global, switches: u16, links: &[(End, End)]) -> Result<Vec<TopoLine>, AllocError> {
+    let mut lines = Vec::new(alloc);
+    for sw in 0..switches {
+        let ports = Ports::new(vec![in alloc; 1, 2]?);
+        lines.push(TopoLine::Switch {
+            sw: sw.saturating_add(1),
+            ports,
+        })?;
+    }
+    for (a, b) in links {
+        lines.push(TopoLine::Link { a: *a, b: *b })?;
+    }
+    Ok(lines)
+}
+
+fn topology(rt: &impl Abort, alloc: Global, switches: u16) -> Result<Topology, TopoError> {
+    let lines = lines(alloc, switches, &[])?;
+    assert!(rt; lines.iter().all(|line| line.is_in_range()));
+    Topology::build(alloc, &lines)
+}
+
+fn row(alloc: Global, pattern: Pattern, priority: u16, list: &[Action]) -> Result<Row, AllocError> {
+    let mut actions = Actions::new(alloc);
+    for action in list {
+        actions.push(*action)?;
+    }
+    Ok(Row {
+        pattern,
+        priority,
+        actions,
+    })
+}
+
+// A port of a switch with this row.
+fn port(alloc: Global, (sw, pt): End, row: Row) -> Result<PortRows, AllocError> {
+    let mut rows = RowList::new(alloc);
+    rows.push(row)?;
+    Ok(PortRows {
+        sw,
+        pt,
+        kind: PortKind::Edge,
+        rows,
+    })
+}
+
+fn version(alloc: Global, band: Band, list: Vec<PortRows>) -> Result<Version, AllocError> {
+    let mut ports = PortLists::new(alloc);
+    for port in list {
+        ports.push(port)?;
+    }
+    let rows = Rows {
+        stamp: 1,
+        band,
+        ports,
+    };
+    Ok(Version::new(Pol::Filter(Pred::One), rows))
+}
+
+// The pattern of a port, for packets with this number as dl_vlan.
+fn at(port: u16, vlan: u16) -> Pattern {
+    Pattern {
+        in_port: Some(port),
+        dl_vlan: Some(vlan),
+        ..Pattern::any()
+    }
+}
+
+#[test]
+fn rules(rt: HostRuntime) -> Result<(), Fail> {
+    let alloc = rt.alloc();
+    let two = topology(&rt, alloc, 2)?;
+    let sends = [Action::SetVlanVid(1), Action::Output(2)];
+    let leaves = [Action::StripVlan, Action::Output(2)];
+    let high = vec![in alloc;
+        port(alloc, (1, 1), row(alloc, at(1, 65535), 36000, &sends)?)?,
+        port(alloc, (1, 2), row(alloc, at(2, 1), 56000, &[])?)?,
+        port(alloc, (2, 1), row(alloc, at(1, 1), 56000, &leaves)?)?,
+        port(alloc, (2, 2), row(alloc, at(2, 65535), 36000, &[])?)?,
+    ]?;
+    let sets = [
+        Action::Output(2),
+        Action::SetDlDst(5),
+        Action::SetNwSrc(0x0a00_0001),
+        Action::Output(3),
+    ];
+    let tcp = Pattern {
+        dl_type: Some(2048),
+        nw_proto: Some(6),
+        tp_dst: Some(80),
+        ..at(1, 65535)
+    };
+    let low = vec![in alloc; port(alloc, (2, 1), row(alloc, tcp, 16000, &sets)?)?]?;
+    let versions = vec![in alloc;
+        version(alloc, Band::High, high)?,
+        version(alloc, Band::Low, low)?,
+    ]?;
+    let text = rules_text(alloc, &versions, &two)?;
+    assert_eq!(rt;
+        text.as_str(),
+        "policy 1 stamp 1 band high\nswitch 1\n36000 in=1 vlan=none : vlan 1, output 2\n56000 in=2 vlan=1 : drop\nswitch 2\n56000 in=1 vlan=1 : strip, output 2\n36000 in=2 vlan=none : drop\npolicy 2 stamp 1 band low\nswitch 1\nswitch 2\n16000 in=1 vlan=none ethTyp=0x0800 ipProto=6 tcpDstPort=80 : output 2, set ethDst 00:00:00:00:00:05, set ip4Src 10.0.0.1, output 3\n"
+    );
+    Ok(())
+}
+
+#[test]
+fn faults_of_documents(rt: HostRuntime) -> Result<(), Fail> {
+    for (fault, end) in [
+        (TextFault::BadChar, "1 BadChar\n"),
+        (TextFault::Unexpected, "2 Unexpected\n"),
+        (TextFault::UnknownName, "3 UnknownName\n"),
+        (TextFault::ValueRange, "4 ValueRange\n"),
+        (TextFault::NotPredicate, "5 NotPredicate\n"),
+        (TextFault::TooDeep, "6 TooDeep\n"),
+        (TextFault::TooManyValues, "7 TooManyValues\n"),
+        (TextFault::BadLine, "8 BadLine\n"),
+        (TextFault::NoPolicy, "9 NoPolicy\n"),
+        (TextFault::Limit, "10 Limit\n"),
+        (TextFault::StampRange, "11 StampRange\n"),
+        (TextFault::TooFewStamps, "12 TooFewStamps\n"),
+        (TextFault::NotEdge, "13 NotEdge\n"),
+        (TextFault::DupSwitch, "31 DupSwitch\n"),
+        (TextFault::UnknownSwitch, "32 UnknownSwitch\n"),
+        (TextFault::UnknownPort, "33 UnknownPort\n"),
+        (TextFault::PortUsedTwice, "34 PortUsedTwice\n"),
+        (TextFault::TooMany, "35 TooMany\n"),
+        (TextFault::NoEdge, "36 NoEdge\n"),
+    ] {
+        let fault = Fault::Line {
+            line: 2,
+            column: 11,
+            fault,
+        };
+        let text = fault_text(rt.alloc(), &fault)?;
+        let start = "nkctl: line 2 column 11: ";
+        assert_eq!(rt; text.as_str().strip_prefix(start), Some(end));
+    }
+    Ok(())
+}
+
+#[test]
+fn faults_of_policies(rt: HostRuntime) -> Result<(), Fail> {
+    let policy = 1;
+    let a = FieldSet {
+        out: 2,
+        field: Field::EthSrc,
+    };
+    let b = FieldSet {
+        out: 3,
+        field: Field::EthDst,
+    };
+    let packet = packet((1, 2), 1);
+    let deep = CompileFault::StarDeep {
+        packet,
+        output: packet,
+    };
+    for (fault, line) in [
+        (
+            Fault::Compile {
+                policy,
+                fault: CompileFault::Dup,
+            },
+            "nkctl: policy 1: 20 Dup\n",
+        ),
+        (
+            Fault::Compile {
+                policy,
+                fault: CompileFault::SetsSwitch,
+            },
+            "nkctl: policy 1: 21 SetsSwitch\n",
+        ),
+        (
+            Fault::Compile {
+                policy,
+                fault: CompileFault::SetsType,
+            },
+            "nkctl: policy 1: 22 SetsType\n",
+        ),
+        (
+            Fault::Compile {
+                policy,
+                fault: deep,
+            },
+            "nkctl: policy 1: 23 StarDeep 1:2 ethTyp=0x0800 ipProto=0 ethSrc=00:00:00:00:00:00 ethDst=00:00:00:00:00:01 ip4Src=0.0.0.0 ip4Dst=0.0.0.0 tcpSrcPort=0 tcpDstPort=0 to 1:2 ethTyp=0x0800 ipProto=0 ethSrc=00:00:00:00:00:00 ethDst=00:00:00:00:00:01 ip4Src=0.0.0.0 ip4Dst=0.0.0.0 tcpSrcPort=0 tcpDstPort=0\n",
+        ),
+        (
+            Fault::Compile {
+                policy,
+                fault: CompileFault::Unguarded { packet },
+            },
+            "nkctl: policy 1: 24 Unguarded 1:2 ethTyp=0x0800 ipProto=0 ethSrc=00:00:00:00:00:00 ethDst=00:00:00:00:00:01 ip4Src=0.0.0.0 ip4Dst=0.0.0.0 tcpSrcPort=0 tcpDstPort=0\n",
+        ),
+        (
+            Fault::Emit {
+                policy,
+                fault: EmitFault::Unordered { sw: 1, pt: 1, a, b },
+            },
+            "nkctl: policy 1 switch 1 port 1: 25 Unordered out 2 sets ethSrc, out 3 sets ethDst\n",
+        ),
+        (
+            Fault::Emit {
+                policy,
+                fault: EmitFault::TooManyRows { sw: 1, pt: 4 },
+            },
+            "nkctl: policy 1 switch 1 port 4: 26 TooManyRows\n",
+        ),
+        (
+            Fault::Emit {
+                policy,
+                fault: EmitFault::TooManySwitchRows { sw: 3 },
+            },
+            "nkctl: policy 1 switch 3: 26 TooManyRows\n",
+        ),
+        (
+            Fault::Emit {
+                policy,
+                fault: EmitFault::TooManyActions { sw: 1, pt: 4 },
+            },
+            "nkctl: policy 1 switch 1 port 4: 27 TooManyActions\n",
+        ),
+        (Fault::Read, "nkctl: read fault\n"),
+        (Fault::Net, "nkctl: net fault\n"),
+        (Fault::NoThread, "nkctl: no thread\n"),
+        (
+            Fault::Usage,
+            "usage: nkctl rules|trace|simulate|run|generate N\n",
+        ),
+    ] {
+        let text = fault_text(rt.alloc(), &fault)?;
+        assert_eq!(rt; text.as_str(), line);
+    }
+    Ok(())
+}

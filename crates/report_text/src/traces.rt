@@ -1,0 +1,108 @@
+// The texts of traces.
+ghost use Rattle.std.specs.Prelude.{◌≡◌, ◌++◌, OnOk, IfOk, map, string_bytes};
+ghost use Rattle.std.specs.List.{flat_map};
+ghost use Rattle.nk_values.specs.Members.{SameMembers};
+ghost use Rattle.report_text.specs.Values.{line};
+ghost use Rattle.report_text.specs.Histories.{history_text};
+ghost use Rattle.report_text.specs.Traces.{Ascends, AreLinesOf, IsPacketText, AreTexts, IsPolicyText, IsTraceText};
+
+use crate::histories::put_history;
+use crate::text::Text;
+use crate::values::put_number;
+use nk_values::History;
+use packet_tracer::Walk;
+use std::alloc::{AllocError, Global};
+
+/// What becomes of packets under policies: for each policy the walks of the packets, in order. A packet has a
+/// line `done` for each finished history, and then a line `open` for each copy in flight, sorted by bytes,
+/// equal lines once.
+pub fn trace_text(alloc: Global, walks: &[Vec<Walk>]) -> Result<Text, AllocError>
+    ensures { IfOk result (λ t. IsTraceText (map (λ v. v.items) walks.now) t) }
+{
+    let mut out = String::new(alloc);
+    for (before, walks) in walks.iter().enumerate() {
+        let text = policy_text(alloc, before as u64 + 1, walks)?;
+        out.push_str(&text)?;
+    }
+    Ok(Text::new(out))
+}
+
+// The lines of a policy.
+fn policy_text(alloc: Global, policy: u64, walks: &[Walk]) -> Result<String, AllocError>
+    ensures { IfOk result (λ s. IsPolicyText policy walks.now (string_bytes s)) }
+{
+    let packets = packets_text(alloc, walks)?;
+    let mut out = String::from_str(alloc, "policy ")?;
+    put_number(alloc, &mut out, policy)?;
+    out.push_str("\n")?;
+    out.push_str(&packets)?;
+    Ok(out)
+}
+
+// The lines of packets.
+fn packets_text(alloc: Global, walks: &[Walk]) -> Result<String, AllocError>
+    ensures { IfOk result (λ s. AreTexts IsPacketText 0 walks.now (string_bytes s)) }
+{
+    let mut out = String::new(alloc);
+    for (before, walk) in walks.iter().enumerate() {
+        let text = packet_text(alloc, before as u64 + 1, walk)?;
+        out.push_str(&text)?;
+    }
+    Ok(out)
+}
+
+// The lines of a packet.
+fn packet_text(alloc: Global, packet: u64, walk: &Walk) -> Result<String, AllocError>
+    ensures { IfOk result (λ s. IsPacketText packet walk.now (string_bytes s)) }
+{
+    let done = lines(alloc, "done ", &walk.finished)?;
+    let open = lines(alloc, "open ", &walk.in_flight)?;
+    let mut out = String::from_str(alloc, "packet ")?;
+    put_number(alloc, &mut out, packet)?;
+    out.push_str("\n")?;
+    put_lines(&mut out, &done)?;
+    put_lines(&mut out, &open)?;
+    Ok(out)
+}
+
+// The lines of histories, each once, in byte order.
+fn lines(alloc: Global, head: &str, histories: &[History]) -> Result<Vec<String>, AllocError>
+    ensures { IfOk result (λ v. AreLinesOf head.now histories.now (map string_bytes v.items)) }
+{
+    let lines = all_lines(alloc, head, histories)?;
+    sorted(lines)
+}
+
+// The line of each history.
+fn all_lines(alloc: Global, head: &str, histories: &[History]) -> Result<Vec<String>, AllocError>
+    ensures { IfOk result (λ v. map string_bytes v.items ≡ map (λ h. head.now ++ history_text h) histories.now) }
+{
+    let mut lines = Vec::new(alloc);
+    for history in histories {
+        let mut line = String::from_str(alloc, head)?;
+        put_history(alloc, &mut line, history)?;
+        lines.push(line)?;
+    }
+    Ok(lines)
+}
+
+// The lines in byte order, equal ones once.
+fn sorted(mut lines: Vec<String>) -> Result<Vec<String>, AllocError>
+    ensures order { IfOk result (λ v. Ascends (map string_bytes v.items)) }
+    ensures members { IfOk result (λ v. SameMembers (map string_bytes v.items) (map string_bytes lines.items)) }
+{
+    lines.sort()?;
+    lines.dedup();
+    Ok(lines)
+}
+
+// Puts lines at the end.
+fn put_lines(out: &mut String, lines: &[String]) -> Result<(), AllocError>
+    ensures { OnOk result (string_bytes out.new ≡ string_bytes out.old ++ flat_map line (map string_bytes lines.now)) }
+{
+    for line in lines {
+        out.push_str(line)?;
+        out.push_str("\n")?;
+    }
+    Ok(())
+}
