@@ -1,5 +1,5 @@
 -- A policy whose pairs of field and value are within the limits of policy text names few values.
-use Rattle.std.proofs.Common.{◌≡◌, ◌≢◌, ℕ, ◌<◌, ◌≤◌, ◌⊎◌, inl, inr, Bool, true, false, cond, ◌==◌, ◌&&◌, ◌||◌, List, [], ◌∷◌, ◌++◌, length, refl, sym, ap, ◌∙◌, subst, arith}
+use Rattle.std.proofs.Common.{◌≡◌, ◌≢◌, ℕ, ◌+◌, ◌<◌, ◌≤◌, ◌⊎◌, inl, inr, Bool, true, false, cond, ◌==◌, ◌&&◌, ◌||◌, List, [], ◌∷◌, ◌++◌, length, refl, sym, ap, ◌∙◌, subst, arith}
 use Rattle.std.proofs.lemmas.Bool.{cases_lt, cases_Bool, and_parts}
 use Rattle.std.proofs.lemmas.Bool.Decides.{Decides-eqb, nat_tests}
 use Rattle.nk_values.specs.declared.field.Field.{Field}
@@ -52,11 +52,11 @@ is-literal f n = elim (cases_lt n (least_value f)) [
 ]
 
 -- the literals among the pairs
-with-lit : (f : Field) (n : ℕ) → IsLiteralOf f n ⊎ (¬ IsLiteralOf f n) → List Lit → List Lit
+abbrev with-lit : (f : Field) (n : ℕ) → IsLiteralOf f n ⊎ (¬ IsLiteralOf f n) → List Lit → List Lit
 with-lit f n (inl l) ls = record { field = f; value = n; literal = l } ∷ ls
 with-lit f n (inr l) ls = ls
 
-lits : Pairs → List Lit
+abbrev lits : Pairs → List Lit
 lits [] = []
 lits (x ∷ xs) = with-lit x.0 x.1 (is-literal x.0 x.1) (lits xs)
 

@@ -1,9 +1,12 @@
 -- Versions and walks, policy by policy.
-use Rattle.std.proofs.Common.{◌≡◌, ℕ, zero, suc, ◌+◌, ◌<◌, List, [], ◌∷◌, ◌++◌, length, take, drop, map, get_or, refl, sym, ap, ◌∙◌, subst, arith}
-use Rattle.std.proofs.lemmas.List.{take-append-drop, drop_more, take_all, length-take-le}
+use Rattle.std.proofs.Common.{◌≡◌, ℕ, zero, suc, ◌+◌, ◌<◌, ◌≤◌, inl, inr, List, [], ◌∷◌, ◌++◌, length, take, drop, map, get_or, refl, sym, ap, ◌∙◌, subst, arith}
+use Rattle.std.proofs.lemmas.List.{take-append-drop, drop_more, take_all, take_more, length-take-le}
 use Rattle.std.specs.declared.alloc.Global.{Global}
 use Rattle.std.specs.declared.vec.Vec.{Vec}
-use Rattle.nk_syntax.specs.Terms.{Term}
+use Rattle.nk_values.specs.Members.{IsIn}
+use Rattle.nk_syntax.specs.declared.pol.Pol.{Pol}
+use Rattle.nk_syntax.specs.Terms.{Term, Dup}
+use Rattle.nk_syntax.specs.Views.{term_of}
 use Rattle.topology_model.specs.Layouts.{Layout}
 use Rattle.document_text.specs.declared.document.PacketLine.{PacketLine}
 use Rattle.document_text.specs.declared.document.Settings.{Settings}
@@ -11,8 +14,11 @@ use Rattle.document_text.specs.Documents.{Doc}
 use Rattle.packet_tracer.specs.declared.flight.Walk.{Walk}
 use Rattle.packet_tracer.specs.declared.version.Version.{Version}
 use Rattle.report_text.specs.declared.fault.Fault.{Fault}
+use Rattle.controller_program.specs.declared.versions.PolicyError.{PolicyError}
+use Rattle.controller_program.specs.declared.versions.PolicyError.TheVariants as error
 use Rattle.controller_program.specs.Traces.{IsWalkOf, AreWalksOf, AreTraces}
 use Rattle.controller_program.specs.Versions.{IsVersion, AreVersions, IsPolicyFault, IsFirstPolicyFault}
+use Rattle.controller_program.specs.Views.{TellsFault, TellsFirst}
 
 pub versions_more : (t : Layout) (s : Settings) (k : ℕ) (ps : List Term) (vs : List Version) (p : Term) (v : Version) → AreVersions t s k ps vs → IsVersion t s (k + length ps) p v → AreVersions t s k (ps ++ p ∷ []) (vs ++ v ∷ [])
 versions_more t s k [] [] p v a h = (subst (λ n. IsVersion t s n p v) (omega arith) h, tt)
@@ -51,8 +57,40 @@ walks_more d p [] (x ∷ ws) l w a h = absurd a
 walks_more d p (m ∷ ls) [] l w a h = absurd a
 walks_more d p (m ∷ ls) (x ∷ ws) l w a h = (a.0, walks_more d p ls ws l w a.1 h)
 
-pub traces_more : (d : Doc) (ps : List Term) (wss : List (Vec Walk Global)) (p : Term) (ws : Vec Walk Global) → AreTraces d ps wss → AreWalksOf d p d.packets ws.items → AreTraces d (ps ++ p ∷ []) (wss ++ ws ∷ [])
+pub traces_more : (d : Doc) (ps : List Term) (wss : List (Vec Walk Global)) (p : Term) (ws : Vec Walk Global) → AreTraces d ps (map (λ v. v.items) wss) → AreWalksOf d p d.packets ws.items
+    → AreTraces d (ps ++ p ∷ []) (map (λ v. v.items) (wss ++ ws ∷ []))
 traces_more d [] [] p ws a h = (h, tt)
 traces_more d [] (x ∷ wss) p ws a h = absurd a
 traces_more d (q ∷ ps) [] p ws a h = absurd a
 traces_more d (q ∷ ps) (x ∷ wss) p ws a h = (a.0, traces_more d ps wss p ws a.1 h)
+
+pub traces_step : (d : Doc) (ps : List Term) (i : ℕ) (wss : List (Vec Walk Global)) (ws : Vec Walk Global) → i < length ps → AreTraces d (take i ps) (map (λ v. v.items) wss) → AreWalksOf d (get_or ps i Dup) d.packets ws.items
+    → AreTraces d (take (i + 1) ps) (map (λ v. v.items) (wss ++ ws ∷ []))
+traces_step d ps i wss ws h a w = subst (λ qs. AreTraces d qs (map (λ v. v.items) (wss ++ ws ∷ []))) (sym (take_more ps i Dup h)) (traces_more d (take i ps) wss (get_or ps i Dup) ws a w)
+
+pub traces_end : (d : Doc) (ps : List Term) (i : ℕ) (wss : List (List Walk)) → length ps ≤ i → AreTraces d (take i ps) wss → AreTraces d ps wss
+traces_end d ps i wss h a = subst (λ qs. AreTraces d qs wss) (take_all i ps h) a
+
+-- an element of a list
+pub at_place : {X : Type 0} (xs : List X) (k : ℕ) (d : X) → k < length xs → IsIn xs (get_or xs k d)
+at_place [] k d h = absurd (omega (arith, h))
+at_place (x ∷ xs) zero d h = inl refl
+at_place (x ∷ xs) (suc k) d h = inr (at_place xs k d (omega (arith, h)))
+
+-- the term of a policy of a list
+pub term_at : (items : List Pol) (k : ℕ) (p : Pol) → k < length items → p ≡ get_or items k p → (term_of p ≡ get_or (map term_of items) k (term_of p)) × (k < length (map term_of items))
+term_at [] k p h e = absurd (omega (arith, h))
+term_at (x ∷ xs) zero p h e = (ap term_of e, omega (arith, h))
+term_at (x ∷ xs) (suc k) p h e = let r = term_at xs k p (omega (arith, h)) e in (r.0, omega (arith, r.1))
+
+pub versions_step : (t : Layout) (s : Settings) (ps : List Term) (i : ℕ) (vs : List Version) (p : Term) (v : Version) → i < length ps → p ≡ get_or ps i p → AreVersions t s 0 (take i ps) vs → IsVersion t s i p v → AreVersions t s 0 (take (i + 1) ps) (vs ++ v ∷ [])
+versions_step t s ps i vs p v h e a b =
+    let all : take (i + 1) ps ≡ take i ps ++ p ∷ [] = take_more ps i p h ∙ ap (λ q. take i ps ++ q ∷ []) (sym e) in
+    let cut = length-take-le i ps (omega (arith, h)) in
+    let same : i ≡ 0 + length (take i ps) = omega (arith, cut) in
+    let here : IsVersion t s (0 + length (take i ps)) p v = subst (λ n. IsVersion t s n p v) same b in
+    subst (λ qs. AreVersions t s 0 qs (vs ++ v ∷ [])) (sym all) (versions_more t s 0 (take i ps) vs p v a here)
+
+pub first_told : (t : Layout) (s : Settings) (ps : List Term) (i : ℕ) (p : Term) (vs : List Version) (e : PolicyError) → i < length ps → p ≡ get_or ps i p → AreVersions t s 0 (take i ps) vs → TellsFault t s i p e → TellsFirst t s ps e
+first_told t s ps i p vs error.Memory h g a b = tt
+first_told t s ps i p vs (error.Fault f) h g a b = first_fault t s ps i p vs f h g a b

@@ -1,5 +1,5 @@
 // The policies of a document, compiled and put into rows.
-ghost use Rattle.std.specs.Prelude.{◌≡◌, IfOk, IfErr};
+ghost use Rattle.std.specs.Prelude.{◌≡◌, ◌<◌, ◌-◌, ◌^◌, IfOk, IfErr};
 ghost use Rattle.nk_values.specs.Tags.{IsVlanId};
 ghost use Rattle.nk_syntax.specs.Terms.{Term};
 ghost use Rattle.nk_syntax.specs.Views.{term_of};
@@ -58,13 +58,10 @@ pub fn versions(alloc: Global, document: &Document) -> Result<Vec<Version>, Poli
 {
     let mut versions = Vec::new(alloc);
     for (place, pol) in document.policies.iter().enumerate() {
-        versions.push(version(
-            alloc,
-            &document.topology,
-            &document.settings,
-            place,
-            pol,
-        )?)?;
+        match version(alloc, &document.topology, &document.settings, place, pol) {
+            Ok(version) => versions.push(version)?,
+            Err(error) => return Err(error),
+        }
     }
     Ok(versions)
 }
@@ -79,6 +76,7 @@ fn version(
 ) -> Result<Version, PolicyError>
     requires few { AreFewNamed (TermNames (term_of pol.now)) }
     requires stamps { AreStamps settings.now }
+    requires place { place < 2 ^ 64 - 1 }
     ensures version { IfOk result (IsVersion topology.now settings.now place (term_of pol.now)) }
     ensures fault { IfErr result (TellsFault topology.now settings.now place (term_of pol.now)) }
 {

@@ -1,5 +1,5 @@
 // The walks of a document's packets.
-ghost use Rattle.std.specs.Prelude.{◌≡◌, ◌<◌, IfOk};
+ghost use Rattle.std.specs.Prelude.{◌≡◌, ◌<◌, IfOk, map};
 ghost use Rattle.nk_syntax.specs.Terms.{Term};
 ghost use Rattle.document_text.specs.Answers.{doc_of};
 ghost use Rattle.packet_tracer.specs.Means.{RowsMean};
@@ -21,7 +21,7 @@ pub fn walks(
 ) -> Result<Vec<Vec<Walk>>, AllocError>
     requires sound { IsSound (doc_of document.now) }
     requires versions { AreVersions document.now.topology document.now.settings 0 (policies_of document.now) versions.now }
-    ensures { IfOk result (λ wss. AreTraces (doc_of document.now) (policies_of document.now) wss.items) }
+    ensures { IfOk result (λ wss. AreTraces (doc_of document.now) (policies_of document.now) (map (λ ws. ws.items) wss.items)) }
 {
     let mut walks = Vec::new(alloc);
     for version in versions {
