@@ -2,6 +2,7 @@ pub mod Chains
 pub mod Digits
 pub mod Joined
 pub mod Literals
+pub mod Naming
 pub mod SameLits
 pub mod Exits
 pub mod Values

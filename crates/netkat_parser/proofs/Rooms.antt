@@ -15,7 +15,7 @@ Names = List (Field × ℕ)
 abbrev proto_count : Field × ℕ → ℕ
 proto_count pair = cond (place pair.0 == place IpProto) 1 0
 
-protos-push : (named : Names) (f : Field) (n : ℕ) → protos (named ++ (f, n) ∷ []) ≡ protos named + proto_count (f, n)
+pub protos-push : (named : Names) (f : Field) (n : ℕ) → protos (named ++ (f, n) ∷ []) ≡ protos named + proto_count (f, n)
 protos-push named f n = sum_by-append proto_count named ((f, n) ∷ []) ∙ ap (λ k. protos named + k) (omega arith)
 
 -- a list with one more is roomy only if it was

@@ -1,9 +1,9 @@
 -- Laws of the grammar.
-use Rattle.std.specs.Prelude.{◌≡◌, ℕ, List}
+use Rattle.std.specs.Prelude.{◌≡◌, ℕ, List, []}
 use Rattle.nk_syntax.specs.Terms.{Term}
 use Rattle.nk_syntax.specs.Prints.{term_text}
 use Rattle.netkat_parser.specs.Grammar.{Got, IsReading, IsText}
-use Rattle.netkat_parser.specs.Printed.{HasLiterals, IsPrintable}
+use Rattle.netkat_parser.specs.Printed.{HasLiterals, IsPrintable, IsRoomy, term_named}
 use Rattle.nk_syntax.specs.declared.pol.Pol.{Pol}
 use Rattle.nk_syntax.specs.Views.{term_of}
 
@@ -22,3 +22,7 @@ ReadBack = (p : Term) → HasLiterals p → IsPrintable p → IsText (term_text 
 -- The numbers in a `Pol` are such literals, so the text of each policy within the limits is read as the policy.
 abbrev pub ReadBackPol : Type 0
 ReadBackPol = (pol : Pol) → IsPrintable (term_of pol) → IsText (term_text (term_of pol)) (term_of pol)
+
+-- The pairs of field and value that a text's policy names are within the limits.
+abbrev pub NamesFew : Type 0
+NamesFew = (text : List ℕ) (p : Term) → IsText text p → IsRoomy (term_named p [])

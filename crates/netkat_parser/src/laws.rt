@@ -1,5 +1,5 @@
 // Laws of the grammar, as contracts.
-ghost use Rattle.netkat_parser.specs.Laws.{OneOutcome, OneReading, ReadBack, ReadBackPol};
+ghost use Rattle.netkat_parser.specs.Laws.{NamesFew, OneOutcome, OneReading, ReadBack, ReadBackPol};
 
 /// A text has one outcome: one policy, or one fault at one place. So it has at most one reading.
 pub fn one_reading()
@@ -13,4 +13,9 @@ pub fn one_reading()
 pub fn read_back()
     ensures term { ReadBack }
     ensures policy { ReadBackPol }
+{}
+
+/// A policy that was read names at most 2,000 pairs of field and value, at most 100 with ipProto.
+pub fn names_few()
+    ensures { NamesFew }
 {}

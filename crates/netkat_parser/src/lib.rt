@@ -5,7 +5,7 @@ pub mod fault;
 pub mod laws;
 mod leaf;
 mod named;
-mod number;
+pub mod number;
 pub mod parse;
 mod parser;
 mod sign;

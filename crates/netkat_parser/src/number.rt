@@ -6,8 +6,8 @@ ghost use Rattle.netkat_parser.specs.Numbers.{digits_form, numeral, at_most, byt
 
 use nk_values::{Field, Lit};
 
-// The greatest number of any field.
-const GREATEST: u64 = 0xffff_ffff_ffff;
+/// The greatest number of any field.
+pub const GREATEST: u64 = 0xffff_ffff_ffff;
 
 /// A byte of an address: two hexadecimal digits, or 1 to 3 decimal digits up to 255.
 #[derive(Clone, Copy, Debug, PartialEq, Eq)]
@@ -38,14 +38,25 @@ pub fn literal(field: Field, run: &[u8]) -> Option<Lit>
     }
 }
 
-// The number that a run writes for a field, where it is at most the greatest of any field.
-fn number(field: Field, run: &[u8]) -> Option<u64>
+/// The number that a run writes for a field, where it is at most the greatest of any field.
+pub fn number(field: Field, run: &[u8]) -> Option<u64>
     ensures { IsUpTo GREATEST (number field run.now) result }
 {
     match behind_0x(run) {
         Some(digits) => numeral(16, 1, 16, GREATEST, digits),
         None if is_decimal(run) => numeral(10, 1, 20, GREATEST, run),
         None => address(field, run),
+    }
+}
+
+/// Whether a run has one of the field's forms, however great its number is.
+pub fn has_form(field: Field, run: &[u8]) -> bool
+    ensures { result ≡ is_some (number field run.now) }
+{
+    match behind_0x(run) {
+        Some(digits) => is_numeral(16, 1, 16, digits),
+        None if is_decimal(run) => is_numeral(10, 1, 20, run),
+        None => address(field, run).is_some(),
     }
 }
 
@@ -94,8 +105,8 @@ fn joined(part: Part, sign: u8, more: u32, text: &[u8]) -> Option<u64>
     Some(256 * value + byte)
 }
 
-// What stands before the first such byte, and behind it.
-fn cut(text: &[u8], at: u8) -> (&[u8], &[u8])
+/// What stands before the first such byte, and behind it.
+pub fn cut(text: &[u8], at: u8) -> (&[u8], &[u8])
     ensures before { result.0.now ≡ before_first (λ b. b == at) text.now }
     ensures after { result.1.now ≡ after_first (λ b. b == at) text.now }
 {
@@ -107,8 +118,30 @@ fn cut(text: &[u8], at: u8) -> (&[u8], &[u8])
     }
 }
 
-// The number of `least` to `most` digits in a base, where it is at most `high`.
-fn numeral(base: u64, least: usize, most: usize, high: u64, digits: &[u8]) -> Option<u64>
+/// Whether these are `least` to `most` digits in a base.
+pub fn is_numeral(base: u64, least: usize, most: usize, digits: &[u8]) -> bool
+    requires base { 2 ≤ base }
+    requires hexadecimal { base ≤ 16 }
+    ensures { result ≡ is_some (numeral base least most digits.now) }
+{
+    digits.len() >= least && digits.len() <= most && are_digits(base, digits)
+}
+
+fn are_digits(base: u64, digits: &[u8]) -> bool
+    requires base { 2 ≤ base }
+    requires hexadecimal { base ≤ 16 }
+    ensures { result ≡ is_some (digits_form base digits.now) }
+{
+    for byte in digits {
+        if digit(base, *byte).is_none() {
+            return false;
+        }
+    }
+    true
+}
+
+/// The number of `least` to `most` digits in a base, where it is at most `high`.
+pub fn numeral(base: u64, least: usize, most: usize, high: u64, digits: &[u8]) -> Option<u64>
     requires base { 2 ≤ base }
     requires hexadecimal { base ≤ 16 }
     requires high { high ≤ GREATEST }
@@ -154,8 +187,8 @@ fn digit(base: u64, byte: u8) -> Option<u64>
     }
 }
 
-// The index of the first such byte, or the text's length.
-fn index_of(text: &[u8], at: u8) -> usize
+/// The index of the first such byte, or the text's length.
+pub fn index_of(text: &[u8], at: u8) -> usize
     ensures index { result ≡ position_or_len (λ b. b == at) text.now }
     ensures within { result ≤ length text.now }
 {

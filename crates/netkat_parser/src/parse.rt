@@ -87,8 +87,8 @@ fn located(text: &[u8], begin: Place, fault: Fault, at: &[u8]) -> ParseFault
     }
 }
 
-// The place behind a text that begins at a place.
-fn place_behind(begin: Place, front: &[u8]) -> Place
+/// The place behind a text that begins at a place.
+pub fn place_behind(begin: Place, front: &[u8]) -> Place
     requires lines { begin.line + length front.now < 2 ^ 64 }
     requires columns { begin.column + length front.now < 2 ^ 64 }
     ensures { result ≡ place_behind begin front.now }
