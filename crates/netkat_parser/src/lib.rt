@@ -8,7 +8,7 @@ mod named;
 pub mod number;
 pub mod parse;
 mod parser;
-mod sign;
+pub mod sign;
 mod stop;
 mod taken;
 #[cfg(test)]

@@ -90,7 +90,8 @@ fn is_blank(byte: u8) -> bool
     matches!(byte, b' ' | b'\t' | b'\r' | b'\n')
 }
 
-fn is_run_byte(byte: u8) -> bool
+/// A letter, a digit, `.` or `:`.
+pub fn is_run_byte(byte: u8) -> bool
     ensures { result ≡ is_run_byte byte }
 {
     byte.is_ascii_alphanumeric() || byte == b'.' || byte == b':'
