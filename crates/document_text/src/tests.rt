@@ -1,5 +1,5 @@
 // Documents by example.
-use crate::document::{Document, Event};
+use crate::document::{Document, Event, ScheduleLine};
 use crate::fault::{DocumentError, Fault};
 use crate::read::read_document;
 use netkat_parser::fault::Fault as TextFault;
@@ -300,12 +300,20 @@ fn reads_all_kinds(rt: HostRuntime) -> Result<(), Fail> {
     assert_eq!(rt; document.policies.len(), 2);
     assert_eq!(rt; document.settings.hops, 1000);
     assert_eq!(rt; document.settings.stamps, (7, 8));
+    assert_eq!(rt; document.packets.len(), 1);
     assert_eq!(rt; document.packets[0].packet.header.eth_dst, 256);
     assert_eq!(rt; document.packets[0].tag.id(), Some(4094));
     assert_eq!(rt; document.schedule.len(), 5);
-    assert_eq!(rt; document.schedule[2].line, 18);
-    assert_eq!(rt; document.schedule[2].event, Event::Apply(2, 4_294_967_295));
-    assert_eq!(rt; document.schedule[3].event, Event::Arrive(1));
+    let third = ScheduleLine {
+        line: 18,
+        event: Event::Apply(2, 4_294_967_295),
+    };
+    let fourth = ScheduleLine {
+        line: 19,
+        event: Event::Arrive(1),
+    };
+    assert_eq!(rt; document.schedule.get(2).copied(), Some(third));
+    assert_eq!(rt; document.schedule.get(3).copied(), Some(fourth));
     Ok(())
 }
 
