@@ -1,0 +1,11 @@
+pub mod Holding
+pub mod Limits
+pub mod Named
+pub mod Numerals
+pub mod Pieces
+pub mod Ranged
+pub mod Readings
+pub mod Settled
+pub mod Sound
+pub mod Turning
+pub mod Unique

@@ -1,0 +1,54 @@
+-- From lines to whole texts.
+use Rattle.std.proofs.Common.{◌≡◌, ℕ, zero, suc, ◌+◌, ◌<◌, ◌≤◌, Bool, true, false, cond, nat_le, nat_lt, List, [], ◌∷◌, length, take, Result, Ok, Err, refl, sym, ap, ◌∙◌, subst, arith}
+use Rattle.std.proofs.lemmas.Bool.Decides.{nat_tests}
+use Rattle.document_text.specs.declared.document.Document.{Document}
+use Rattle.document_text.specs.declared.fault.DocFault.{DocFault}
+use Rattle.document_text.specs.declared.fault.DocumentError.{DocumentError}
+use Rattle.document_text.specs.declared.fault.DocumentError.TheVariants.{Fault, Memory}
+use Rattle.document_text.specs.declared.fault.Fault.TheVariants.{Limit}
+use Rattle.document_text.specs.Documents.{Outcome, Accepted, Refused}
+use Rattle.document_text.specs.States.{start}
+use Rattle.document_text.specs.Texts.{lines_of}
+use Rattle.document_text.specs.Grammar.{Lines, IsFrom, IsReading, most_bytes, line_behind, cut_off, within_limit, refused_at}
+use Rattle.document_text.specs.Answers.{Answers, IsAnswer, Cuts, limit_at, doc_of}
+use Rattle.document_text.proofs.Pieces.{take-all}
+use Rattle.document_text.proofs.Unique.{reading-one}
+
+lines-whole : (m : ℕ) (text : List ℕ) (o : Outcome) → length text ≤ m → IsFrom (Lines start) 1 (lines_of text) o → IsFrom (Lines start) 1 (lines_of (take (m + 1) text)) o
+lines-whole m text o h k = subst (λ t. IsFrom (Lines start) 1 (lines_of t) o) (sym (take-all (m + 1) text (omega (arith, h)))) k
+
+le-true : (m n : ℕ) → m ≤ n → nat_le m n ≡ true
+le-true m n h = grind (arith, nat_tests)
+
+le-false : (m n : ℕ) → n < m → nat_le m n ≡ false
+le-false m n h = grind (arith, nat_tests)
+
+within-small : (text : List ℕ) (o : Outcome) → length text ≤ most_bytes → o ≡ within_limit text o
+within-small text o h = rw (le-true (length text) most_bytes h) refl
+
+within-large : (text : List ℕ) (o : Outcome) → most_bytes < length text → cut_off (line_behind (take most_bytes text)) o ≡ within_limit text o
+within-large text o h = rw (le-false (length text) most_bytes h) refl
+
+pub reading-small : (text : List ℕ) (r : Result Document DocumentError) → length text ≤ most_bytes
+    → Answers (IsFrom (Lines start) 1 (lines_of text)) r → Answers (IsReading text) r
+reading-small text (Ok d) h k = (Accepted (doc_of d), lines-whole most_bytes text (Accepted (doc_of d)) h k, within-small text (Accepted (doc_of d)) h)
+reading-small text (Err (Fault f)) h k = (Refused f, lines-whole most_bytes text (Refused f) h k, within-small text (Refused f) h)
+reading-small text (Err Memory) h k = tt
+
+by-line : (n : ℕ) (f : DocFault) (b : Bool) → Refused (cond b f (limit_at n)) ≡ cond b (Refused f) (refused_at n Limit)
+by-line n f true = refl
+by-line n f false = refl
+
+pub reading-large : (text : List ℕ) (w : Result Document DocumentError) (e : DocumentError) → most_bytes < length text
+    → Answers (IsFrom (Lines start) 1 (lines_of (take (most_bytes + 1) text))) w → Cuts (line_behind (take most_bytes text)) w e → Answers (IsReading text) (Err e)
+reading-large text (Ok d) e h k c =
+    subst (λ x. Answers (IsReading text) (Err x)) (sym c) (Accepted (doc_of d), k, within-large text (Accepted (doc_of d)) h)
+reading-large text (Err (Fault f)) e h k c =
+    let n = line_behind (take most_bytes text) in
+    subst (λ x. Answers (IsReading text) (Err x)) (sym c) (Refused f, k, by-line n f (nat_lt f.line n) ∙ within-large text (Refused f) h)
+reading-large text (Err Memory) e h k c = subst (λ x. Answers (IsReading text) (Err x)) (sym c) tt
+
+pub answer-one : (text : List ℕ) (r : Result Document DocumentError) → Answers (IsReading text) r → (o : Outcome) → IsReading text o → IsAnswer o r
+answer-one text (Ok d) h o k = reading-one text o (Accepted (doc_of d)) k h
+answer-one text (Err (Fault f)) h o k = reading-one text o (Refused f) k h
+answer-one text (Err Memory) h o k = tt

@@ -1,0 +1,185 @@
+-- What the answers of the reader stand for.
+use Rattle.std.specs.Prelude.{◌≡◌, ◌+◌, ◌⊎◌, ⊤, ℕ, Bool, true, false, nat_lt, if◌then◌else◌, List, [], map, Option, Some, None, Result, Ok, Err, option_map}
+use Rattle.std.specs.Borrow.{Bor}
+use Rattle.nk_values.specs.Packets.{IsWellShaped}
+use Rattle.nk_syntax.specs.Terms.{Term}
+use Rattle.nk_syntax.specs.Views.{term_of}
+use Rattle.topology_model.specs.Layouts.{Layout}
+use Rattle.document_text.specs.declared.block.Block.{Block}
+use Rattle.document_text.specs.declared.document.Document.{Document}
+use Rattle.document_text.specs.declared.fault.Fault.{Fault}
+use Rattle.document_text.specs.declared.fault.Fault.TheVariants.{BadLine, Limit, Text, Topology}
+use Rattle.netkat_parser.specs.declared.fault.Fault.TheVariants.{ValueRange}
+use Rattle.document_text.specs.Schedules.{at_switch}
+use Rattle.document_text.specs.declared.document.Event.{Event}
+use Rattle.document_text.specs.declared.packet.Given.{Given}
+use Rattle.document_text.specs.Packets as packets
+use Rattle.topology_model.specs.declared.fault.TopoFault.TheVariants.{NoEdge}
+use Rattle.document_text.specs.declared.fault.DocFault.{DocFault}
+use Rattle.document_text.specs.declared.fault.DocumentError.{DocumentError}
+use Rattle.document_text.specs.declared.fault.DocumentError.TheVariants as document
+use Rattle.document_text.specs.declared.fault.Stop.{Stop}
+use Rattle.document_text.specs.declared.fault.Stop.TheVariants as stop
+use Rattle.document_text.specs.declared.told.Told.{Told}
+use Rattle.document_text.specs.declared.reader.Reader.{Reader}
+use Rattle.document_text.specs.declared.reader.Taken.{Taken}
+use Rattle.document_text.specs.declared.reader.Taken.TheVariants.{Line, Opening}
+use Rattle.document_text.specs.Documents.{Doc, Outcome, Accepted, Refused}
+use Rattle.document_text.specs.States.{State, with_policy}
+use Rattle.document_text.specs.Steps.{Step, Next, Enters, Opens, Stops}
+use Rattle.document_text.specs.Grammar as grammar
+use Rattle.netkat_parser.specs.declared.fault.ParseFault.{ParseFault}
+use Rattle.netkat_parser.specs.Grammar.{IsText}
+use Rattle.netkat_parser.specs.Places.{HasFault}
+use Rattle.document_text.specs.Grammar.{LacksEnd, IsFrom, IsReading, line_start, refused_in}
+use Rattle.document_text.specs.Texts.{lines_of}
+
+-- the words that references point to
+abbrev pub texts : List (Bor (List ℕ)) → List (List ℕ)
+texts ws = map (λ w. w.now) ws
+
+-- a topology and what lines have told beside it
+abbrev pub state : Layout → Told → State
+state t told = record {
+  reached = told.reached;
+  layout = t;
+  hops = told.hops;
+  capacity = told.capacity;
+  stamps = told.stamps;
+  policies = map term_of told.policies.items;
+  packets = told.packets.items;
+  inside = told.inside;
+  events = told.events.items;
+}
+
+abbrev pub state_of : Reader → State
+state_of r = state r.draft r.told
+
+-- the answer is this value or fault, unless memory ran out
+abbrev pub Matches : {A B : Type 0} → (A → B) → Result B Fault → Result A Stop → Type 0
+Matches view r (Ok a) = r ≡ Ok (view a)
+Matches view r (Err (stop.Fault f)) = r ≡ Err f
+Matches view r (Err stop.Memory) = ⊤
+
+-- the value of a form, or none, unless memory ran out
+abbrev pub Forms : {A B : Type 0} → (A → B) → Option B → Result A Stop → Type 0
+Forms view o (Ok a) = o ≡ Some (view a)
+Forms view o (Err (stop.Fault f)) = (o ≡ None) × (f ≡ BadLine)
+Forms view o (Err stop.Memory) = ⊤
+
+-- the tests let pass what follows, or stop at a fault, unless memory ran out
+abbrev pub Lets : {A U : Type 0} → (Result A Fault → Result A Fault) → Result U Stop → Type 0
+Lets {A} tests (Ok u) = (r : Result A Fault) → tests r ≡ r
+Lets {A} tests (Err (stop.Fault f)) = (r : Result A Fault) → tests r ≡ Err f
+Lets tests (Err stop.Memory) = ⊤
+
+-- some port has no link, unless memory ran out; or none has
+abbrev pub FindsEdge : {U : Type 0} → Bool → Result U Stop → Type 0
+FindsEdge b (Ok u) = b ≡ true
+FindsEdge b (Err (stop.Fault f)) = (b ≡ false) × (f ≡ Topology NoEdge)
+FindsEdge b (Err stop.Memory) = ⊤
+
+-- a value of which P holds where the test does, and else out of range, unless memory ran out
+abbrev pub Ranges : {A : Type 0} → Bool → (A → Type 0) → Result A Stop → Type 0
+Ranges b P (Ok a) = (b ≡ true) × P a
+Ranges b P (Err (stop.Fault f)) = (b ≡ false) × (f ≡ Text ValueRange)
+Ranges b P (Err stop.Memory) = ⊤
+
+-- the number is that of a declared switch, for any event
+abbrev pub NamesSwitch : State → ℕ → Result ℕ Stop → Type 0
+NamesSwitch s n (Ok sw) = (sw ≡ n) × ((e : Event) → at_switch s n e ≡ Ok e)
+NamesSwitch s n (Err (stop.Fault f)) = (e : Event) → at_switch s n e ≡ Err f
+NamesSwitch s n (Err stop.Memory) = ⊤
+
+-- the step leads to this state, opens a policy's text there, or stops
+abbrev pub IsNext : Step → State → Type 0
+IsNext (Next s) t = t ≡ s
+IsNext (Enters p s) t = IsWellShaped p.packet × (t ≡ s)
+IsNext _ t = ⊥
+
+abbrev pub IsOpening : Step → State → Type 0
+IsOpening (Opens s) t = t ≡ s
+IsOpening _ t = ⊥
+
+abbrev pub IsStop : Step → Fault → Type 0
+IsStop (Stops g) f = f ≡ g
+IsStop (Enters p s) f = (IsWellShaped p.packet → ⊥) × (f ≡ BadLine)
+IsStop _ f = ⊥
+
+abbrev pub Takes : Step → Result Taken Stop → Type 0
+Takes x (Ok (Line r)) = IsNext x (state_of r)
+Takes x (Ok (Opening r)) = IsOpening x (state_of r)
+Takes x (Err (stop.Fault f)) = IsStop x f
+Takes x (Err stop.Memory) = ⊤
+
+-- what the words of a packet line have given
+abbrev pub given_of : Given → packets.Given
+given_of g = record { names = texts g.names.keys; packet = g.packet; tag = g.tag; unknown = g.unknown; outside = g.outside }
+
+-- what was given is this, or the word is at fault, unless memory ran out
+abbrev pub Gives : {U : Type 0} → Option packets.Given → packets.Given → Result U Stop → Type 0
+Gives o g (Ok u) = o ≡ Some g
+Gives o g (Err (stop.Fault f)) = (o ≡ None) × (f ≡ BadLine)
+Gives o g (Err stop.Memory) = ⊤
+
+-- what the lines of a policy's block leave to show: that its text closes, or lacks its `end`
+abbrev pub RemainsBehind : State → ℕ → Outcome → ℕ → List ℕ → Option (Bor (List ℕ)) → Type 0
+RemainsBehind s begin o lines text (Some rest) = grammar.Closes (λ m. IsFrom m (begin + lines + 1) (lines_of rest.now) o) o s begin text
+RemainsBehind s begin o lines text None = LacksEnd (begin + lines) begin text o
+
+abbrev pub Remains : State → ℕ → Outcome → Block → Type 0
+Remains s begin o b = RemainsBehind s begin o b.lines b.text.now b.rest
+
+abbrev pub doc_of : Document → Doc
+doc_of d = record {
+  layout = d.topology;
+  policies = map term_of d.policies.items;
+  packets = d.packets.items;
+  settings = d.settings;
+  schedule = d.schedule.items;
+}
+
+-- the outcome is this answer's, unless memory ran out
+abbrev pub Answers : (Outcome → Type 0) → Result Document DocumentError → Type 0
+Answers Is (Ok d) = Is (Accepted (doc_of d))
+Answers Is (Err (document.Fault f)) = Is (Refused f)
+Answers Is (Err document.Memory) = ⊤
+
+-- the answer is this outcome, unless memory ran out
+abbrev pub IsAnswer : Outcome → Result Document DocumentError → Type 0
+IsAnswer o (Ok d) = o ≡ Accepted (doc_of d)
+IsAnswer o (Err (document.Fault f)) = o ≡ Refused f
+IsAnswer o (Err document.Memory) = ⊤
+
+-- one turn of the reader: what comes of the lines behind comes of those from here on
+abbrev pub Turns : Reader → ℕ → List ℕ → Result (Reader × ℕ × Bor (List ℕ)) DocumentError → Type 0
+Turns r n text (Ok x) = (o : Outcome) → IsFrom (grammar.Lines (state_of x.0)) x.1 (lines_of x.2.now) o → IsFrom (grammar.Lines (state_of r)) n (lines_of text) o
+Turns r n text (Err (document.Fault f)) = IsFrom (grammar.Lines (state_of r)) n (lines_of text) (Refused f)
+Turns r n text (Err document.Memory) = ⊤
+
+-- the policy of a text stands behind the others, or the text has a fault, unless memory ran out
+abbrev pub AddsPolicy : State → ℕ → List ℕ → Result Reader DocumentError → Type 0
+AddsPolicy s begin text (Ok r) = (p : Term) × IsText text p × (state_of r ≡ with_policy s p)
+AddsPolicy s begin text (Err (document.Fault f)) = (g : ParseFault) × HasFault (line_start begin) text g × (Refused f ≡ refused_in g)
+AddsPolicy s begin text (Err document.Memory) = ⊤
+
+-- the text lacks its end, or has this fault before, unless memory ran out
+abbrev pub LacksAnswer : ℕ → ℕ → List ℕ → DocumentError → Type 0
+LacksAnswer n begin text (document.Fault f) = LacksEnd n begin text (Refused f)
+LacksAnswer n begin text document.Memory = ⊤
+
+-- a policy's text, and what comes of the lines behind it
+abbrev pub Closes : State → ℕ → Block → Result (Reader × ℕ × Bor (List ℕ)) DocumentError → Type 0
+Closes s begin b (Ok x) = (o : Outcome) → IsFrom (grammar.Lines (state_of x.0)) x.1 (lines_of x.2.now) o → Remains s begin o b
+Closes s begin b (Err (document.Fault f)) = Remains s begin (Refused f) b
+Closes s begin b (Err document.Memory) = ⊤
+
+-- the fault of a text that has too many bytes, at the line of the first of these
+abbrev pub limit_at : ℕ → DocFault
+limit_at n = record { fault = Limit; line = n; column = 1 }
+
+-- a fault before this line stands, and else the text has too many bytes
+abbrev pub Cuts : ℕ → Result Document DocumentError → DocumentError → Type 0
+Cuts n (Ok d) e = e ≡ document.Fault (limit_at n)
+Cuts n (Err (document.Fault f)) e = e ≡ document.Fault (if nat_lt f.line n then f else limit_at n)
+Cuts n (Err document.Memory) e = e ≡ document.Memory

@@ -1,0 +1,11 @@
+pub mod Answers
+pub mod Documents
+pub mod Faults
+pub mod Grammar
+pub mod Laws
+pub mod Lines
+pub mod Packets
+pub mod Schedules
+pub mod States
+pub mod Steps
+pub mod Texts

@@ -1,0 +1,55 @@
+// What a document says.
+use nk_syntax::Pol;
+use nk_values::{Packet, Tag};
+use topology_model::Topology;
+
+/// A packet that a host sends, and its tag.
+#[derive(Clone, Copy, Debug, PartialEq, Eq)]
+pub struct PacketLine {
+    pub packet: Packet,
+    pub tag: Tag,
+}
+
+/// The hop limit, the rows that a switch has room for, and the first and last stamp of the policies.
+#[derive(Clone, Copy, Debug, PartialEq, Eq)]
+pub struct Settings {
+    pub hops: u32,
+    pub capacity: u32,
+    pub stamps: (u16, u16),
+}
+
+/// A command of a schedule. Switches go by their numbers, packet lines count from 1, and flow mods and
+/// flights from 0.
+#[derive(Clone, Copy, Debug, PartialEq, Eq)]
+pub enum Event {
+    Begin,
+    Send(u16),
+    Take(u16),
+    Apply(u16, u32),
+    Reply(u16),
+    Heard(u16),
+    Arrive(usize),
+    Hop(u32),
+    Drained(u16),
+    Lost(u16),
+    Stuck(u32),
+    Settle,
+    Flow,
+}
+
+/// A command with the number of its line.
+#[derive(Clone, Copy, Debug, PartialEq, Eq)]
+pub struct ScheduleLine {
+    pub line: u64,
+    pub event: Event,
+}
+
+/// A document: the topology, the policies from the first on, the packets, the settings and the schedule.
+#[derive(Drop)]
+pub struct Document {
+    pub topology: Topology,
+    pub policies: Vec<Pol>,
+    pub packets: Vec<PacketLine>,
+    pub settings: Settings,
+    pub schedule: Vec<ScheduleLine>,
+}

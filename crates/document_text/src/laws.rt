@@ -1,0 +1,14 @@
+// Laws of the grammar, as contracts.
+ghost use Rattle.document_text.specs.Laws.{OneOutcome, Within};
+
+/// A text has one outcome: one document, or one fault at one place.
+pub fn one_outcome()
+    ensures { OneOutcome }
+{}
+
+/// A document that was read is within the limits: its settings are in their ranges, it has 1 to 64
+/// policies, each packet is well shaped and arrives at a port without a link, and events name switches
+/// and packet lines that there are.
+pub fn within()
+    ensures { Within }
+{}

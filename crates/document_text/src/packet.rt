@@ -1,0 +1,249 @@
+// Packet lines.
+ghost use Rattle.std.specs.Prelude.{◌≡◌, true, map, IfOk};
+ghost use Rattle.std.specs.List.{find, list_all};
+ghost use Rattle.std.specs.Char.{is_ascii_alphanumeric};
+ghost use Rattle.netkat_parser.specs.Signs.{is_run_byte};
+ghost use Rattle.std.specs.Str.{bytes_eq};
+ghost use Rattle.nk_syntax.specs.Prints.{name_of};
+ghost use Rattle.document_text.specs.declared.document.PacketLine.{PacketLine as Line};
+ghost use Rattle.document_text.specs.Packets.{header_fields, is_name, is_run, pair_of, plain_packet, given_at, with_tag, with_number, with_field, with_named, with_word, with_words};
+ghost use Rattle.document_text.specs.Lines.{packet_form, packet_line, at_edge};
+ghost use Rattle.document_text.specs.Answers.{texts, state_of, given_of, Forms, Gives, Lets, Matches};
+
+use crate::document::PacketLine;
+use crate::fault::{Fault, Stop};
+use crate::head::is_text;
+use crate::reader::Reader;
+use crate::told::Kind;
+use crate::topology::end_in_range;
+use crate::words::{end_of, number};
+use indexmap::IndexSet;
+use netkat_parser::fault::Fault as TextFault;
+use netkat_parser::number::{cut, has_form, number as value_of};
+use netkat_parser::sign::is_run_byte;
+use nk_syntax::field_name;
+use nk_values::{Field, Header, Packet, Tag};
+use std::alloc::Global;
+use topology_model::{End, TopoFault};
+
+/// What the words so far give: their names, the packet and its tag, whether a name is not listed, and
+/// whether a value is out of its range.
+#[derive(Drop)]
+pub struct Given<'a> {
+    names: IndexSet<&'a [u8]>,
+    packet: Packet,
+    tag: Tag,
+    unknown: bool,
+    outside: bool,
+}
+
+/// The packet of `packet S:B` and words with its values.
+pub fn packet_line(reader: &Reader, alloc: Global, words: &[&[u8]]) -> Result<PacketLine, Stop>
+    ensures { Matches (λ p. p) (packet_line (state_of reader.now) (texts words.now)) result }
+{
+    let Some((first, rest)) = words.split_first() else {
+        return Err(Stop::Fault(Fault::BadLine));
+    };
+    let numbers = end_of(first)?;
+    let given = with_words(Given::new(alloc, numbers), rest)?;
+    if reader.is_late(Kind::Packet) {
+        return Err(Stop::Fault(Fault::BadLine));
+    }
+    reader.behind_policies(alloc)?;
+    if given.unknown {
+        return Err(Stop::Fault(Fault::Text(TextFault::UnknownName)));
+    }
+    let end = end_in_range(numbers)?;
+    if given.outside {
+        return Err(Stop::Fault(Fault::Text(TextFault::ValueRange)));
+    }
+    at_edge(reader, end)?;
+    Ok(PacketLine {
+        packet: given.packet,
+        tag: given.tag,
+    })
+}
+
+// Stops where this is no declared port without a link.
+fn at_edge(reader: &Reader, end: End) -> Result<(), Stop>
+    ensures { Lets {A = Line} (at_edge (state_of reader.now) end) result }
+{
+    if !reader.draft.has_switch(end.0) {
+        Err(Stop::Fault(Fault::Topology(TopoFault::UnknownSwitch)))
+    } else if !reader.draft.has_port(end) {
+        Err(Stop::Fault(Fault::Topology(TopoFault::UnknownPort)))
+    } else if reader.draft.is_linked(end) {
+        Err(Stop::Fault(Fault::NotEdge))
+    } else {
+        Ok(())
+    }
+}
+
+// With all words.
+fn with_words<'a>(given: Given<'a>, words: &[&'a [u8]]) -> Result<Given<'a>, Stop>
+    ensures { Forms given_of (with_words (given_of given.entry) (texts words.now)) result }
+{
+    let mut given = given;
+    for word in words {
+        given.add(word)?;
+    }
+    Ok(given)
+}
+
+impl<'a> Given<'a> {
+    // An IPv4 packet at a place, with 0 in each other field.
+    fn new(alloc: Global, end: (u64, u64)) -> Given<'a>
+        ensures { given_of result ≡ given_at end }
+    {
+        Given {
+            names: IndexSet::new(alloc),
+            packet: plain_packet(end),
+            tag: Tag::none(),
+            unknown: false,
+            outside: false,
+        }
+    }
+
+    // With one more word.
+    fn add(&mut self, word: &'a [u8]) -> Result<(), Stop>
+        ensures { Gives (with_word (given_of self.old) word.now) (given_of self.new) result }
+    {
+        let (name, run) = pair_of(word)?;
+        if self.names.contains(&name) {
+            return Err(Stop::Fault(Fault::BadLine));
+        }
+        self.names.insert(name)?;
+        self.put(name, run)
+    }
+
+    // With the value of a name.
+    fn put(&mut self, name: &[u8], run: &[u8]) -> Result<(), Stop>
+        ensures { Gives (with_named (given_of self.old) name.now run.now) (given_of self.new) result }
+    {
+        if is_text(name, "vlan") {
+            let id = number(run)?;
+            self.put_tag(id);
+            return Ok(());
+        }
+        match header_field(name) {
+            Some(field) => self.put_value(field, run),
+            None => {
+                self.unknown = true;
+                Ok(())
+            }
+        }
+    }
+
+    fn put_tag(&mut self, id: u64)
+        ensures { given_of self.new ≡ with_tag (given_of self.old) id }
+    {
+        if id < 1 || id > 4094 {
+            self.outside = true;
+        } else if let Some(tag) = Tag::vlan(id as u16) {
+            self.tag = tag;
+        }
+    }
+
+    fn put_value(&mut self, field: Field, run: &[u8]) -> Result<(), Stop>
+        ensures { Gives (with_field (given_of self.old) (Some field) run.now) (given_of self.new) result }
+    {
+        match value_of(field, run) {
+            Some(n) => self.put_number(field, n),
+            None => {
+                if !has_form(field, run) {
+                    return Err(Stop::Fault(Fault::BadLine));
+                }
+                self.outside = true;
+            }
+        }
+        Ok(())
+    }
+
+    #[tactic(auto, using(crate::proofs::Ranged::value_true, crate::proofs::Ranged::value_false))]
+    fn put_number(&mut self, field: Field, n: u64)
+        ensures { given_of self.new ≡ with_number (given_of self.old) field n }
+    {
+        if field.is_value(n) {
+            self.packet = self.packet.with(field, n);
+        } else {
+            self.outside = true;
+        }
+    }
+}
+
+fn plain_packet(end: (u64, u64)) -> Packet
+    ensures { result ≡ plain_packet end }
+{
+    Packet {
+        sw: end.0,
+        pt: end.1,
+        header: Header {
+            eth_typ: 2048,
+            ip_proto: 0,
+            eth_src: 0,
+            eth_dst: 0,
+            ip4_src: 0,
+            ip4_dst: 0,
+            tcp_src_port: 0,
+            tcp_dst_port: 0,
+        },
+    }
+}
+
+// The two parts of `name=value`.
+fn pair_of(word: &[u8]) -> Result<(&[u8], &[u8]), Stop>
+    ensures { Forms (λ p. (p.0.now, p.1.now)) (pair_of word.now) result }
+{
+    let (name, run) = cut(word, b'=');
+    if is_name(name) && is_run(run) {
+        Ok((name, run))
+    } else {
+        Err(Stop::Fault(Fault::BadLine))
+    }
+}
+
+// A letter, then letters and digits.
+fn is_name(text: &[u8]) -> bool
+    ensures { result ≡ is_name text.now }
+{
+    !text.is_empty() && text[0].is_ascii_alphabetic() && are_alphanumeric(text)
+}
+
+fn are_alphanumeric(text: &[u8]) -> bool
+    ensures { result ≡ list_all is_ascii_alphanumeric text.now }
+{
+    text.iter().all(|byte| byte.is_ascii_alphanumeric())
+}
+
+// Some letters, digits, `.` and `:`.
+fn is_run(text: &[u8]) -> bool
+    ensures { result ≡ is_run text.now }
+{
+    text.len() >= 1 && are_run_bytes(text)
+}
+
+fn are_run_bytes(text: &[u8]) -> bool
+    ensures { result ≡ list_all is_run_byte text.now }
+{
+    text.iter().all(|byte| is_run_byte(*byte))
+}
+
+// The header field of a name.
+fn header_field(name: &[u8]) -> Option<Field>
+    ensures { result ≡ find (λ f. bytes_eq name.now (name_of f)) header_fields }
+{
+    let fields = [
+        Field::EthTyp,
+        Field::IpProto,
+        Field::EthSrc,
+        Field::EthDst,
+        Field::Ip4Src,
+        Field::Ip4Dst,
+        Field::TcpSrcPort,
+        Field::TcpDstPort,
+    ];
+    fields
+        .iter()
+        .copied()
+        .find(|field| is_text(name, field_name(*field)))
+}

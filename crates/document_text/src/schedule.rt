@@ -1,0 +1,149 @@
+// The schedule: its first line, and its events.
+ghost use Rattle.std.specs.Prelude.{◌≡◌};
+ghost use Rattle.nk_values.specs.declared.field.Field.TheVariants.{Sw};
+ghost use Rattle.document_text.specs.Schedules.{arrival, at_switch, is_index, event_alone, event_of_one, event_of_two, event_of};
+ghost use Rattle.document_text.specs.Lines.{schedule_line};
+ghost use Rattle.document_text.specs.Packets.{is_vlan_id};
+ghost use Rattle.document_text.specs.Answers.{texts, state_of, Matches, Ranges, NamesSwitch};
+
+use crate::document::Event;
+use crate::fault::{Fault, Stop};
+use crate::head::is_text;
+use crate::reader::Reader;
+use crate::told::Kind;
+use crate::topology::switch_of;
+use crate::words::number;
+use netkat_parser::fault::Fault as TextFault;
+use std::alloc::Global;
+use topology_model::TopoFault;
+
+// The greatest place of a flow mod or a flight.
+const LAST_INDEX: u64 = 0xffff_ffff;
+
+const LAST_STAMP: u64 = 4094;
+
+/// Takes `schedule`, behind which events stand.
+pub fn schedule_line(reader: Reader, alloc: Global, words: &[&[u8]]) -> Result<Reader, Stop>
+    ensures { Matches state_of (schedule_line (state_of reader) (texts words.now)) result }
+{
+    if !words.is_empty() || reader.told.reached.place() >= 5 {
+        return Err(Stop::Fault(Fault::BadLine));
+    }
+    reader.behind_policies(alloc)?;
+    let mut reader = reader;
+    reader.told.reached = Kind::Schedule;
+    reader.told.inside = true;
+    Ok(reader)
+}
+
+/// The event of a line.
+pub fn event_of(reader: &Reader, words: &[&[u8]]) -> Result<Event, Stop>
+    ensures { Matches (λ e. e) (event_of (state_of reader.now) (texts words.now)) result }
+{
+    match words {
+        [word] => event_alone(word),
+        [word, first] => event_of_one(reader, word, number(first)?),
+        [word, first, second] => {
+            let sw = number(first)?;
+            let index = number(second)?;
+            event_of_two(reader, word, sw, index)
+        }
+        _ => Err(Stop::Fault(Fault::BadLine)),
+    }
+}
+
+fn event_alone(word: &[u8]) -> Result<Event, Stop>
+    ensures { Matches (λ e. e) (event_alone word.now) result }
+{
+    if is_text(word, "begin") {
+        Ok(Event::Begin)
+    } else if is_text(word, "settle") {
+        Ok(Event::Settle)
+    } else if is_text(word, "flow") {
+        Ok(Event::Flow)
+    } else {
+        Err(Stop::Fault(Fault::BadLine))
+    }
+}
+
+// A command with one number.
+fn event_of_one(reader: &Reader, word: &[u8], number: u64) -> Result<Event, Stop>
+    ensures { Matches (λ e. e) (event_of_one (state_of reader.now) word.now number) result }
+{
+    if is_text(word, "send") {
+        Ok(Event::Send(declared(reader, number)?))
+    } else if is_text(word, "take") {
+        Ok(Event::Take(declared(reader, number)?))
+    } else if is_text(word, "reply") {
+        Ok(Event::Reply(declared(reader, number)?))
+    } else if is_text(word, "heard") {
+        Ok(Event::Heard(declared(reader, number)?))
+    } else if is_text(word, "lost") {
+        Ok(Event::Lost(declared(reader, number)?))
+    } else if is_text(word, "arrive") {
+        arrive(reader, number)
+    } else if is_text(word, "hop") {
+        Ok(Event::Hop(index_of(number)?))
+    } else if is_text(word, "stuck") {
+        Ok(Event::Stuck(index_of(number)?))
+    } else if is_text(word, "drained") {
+        Ok(Event::Drained(stamp_of(number)?))
+    } else {
+        Err(Stop::Fault(Fault::BadLine))
+    }
+}
+
+// The arrival of a packet line.
+fn arrive(reader: &Reader, number: u64) -> Result<Event, Stop>
+    ensures { Matches (λ e. e) (arrival (state_of reader.now) number) result }
+{
+    if number >= 1 && number <= reader.told.packets.len() as u64 {
+        Ok(Event::Arrive(number as usize))
+    } else {
+        Err(Stop::Fault(Fault::BadLine))
+    }
+}
+
+// `apply` with a switch and the place of a flow mod.
+fn event_of_two(reader: &Reader, word: &[u8], sw: u64, index: u64) -> Result<Event, Stop>
+    ensures { Matches (λ e. e) (event_of_two (state_of reader.now) word.now sw index) result }
+{
+    if !is_text(word, "apply") {
+        return Err(Stop::Fault(Fault::BadLine));
+    }
+    let index = index_of(index)?;
+    Ok(Event::Apply(declared(reader, sw)?, index))
+}
+
+// A switch that the topology declares.
+fn declared(reader: &Reader, number: u64) -> Result<u16, Stop>
+    ensures { NamesSwitch (state_of reader.now) number result }
+{
+    let sw = switch_of(number)?;
+    if reader.draft.has_switch(sw) {
+        Ok(sw)
+    } else {
+        Err(Stop::Fault(Fault::Topology(TopoFault::UnknownSwitch)))
+    }
+}
+
+// The place of a flow mod or a flight.
+fn index_of(number: u64) -> Result<u32, Stop>
+    ensures { Ranges (is_index number) (λ n. n ≡ number) result }
+{
+    if number <= LAST_INDEX {
+        Ok(number as u32)
+    } else {
+        Err(Stop::Fault(Fault::Text(TextFault::ValueRange)))
+    }
+}
+
+fn stamp_of(number: u64) -> Result<u16, Stop>
+    ensures { Ranges (is_vlan_id number) (λ n. n ≡ number) result }
+{
+    if number >= 1 && number <= LAST_STAMP {
+        Ok(number as u16)
+    } else {
+        Err(Stop::Fault(Fault::Text(TextFault::ValueRange)))
+    }
+}

@@ -1,0 +1,113 @@
+// The settings, and the line that begins a policy.
+ghost use Rattle.std.specs.Prelude.{◌≡◌, true, OnOk};
+ghost use Rattle.document_text.specs.States.{State, has_edge};
+ghost use Rattle.document_text.specs.Lines.{unset, one_numeral, two_numerals, hops_line, capacity_line, stamps_line, policy_line};
+ghost use Rattle.document_text.specs.Answers.{texts, state_of, Forms, Matches, Lets};
+
+use crate::fault::{Fault, Stop};
+use crate::reader::Reader;
+use crate::told::Kind;
+use crate::words::number;
+use netkat_parser::fault::Fault as TextFault;
+use std::alloc::Global;
+
+// The greatest hop limit and capacity, and the greatest stamp.
+const MOST_HOPS: u64 = 1000;
+
+const MOST_ROWS: u64 = 200_000;
+
+const LAST_STAMP: u64 = 4094;
+
+// Stops where a setting may not stand, or was given before.
+fn unset(reader: &Reader, alloc: Global, given: bool) -> Result<(), Stop>
+    ensures tests { Lets {A = State} (unset (state_of reader.now) given) result }
+    ensures edge { OnOk result (has_edge reader.now.draft ≡ true) }
+{
+    if reader.is_late(Kind::Setting) || given {
+        return Err(Stop::Fault(Fault::BadLine));
+    }
+    reader.behind_topology(alloc)
+}
+
+fn one_numeral(words: &[&[u8]]) -> Result<u64, Stop>
+    ensures { Forms (λ n. n) (one_numeral (texts words.now)) result }
+{
+    match words {
+        [word] => number(word),
+        _ => Err(Stop::Fault(Fault::BadLine)),
+    }
+}
+
+fn two_numerals(words: &[&[u8]]) -> Result<(u64, u64), Stop>
+    ensures { Forms (λ x. x) (two_numerals (texts words.now)) result }
+{
+    match words {
+        [first, second] => {
+            let a = number(first)?;
+            let b = number(second)?;
+            Ok((a, b))
+        }
+        _ => Err(Stop::Fault(Fault::BadLine)),
+    }
+}
+
+/// Takes `hops N`.
+pub fn hops_line(reader: Reader, alloc: Global, words: &[&[u8]]) -> Result<Reader, Stop>
+    ensures { Matches state_of (hops_line (state_of reader) (texts words.now)) result }
+{
+    let hops = one_numeral(words)?;
+    unset(&reader, alloc, reader.told.hops.is_some())?;
+    if hops < 1 || hops > MOST_HOPS {
+        return Err(Stop::Fault(Fault::Text(TextFault::ValueRange)));
+    }
+    let mut reader = reader;
+    reader.told.hops = Some(hops as u32);
+    reader.told.reached = Kind::Setting;
+    Ok(reader)
+}
+
+/// Takes `capacity N`.
+pub fn capacity_line(reader: Reader, alloc: Global, words: &[&[u8]]) -> Result<Reader, Stop>
+    ensures { Matches state_of (capacity_line (state_of reader) (texts words.now)) result }
+{
+    let capacity = one_numeral(words)?;
+    unset(&reader, alloc, reader.told.capacity.is_some())?;
+    if capacity < 1 || capacity > MOST_ROWS {
+        return Err(Stop::Fault(Fault::Text(TextFault::ValueRange)));
+    }
+    let mut reader = reader;
+    reader.told.capacity = Some(capacity as u32);
+    reader.told.reached = Kind::Setting;
+    Ok(reader)
+}
+
+/// Takes `stamps LO HI`.
+pub fn stamps_line(reader: Reader, alloc: Global, words: &[&[u8]]) -> Result<Reader, Stop>
+    ensures { Matches state_of (stamps_line (state_of reader) (texts words.now)) result }
+{
+    let (low, high) = two_numerals(words)?;
+    unset(&reader, alloc, reader.told.stamps.is_some())?;
+    if low < 1 || low > high || high > LAST_STAMP {
+        return Err(Stop::Fault(Fault::StampRange));
+    }
+    if low == high {
+        return Err(Stop::Fault(Fault::TooFewStamps));
+    }
+    let mut reader = reader;
+    reader.told.stamps = Some((low as u16, high as u16));
+    reader.told.reached = Kind::Setting;
+    Ok(reader)
+}
+
+/// Takes `policy`, behind which a policy's text begins.
+pub fn policy_line(reader: Reader, alloc: Global, words: &[&[u8]]) -> Result<Reader, Stop>
+    ensures { Matches state_of (policy_line (state_of reader) (texts words.now)) result }
+{
+    if !words.is_empty() || reader.is_late(Kind::Policy) {
+        return Err(Stop::Fault(Fault::BadLine));
+    }
+    reader.behind_topology(alloc)?;
+    let mut reader = reader;
+    reader.told.reached = Kind::Policy;
+    Ok(reader)
+}

@@ -1,0 +1,194 @@
+// Reading goes on from line to line.
+ghost use Rattle.std.specs.Prelude.{◌≡◌, true};
+ghost use Rattle.document_text.specs.States.{has_edge};
+ghost use Rattle.document_text.specs.Steps.{scheduled, enters};
+ghost use Rattle.document_text.specs.Lines.{packet_line};
+ghost use Rattle.document_text.specs.Answers.{state_of, texts, Takes};
+ghost use Rattle.document_text.specs.declared.fault.DocumentError.TheVariants as to;
+
+use crate::document::{Document, ScheduleLine, Settings};
+use crate::fault::{DocFault, DocumentError, Fault, Stop};
+use crate::head::{Head, head_of};
+use crate::packet::packet_line;
+use crate::reader::{Reader, Taken};
+use crate::schedule::{event_of, schedule_line};
+use crate::setting::{capacity_line, hops_line, policy_line, stamps_line};
+use crate::told::{Kind, Told};
+use crate::topology::{link_line, switch_line};
+use crate::words::is_end;
+use nk_values::well_shaped;
+use std::alloc::Global;
+use topology_model::{Draft, LineError, TopoFault, Topology};
+
+// The most policies, packets and events of a document.
+const MOST_POLICIES: usize = 64;
+
+const MOST_PACKETS: usize = 10_000;
+
+const MOST_EVENTS: usize = 100_000;
+
+impl Reader {
+    ghost use Rattle.std.specs.Prelude.{OnOk};
+    ghost use Rattle.document_text.specs.declared.document.PacketLine.{PacketLine as Packet};
+    ghost use Rattle.document_text.specs.States.{State, start, is_late};
+    ghost use Rattle.document_text.specs.Steps.{step, is_too_many, declares};
+    ghost use Rattle.document_text.specs.Grammar.{finished};
+    ghost use Rattle.document_text.specs.Answers.{texts, IsAnswer};
+    ghost use Rattle.document_text.specs.Lines.{behind_topology, behind_policies};
+    ghost use Rattle.document_text.specs.Answers.{state_of, FindsEdge, Lets, Takes};
+
+    /// Before the first line.
+    pub fn new(alloc: Global) -> Reader
+        ensures { state_of result ≡ start }
+    {
+        Reader {
+            draft: Draft::new(alloc),
+            told: Told::new(alloc),
+        }
+    }
+
+    /// Whether a line of this kind stands behind one of a later kind.
+    pub fn is_late(&self, kind: Kind) -> bool
+        ensures { result ≡ is_late (state_of self.now) kind }
+    {
+        kind.place() < self.told.reached.place()
+    }
+
+    /// Stops where no port is without a link.
+    pub fn behind_topology(&self, alloc: Global) -> Result<(), Stop>
+        ensures { FindsEdge (has_edge self.now.draft) result }
+    {
+        if self.told.reached.place() >= 2 || !self.draft.edges(alloc)?.is_empty() {
+            Ok(())
+        } else {
+            Err(Stop::Fault(Fault::Topology(TopoFault::NoEdge)))
+        }
+    }
+
+    /// Stops where there is no policy either.
+    pub fn behind_policies(&self, alloc: Global) -> Result<(), Stop>
+        ensures packets { Lets {A = Packet} (behind_policies (state_of self.now)) result }
+        ensures states { Lets {A = State} (behind_policies (state_of self.now)) result }
+        ensures edge { OnOk result (has_edge self.now.draft ≡ true) }
+    {
+        self.behind_topology(alloc)?;
+        if self.told.policies.is_empty() {
+            return Err(Stop::Fault(Fault::NoPolicy));
+        }
+        Ok(())
+    }
+
+    /// Takes the words of the line with this number.
+    pub fn take(self, alloc: Global, line: u64, words: &[&[u8]]) -> Result<Taken, Stop>
+        ensures { Takes (step (state_of self) line (texts words.now)) result }
+    {
+        let Some((first, rest)) = words.split_first() else {
+            return Ok(Taken::Line(self));
+        };
+        let head = head_of(first);
+        if self.is_too_many(head, words) {
+            return Err(Stop::Fault(Fault::Limit));
+        }
+        if self.told.inside {
+            return scheduled(self, line, words);
+        }
+        self.declares(alloc, head, rest)
+    }
+
+    // Whether the line is a policy, a packet or an event too many.
+    fn is_too_many(&self, head: Head, words: &[&[u8]]) -> bool
+        ensures { result ≡ is_too_many (state_of self.now) head (texts words.now) }
+    {
+        let event = self.told.inside && !is_end(words) && self.told.events.len() >= MOST_EVENTS;
+        match head {
+            Head::Policy => self.told.policies.len() >= MOST_POLICIES || event,
+            Head::Packet => self.told.packets.len() >= MOST_PACKETS || event,
+            _ => event,
+        }
+    }
+
+    // Takes a line outside the schedule.
+    fn declares(self, alloc: Global, head: Head, words: &[&[u8]]) -> Result<Taken, Stop>
+        ensures { Takes (declares (state_of self) head (texts words.now)) result }
+    {
+        match head {
+            Head::Switch => Ok(Taken::Line(switch_line(self, alloc, words)?)),
+            Head::Link => Ok(Taken::Line(link_line(self, alloc, words)?)),
+            Head::Hops => Ok(Taken::Line(hops_line(self, alloc, words)?)),
+            Head::Capacity => Ok(Taken::Line(capacity_line(self, alloc, words)?)),
+            Head::Stamps => Ok(Taken::Line(stamps_line(self, alloc, words)?)),
+            Head::Policy => Ok(Taken::Opening(policy_line(self, alloc, words)?)),
+            Head::Packet => enters(self, alloc, words),
+            Head::Schedule => Ok(Taken::Line(schedule_line(self, alloc, words)?)),
+            Head::Unlisted => Err(Stop::Fault(Fault::BadLine)),
+        }
+    }
+
+    /// The document of all lines, where the one behind the last has this number.
+    pub fn finish(self, alloc: Global, line: u64) -> Result<Document, DocumentError>
+        ensures { IsAnswer (finished (state_of self) line) result }
+    {
+        if self.told.inside {
+            return Err(refused(line, Fault::BadLine));
+        }
+        let Reader { draft, told } = self;
+        let topology = match Topology::finish(alloc, draft) {
+            Ok(topology) => topology,
+            Err(LineError::Fault(fault)) => return Err(refused(line, Fault::Topology(fault))),
+            Err(LineError::Memory) => return Err(DocumentError::Memory),
+        };
+        if told.policies.is_empty() {
+            return Err(refused(line, Fault::NoPolicy));
+        }
+        Ok(Document {
+            topology,
+            policies: told.policies,
+            packets: told.packets,
+            settings: Settings {
+                hops: told.hops.unwrap_or(64),
+                capacity: told.capacity.unwrap_or(200_000),
+                stamps: told.stamps.unwrap_or((1, 4094)),
+            },
+            schedule: told.events,
+        })
+    }
+}
+
+/// Refused at a line.
+pub fn refused(line: u64, fault: Fault) -> DocumentError
+    ensures { result ≡ to.Fault (record { fault = fault; line = line; column = 1 }) }
+{
+    DocumentError::Fault(DocFault {
+        fault,
+        line,
+        column: 1,
+    })
+}
+
+// Takes a line inside the schedule.
+fn scheduled(reader: Reader, line: u64, words: &[&[u8]]) -> Result<Taken, Stop>
+    ensures { Takes (scheduled (state_of reader) line (texts words.now)) result }
+{
+    let mut reader = reader;
+    if is_end(words) {
+        reader.told.inside = false;
+    } else {
+        let event = event_of(&reader, words)?;
+        reader.told.events.push(ScheduleLine { line, event })?;
+    }
+    Ok(Taken::Line(reader))
+}
+
+// Takes a packet, which has to be well shaped.
+fn enters(reader: Reader, alloc: Global, words: &[&[u8]]) -> Result<Taken, Stop>
+    ensures { Takes (enters (state_of reader) (packet_line (state_of reader) (texts words.now))) result }
+{
+    let line = packet_line(&reader, alloc, words)?;
+    if !well_shaped(&line.packet) {
+        return Err(Stop::Fault(Fault::BadLine));
+    }
+    let mut reader = reader;
+    reader.told.packets.push(line)?;
+    reader.told.reached = Kind::Packet;
+    Ok(Taken::Line(reader))
+}

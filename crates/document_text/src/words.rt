@@ -1,0 +1,144 @@
+// From bytes to lines, words and numbers.
+ghost use Rattle.std.specs.Prelude.{◌≡◌, ◌≤◌, ◌<◌, [], ◌∷◌, ◌++◌, length, filter, IfOk};
+ghost use Rattle.document_text.specs.Texts.{first_len, is_over, content_len, is_blank, piece_len, is_filled, words_of, is_end, numeral, numerals, end_of};
+ghost use Rattle.document_text.specs.Answers.{texts, Forms};
+
+use crate::fault::{Fault, Stop};
+use crate::head::is_text;
+use netkat_parser::number::{GREATEST, cut, numeral as parsed};
+use std::alloc::{AllocError, Global};
+
+/// How many bytes the first line has, with the LF that ends it.
+pub fn first_len(text: &[u8]) -> usize
+    ensures value { result ≡ first_len text.now }
+    ensures some { 0 < length text.now → 0 < result }
+    ensures within { result ≤ length text.now }
+{
+    for (i, byte) in text.iter().enumerate() {
+        if *byte == b'\n' {
+            return i + 1;
+        }
+    }
+    text.len()
+}
+
+/// The words of a line.
+pub fn words<'a>(alloc: Global, line: &'a [u8]) -> Result<Vec<&'a [u8]>, AllocError>
+    ensures { IfOk result (λ all. texts all.items ≡ words_of line.now) }
+{
+    let mut all = Vec::new(alloc);
+    let mut rest = &line[..content_len(line)];
+    loop {
+        let end = piece_len(rest);
+        all = with_word(all, &rest[..end])?;
+        if end >= rest.len() {
+            return Ok(all);
+        }
+        rest = &rest[end + 1..];
+    }
+}
+
+// The words with a piece behind them, if it has some byte.
+fn with_word<'a>(all: Vec<&'a [u8]>, piece: &'a [u8]) -> Result<Vec<&'a [u8]>, AllocError>
+    ensures { IfOk result (λ new. texts new.items ≡ texts all.entry.items ++ filter is_filled (piece.now ∷ [])) }
+{
+    let mut all = all;
+    if !piece.is_empty() {
+        all.push(piece)?;
+    }
+    Ok(all)
+}
+
+// How many bytes of a line count.
+fn content_len(line: &[u8]) -> usize
+    ensures len { result ≡ content_len line.now }
+    ensures within { result ≤ length line.now }
+{
+    for i in 0..line.len() {
+        if is_over(&line[i..]) {
+            return i;
+        }
+    }
+    line.len()
+}
+
+// Whether nothing of a line counts from here on.
+fn is_over(rest: &[u8]) -> bool
+    ensures { result ≡ is_over rest.now }
+{
+    match rest.first() {
+        Some(first) => *first == b'#' || is_text(rest, "\n") || is_text(rest, "\r\n"),
+        None => true,
+    }
+}
+
+// How many bytes stand before the first blank.
+fn piece_len(text: &[u8]) -> usize
+    ensures len { result ≡ piece_len text.now }
+    ensures within { result ≤ length text.now }
+{
+    for (i, byte) in text.iter().enumerate() {
+        if is_blank(*byte) {
+            return i;
+        }
+    }
+    text.len()
+}
+
+fn is_blank(byte: u8) -> bool
+    ensures { result ≡ is_blank byte }
+{
+    byte == b' ' || byte == b'\t'
+}
+
+/// Whether the words are `end` alone.
+pub fn is_end(words: &[&[u8]]) -> bool
+    ensures { result ≡ is_end (texts words.now) }
+{
+    match words {
+        [word] => is_text(word, "end"),
+        _ => false,
+    }
+}
+
+/// The number that 1 to 10 decimal digits write.
+#[tactic(auto, using(crate::proofs::Numerals::small))]
+pub fn numeral(word: &[u8]) -> Option<u64>
+    ensures { result ≡ numeral word.now }
+{
+    parsed(10, 1, 10, GREATEST, word)
+}
+
+/// A number that has to be there.
+pub fn number(word: &[u8]) -> Result<u64, Stop>
+    ensures { Forms (λ n. n) (numeral word.now) result }
+{
+    match numeral(word) {
+        Some(number) => Ok(number),
+        None => Err(Stop::Fault(Fault::BadLine)),
+    }
+}
+
+/// Numbers that have to be there.
+pub fn numbers(alloc: Global, words: &[&[u8]]) -> Result<Vec<u64>, Stop>
+    ensures { Forms (λ v. v.items) (numerals (texts words.now)) result }
+{
+    let mut all = Vec::new(alloc);
+    for word in words {
+        match numeral(word) {
+            Some(number) => all.push(number)?,
+            None => return Err(Stop::Fault(Fault::BadLine)),
+        }
+    }
+    Ok(all)
+}
+
+/// A switch and a port, joined by `:`.
+pub fn end_of(word: &[u8]) -> Result<(u64, u64), Stop>
+    ensures { Forms (λ x. x) (end_of word.now) result }
+{
+    let (switch, port) = cut(word, b':');
+    let sw = number(switch)?;
+    let pt = number(port)?;
+    Ok((sw, pt))
+}
