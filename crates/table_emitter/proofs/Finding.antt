@@ -195,6 +195,7 @@ row_found v top p (d ∷ es) (r ∷ rs) e h k = split (hits (pattern_of v d.cell
   where
     pattern_hits : (b : Bool) → hits (pattern_of v d.cell) (arriving v p) ≡ b → hits r.pattern (arriving v p) ≡ b
     pattern_hits b t = ap (λ (q : Pattern). hits q (arriving v p)) h.0.pattern ∙ t
+
     split : (b : Bool) → hits (pattern_of v d.cell) (arriving v p) ≡ b → first_entry v p (d ∷ es) ≡ Some e → (first_entry v p es ≡ Some e → RowOf v p e rs) → RowOf v p e (r ∷ rs)
     split true t k m =
         let s : Some d ≡ Some e = sym (first_here v p d es t) ∙ k in
@@ -254,7 +255,7 @@ put_keeps x f g m n h e = elim (field_cases g f) [
 cell_keeps : (w : Way) (l : Lit) (y : Packet) → IsIn w.trues l → get (fixed w) (lit_field l) ≡ lit_value l → IsIn (cells_of (kinds_of w) (fixed w)) y → get y (lit_field l) ≡ lit_value l
 cell_keeps w l y k e i =
     let typed : bars is_type 2048 w ≡ false → get (with_value (fixed w) EthTyp 2048) (lit_field l) ≡ lit_value l =
-        λ n. put_keeps (fixed w) (lit_field l) EthTyp 2048 (lit_value l) (λ d. sym (allowed is_type 2048 w l n k (ap is_type (sym d)))) e in
+    λ n. put_keeps (fixed w) (lit_field l) EthTyp 2048 (lit_value l) (λ d. sym (allowed is_type 2048 w l n k (ap is_type (sym d)))) e in
     elim (cells_are (kinds_of w).ip (kinds_of w).ports (kinds_of w).no_ip (kinds_of w).no_tcp (kinds_of w).no_udp (fixed w) y i) [
       | inl d ↦ subst (λ (z : Packet). get z (lit_field l) ≡ lit_value l) d e
       | inr (n, inl d) ↦ subst (λ (z : Packet). get z (lit_field l) ≡ lit_value l) d (typed n)
@@ -307,10 +308,11 @@ in_cells v p w cs true true false false no_udp x a h k =
         (y : Packet) × (first_entry v p (map (entry_of w cs) (with_value z IpProto 6 ∷ (if no_udp then [] else with_value z IpProto 17 ∷ []))) ≡ Some (entry_of w cs y))
     tcp_first no_udp z b (inl e) = (with_value z IpProto 6, first_here v p (entry_of w cs (with_value z IpProto 6)) (map (entry_of w cs) (if no_udp then [] else with_value z IpProto 17 ∷ [])) (hits_own v (with_value z IpProto 6) p (agrees_value z p IpProto 6 e.0 b)))
     tcp_first true z b (inr e) = absurd (let d : true ≡ false = e.1 in cc)
-    tcp_first false z b (inr e) =
-        (with_value z IpProto 17,
-        first_past v p (entry_of w cs (with_value z IpProto 6)) (entry_of w cs (with_value z IpProto 17) ∷ []) (hits_not v (with_value z IpProto 6) p IpProto (omega arith) (λ (q : 6 ≡ free). omega (arith, q)) (λ (q : p.header.ip_proto ≡ 6). omega (arith, q, e.0))) ∙
-        first_here v p (entry_of w cs (with_value z IpProto 17)) [] (hits_own v (with_value z IpProto 17) p (agrees_value z p IpProto 17 e.0 b)))
+    tcp_first false z b (inr e) = (
+      with_value z IpProto 17,
+      first_past v p (entry_of w cs (with_value z IpProto 6)) (entry_of w cs (with_value z IpProto 17) ∷ []) (hits_not v (with_value z IpProto 6) p IpProto (omega arith) (λ (q : 6 ≡ free). omega (arith, q)) (λ (q : p.header.ip_proto ≡ 6). omega (arith, q, e.0))) ∙
+          first_here v p (entry_of w cs (with_value z IpProto 17)) [] (hits_own v (with_value z IpProto 17) p (agrees_value z p IpProto 17 e.0 b)),
+    )
 in_cells v p w cs true true false true no_udp x a h k =
     let b : Agrees (with_value x EthTyp 2048) p = agrees_value x p EthTyp 2048 (h refl).0 a in
     udp_only no_udp (with_value x EthTyp 2048) b (k refl)
@@ -365,7 +367,7 @@ finds v p (Node l t e) w k s h n o =
           record {
             entry = r.entry;
             found = first_right v p (entries (with_true w l) t) (entries (with_false w l) e)
-              (misses v p l t (with_true w l) place_two (in-right w.trues (l ∷ []) l (inl refl)) (ap (λ (x : Packet). get x (lit_field l)) (apply_more w.trues l open_cell) ∙ get-with_same (fixed w) (lit_field l) (lit_value l)) y.1 o.1) ∙ r.found;
+                (misses v p l t (with_true w l) place_two (in-right w.trues (l ∷ []) l (inl refl)) (ap (λ (x : Packet). get x (lit_field l)) (apply_more w.trues l open_cell) ∙ get-with_same (fixed w) (lit_field l) (lit_value l)) y.1 o.1) ∙ r.found;
             on = r.on;
             copies = r.copies ∙ sym (leaf_at-else l t e p y.1);
           }

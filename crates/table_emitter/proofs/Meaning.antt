@@ -8,6 +8,7 @@ use Rattle.nk_values.specs.declared.field.Field.{Field}
 use Rattle.nk_values.specs.declared.field.Field.TheVariants.{Sw, Pt}
 use Rattle.nk_values.specs.declared.lit.Lit.{Lit}
 use Rattle.nk_values.specs.declared.packet.Packet.{Packet}
+use Rattle.nk_values.specs.declared.pattern.Pattern.{Pattern}
 use Rattle.nk_values.specs.declared.row.Row.{Row}
 use Rattle.nk_values.specs.declared.rows.Band.{Band}
 use Rattle.nk_values.specs.declared.rows.Band.TheVariants.{High, Low}
@@ -20,7 +21,7 @@ use Rattle.nk_values.specs.Acts.{acted}
 use Rattle.nk_values.specs.Lits.{lit_field, lit_value}
 use Rattle.nk_values.specs.Members.{IsIn, SameMembers}
 use Rattle.nk_values.specs.Packets.{get, IsWellShaped}
-use Rattle.nk_values.specs.Patterns.{Incoming}
+use Rattle.nk_values.specs.Patterns.{Incoming, vlan_number}
 use Rattle.nk_values.specs.Ranges.{place}
 use Rattle.nk_values.specs.Ranks.{step, rank}
 use Rattle.nk_values.specs.Tables.{first}
@@ -68,6 +69,7 @@ part_leaf f n (Node l t u) p e = split (place (lit_field l) == place f) refl (li
   where
     at : place (lit_field l) ≡ place f → get p (lit_field l) ≡ n
     at d = ap (get p) (same_field (lit_field l) f d) ∙ e
+
     split : (a : Bool) → (place (lit_field l) == place f) ≡ a → (b : Bool) → (lit_value l == n) ≡ b → leaf_at (part_with f n u) p ≡ leaf_at u p → leaf_at (cond a (cond b t (part_with f n u)) (Node l t u)) p ≡ leaf_at (Node l t u) p
     split true x true y r = sym (ap (λ c. cond c (leaf_at t p) (leaf_at u p)) (eq-eqb (get p (lit_field l)) (lit_value l) (at (eqb-true _ _ x) ∙ sym (eqb-true _ _ y))))
     split true x false y r = r ∙ sym (ap (λ c. cond c (leaf_at t p) (leaf_at u p)) (ap (λ m. m == lit_value l) (at (eqb-true _ _ x)) ∙ turned n (lit_value l) y))
@@ -195,10 +197,10 @@ answers_from p d t stamp s n pk sound c i shaped esw ept rows row found same =
     let can = can_be_made p d c in
     let came = arrives t stamp s n pk ept in
     let from : (x : Sent) → IsIn (acted row.actions (incoming pk (port_tag (kind_at t (place_of (s.sw, n))) stamp))) x → (q : Packet) × IsIn (answers d pk) q × IsIn (sent_at (view_of t stamp s n) q) x =
-        λ x m. from-flat_map (sent_at (view_of t stamp s n)) (answers d pk) x (same.front x (subst (λ (j : Incoming). IsIn (acted row.actions j) x) (sym came) m)) in
+    λ x m. from-flat_map (sent_at (view_of t stamp s n)) (answers d pk) x (same.front x (subst (λ (j : Incoming). IsIn (acted row.actions j) x) (sym came) m)) in
     let to : (q : Packet) (x : Sent) → IsIn (answers d pk) q → IsIn s.ports q.pt → leaving t stamp s q ≡ x → IsIn (acted row.actions (incoming pk (port_tag (kind_at t (place_of (s.sw, n))) stamp))) x =
-        λ q x m k l. subst (λ (j : Incoming). IsIn (acted row.actions j) x) came
-          (same.back x (in-flat_map (sent_at (view_of t stamp s n)) (answers d pk) q x m (subst (λ (y : Sent). IsIn (sent_at (view_of t stamp s n) q) y) l (is_sent t stamp s n q k)))) in
+    λ q x m k l. subst (λ (j : Incoming). IsIn (acted row.actions j) x) came
+    (same.back x (in-flat_map (sent_at (view_of t stamp s n)) (answers d pk) q x m (subst (λ (y : Sent). IsIn (sent_at (view_of t stamp s n) q) y) l (is_sent t stamp s n q k)))) in
     record {
       row = row;
       found = subst (λ (j : Incoming). first j rows ≡ Some row) came found;
@@ -233,8 +235,132 @@ answers_of p d t stamp band s n port pk sound c i h shaped esw ept =
     let f = finds (view_of t stamp s n) pk (part_at s.sw n d) no_tests (step * 2) shaped (on_nothing pk) (omega arith) (part_from s.sw n d c.diagram.normal.ordered) in
     let r = row_found (view_of t stamp s n) (top_of band (kind_at t (place_of (s.sw, n)))) pk (entries_at d s n) port.rows f.entry h.rows.rows f.found in
     let same : SameMembers (acted r.row.actions (arriving (view_of t stamp s n) pk)) (sendings (view_of t stamp s n) (leaf_at d pk) pk) =
-        subst (λ (cs : List (List Lit)). SameMembers (acted r.row.actions (arriving (view_of t stamp s n) pk)) (sendings (view_of t stamp s n) cs pk)) (f.copies ∙ part_answers s.sw n d pk esw ept) (r.is.actions.acts.same pk f.on ept) in
+    subst (λ (cs : List (List Lit)). SameMembers (acted r.row.actions (arriving (view_of t stamp s n) pk)) (sendings (view_of t stamp s n) cs pk)) (f.copies ∙ part_answers s.sw n d pk esw ept) (r.is.actions.acts.same pk f.on ept) in
     answers_from p d t stamp s n pk sound c i shaped esw ept port.rows r.row r.found same
 
+-- each row is of an entry
+row_of_entry : (v : PortView) (top : ℕ) (es : List Entry) (rs : List Row) (r : Row) → AreRowsOf v top es rs → IsIn rs r → (e : Entry) × (r.pattern ≡ pattern_of v e.cell)
+row_of_entry v top [] [] r h k = absurd k
+row_of_entry v top [] (q ∷ rs) r h k = absurd h
+row_of_entry v top (e ∷ es) [] r h k = absurd k
+row_of_entry v top (e ∷ es) (q ∷ rs) r h (inl d) = (e, subst (λ (x : Row). x.pattern ≡ pattern_of v e.cell) d h.0.pattern)
+row_of_entry v top (e ∷ es) (q ∷ rs) r h (inr k) = row_of_entry v (top - 1) es rs r h.1 k
+
+fixes_port : (t : Layout) (stamp : ℕ) (s : Site) (n : ℕ) (e : Entry) (r : Row) → r.pattern ≡ pattern_of (view_of t stamp s n) e.cell → FixesPort n (port_tag (kind_at t (place_of (s.sw, n))) stamp) r.pattern
+fixes_port t stamp s n e r h =
+    subst (λ (q : Pattern). FixesPort n (port_tag (kind_at t (place_of (s.sw, n))) stamp) q) (sym h) (record {
+      in_port = refl;
+      dl_vlan = ap (λ (g : Option ℕ). Some (vlan_number g)) (same_tag (kind_at t (place_of (s.sw, n))) stamp);
+      dl_vlan_pcp = refl;
+      nw_tos = refl;
+    })
+
+ranked_of : (v : PortView) (top : ℕ) (es : List Entry) (rs : List Row) → AreRowsOf v top es rs → length es ≤ top → Ranked top rs
+ranked_of v top [] [] h few = tt
+ranked_of v top [] (r ∷ rs) h few = absurd h
+ranked_of v top (e ∷ es) [] h few = absurd h
+ranked_of v top (e ∷ es) (r ∷ rs) h few = (h.0.priority_is, omega (arith, few), ranked_of v (top - 1) es rs h.1 (omega (arith, few)))
+
+-- the last path has no true test
+pub record Ends (es : List Entry) : Type 0 where
+  pub before : List Entry
+  pub entry : Entry
+  pub all : es ≡ before ++ entry ∷ []
+  pub cell : entry.cell ≡ open_cell
+
+ends_open : (t : Tree) (falses : List Lit) → Ends (entries (record { trues = []; falses = falses }) t)
+ends_open (Leaf cs) falses = record { before = []; entry = entry_of (record { trues = []; falses = falses }) cs open_cell; all = refl; cell = refl }
+ends_open (Node l t e) falses =
+    let r = ends_open e (falses ++ l ∷ []) in
+    record {
+      before = entries (with_true (record { trues = []; falses = falses }) l) t ++ r.before;
+      entry = r.entry;
+      all = ap (λ (x : List Entry). entries (with_true (record { trues = []; falses = falses }) l) t ++ x) r.all ∙ sym (append_assoc (entries (with_true (record { trues = []; falses = falses }) l) t) r.before (r.entry ∷ []));
+      cell = r.cell;
+    }
+
+rows_end : (v : PortView) (top : ℕ) (es : List Entry) (e : Entry) (q : Pattern) (rs : List Row) → AreRowsOf v top (es ++ e ∷ []) rs → pattern_of v e.cell ≡ q → EndsWith q rs
+rows_end v top [] e q [] h k = absurd h
+rows_end v top [] e q (r ∷ []) h k = record { before = []; last = r; all = refl; last_pattern = h.0.pattern ∙ k }
+rows_end v top [] e q (r ∷ s ∷ rs) h k = absurd h.1
+rows_end v top (d ∷ es) e q [] h k = absurd h
+rows_end v top (d ∷ es) e q (r ∷ rs) h k =
+    let t = rows_end v (top - 1) es e q rs h.1 k in
+    record { before = r ∷ t.before; last = t.last; all = ap (λ (l : List Row). r ∷ l) t.all; last_pattern = t.last_pattern }
+
+open_pattern : (t : Layout) (stamp : ℕ) (s : Site) (n : ℕ) → pattern_of (view_of t stamp s n) open_cell ≡ port_pattern n (port_tag (kind_at t (place_of (s.sw, n))) stamp)
+open_pattern t stamp s n = ap (λ (g : Option ℕ). port_pattern n g) (same_tag (kind_at t (place_of (s.sw, n))) stamp)
+
+top_large : (band : Band) (k : PortKind) → 16000 ≤ top_of band k
+top_large High Edge = omega arith
+top_large Low Edge = omega arith
+top_large High Linked = omega arith
+top_large Low Linked = omega arith
+
+-- the rows of a port stand for the policy there
+port_means : (p : Term) (d : Tree) (t : Layout) (stamp : ℕ) (band : Band) (s : Site) (n : ℕ) (port : PortRows) → IsSound t → CompiledOf p d → IsIn t.switches s → IsPortRows d t stamp band s n port →
+    PortMeans (wiring t) p stamp (top_of band (kind_at t (place_of (s.sw, n)))) (place_of (s.sw, n)) (port_tag (kind_at t (place_of (s.sw, n))) stamp) port.rows
+port_means p d t stamp band s n port sound c i h = record {
+  fixed = λ r k. let e = row_of_entry (view_of t stamp s n) (top_of band (kind_at t (place_of (s.sw, n)))) (entries_at d s n) port.rows r h.rows.rows k in fixes_port t stamp s n e.0 r e.1;
+  ranked = ranked_of (view_of t stamp s n) (top_of band (kind_at t (place_of (s.sw, n)))) (entries_at d s n) port.rows h.rows.rows (omega (arith, h.rows.few, top_large band (kind_at t (place_of (s.sw, n)))));
+  ends =
+      let e = ends_open (part_at s.sw n d) [] in
+      rows_end (view_of t stamp s n) (top_of band (kind_at t (place_of (s.sw, n)))) e.before e.entry (port_pattern n (port_tag (kind_at t (place_of (s.sw, n))) stamp)) port.rows
+      (subst (λ (es : List Entry). AreRowsOf (view_of t stamp s n) (top_of band (kind_at t (place_of (s.sw, n)))) es port.rows) e.all h.rows.rows)
+      (ap (pattern_of (view_of t stamp s n)) e.cell ∙ open_pattern t stamp s n);
+  answers = λ pk shaped at. answers_of p d t stamp band s n port pk sound c i h shaped (ap (λ (a : Place). a.sw) at) (ap (λ (a : Place). a.pt) at);
+}
+
+-- the same under the port's own names
+port_means_named : (p : Term) (d : Tree) (t : Layout) (stamp own_stamp : ℕ) (band own_band : Band) (s : Site) (n : ℕ) (port : PortRows) → own_stamp ≡ stamp → own_band ≡ band → IsSound t → CompiledOf p d → IsIn t.switches s →
+    IsPortRows d t stamp band s n port → PortMeans (wiring t) p own_stamp (top_of own_band port.kind) (port_place port) (port_tag port.kind own_stamp) port.rows
+port_means_named p d t stamp own_stamp band own_band s n port es eb sound c i h =
+    subst (λ (m : ℕ). PortMeans (wiring t) p m (top_of own_band port.kind) (port_place port) (port_tag port.kind m) port.rows) (sym es)
+    (subst (λ (b : Band). PortMeans (wiring t) p stamp (top_of b port.kind) (port_place port) (port_tag port.kind stamp) port.rows) (sym eb)
+    (subst (λ (k : PortKind). PortMeans (wiring t) p stamp (top_of band k) (port_place port) (port_tag k stamp) port.rows) (sym h.kind)
+    (subst (λ (m : ℕ). PortMeans (wiring t) p stamp (top_of band (kind_at t (place_of (s.sw, n)))) (place_of (m, port.pt)) (port_tag (kind_at t (place_of (s.sw, n))) stamp) port.rows) (sym h.switch)
+    (subst (λ (m : ℕ). PortMeans (wiring t) p stamp (top_of band (kind_at t (place_of (s.sw, n)))) (place_of (s.sw, m)) (port_tag (kind_at t (place_of (s.sw, n))) stamp) port.rows) (sym h.number)
+    (port_means p d t stamp band s n port sound c i h)))))
+
+-- the ports are those of the topology, in order
+port_named : (d : Tree) (t : Layout) (stamp : ℕ) (band : Band) (s : Site) (n : ℕ) (port : PortRows) → IsPortRows d t stamp band s n port → port_of port ≡ (place_of (s.sw, n), kind_at t (place_of (s.sw, n)))
+port_named d t stamp band s n port h = λ i. (place_of (h.switch i, h.number i), h.kind i)
+
+abbrev with_kind : Layout → Place → Place × PortKind
+with_kind t a = (a, kind_at t a)
+
+abbrev named_port : Layout → Declared → Place × PortKind
+named_port t x = with_kind t (place_of (x.site.sw, x.port))
+
+all_named : (d : Tree) (t : Layout) (stamp : ℕ) (band : Band) (xs : List Declared) (ports : List PortRows) → ArePortRows d t stamp band xs ports → map port_of ports ≡ map (named_port t) xs
+all_named d t stamp band [] [] h = refl
+all_named d t stamp band [] (q ∷ ports) h = absurd h
+all_named d t stamp band (x ∷ xs) [] h = absurd h
+all_named d t stamp band (x ∷ xs) (q ∷ ports) h = λ i. port_named d t stamp band x.site x.port q h.0 i ∷ all_named d t stamp band xs ports h.1 i
+
+declared_one : (t : Layout) (s : Site) (ns : List ℕ) → map (named_port t) (map (declared_at s) ns) ≡ map (with_kind t) (map (λ n. place_of (s.sw, n)) ns)
+declared_one t s [] = refl
+declared_one t s (n ∷ ns) = λ i. (place_of (s.sw, n), kind_at t (place_of (s.sw, n))) ∷ declared_one t s ns i
+
+declared_all : (t : Layout) (ss : List Site) → map (named_port t) (flat_map declared_on ss) ≡ map (with_kind t) (flat_map places_at ss)
+declared_all t [] = refl
+declared_all t (s ∷ ss) =
+    map-append (named_port t) (declared_on s) (flat_map declared_on ss) ∙
+    (λ i. declared_one t s s.ports i ++ declared_all t ss i) ∙
+    sym (map-append (with_kind t) (places_at s) (flat_map places_at ss))
+
+site_of : (s : Site) (ns : List ℕ) (x : Declared) → IsIn (map (declared_at s) ns) x → x.site ≡ s
+site_of s [] x h = absurd h
+site_of s (n ∷ ns) x (inl e) = sym (ap (λ (y : Declared). y.site) e)
+site_of s (n ∷ ns) x (inr h) = site_of s ns x h
+
 pub means_of : (p : Term) (d : Tree) (t : Layout) (stamp : ℕ) (band : Band) (rows : Rows) → IsSound t → IsVlanId stamp → CompiledOf p d → IsEmitted d t stamp band rows → RowsMean rows p t
-means_of p d t stamp band rows sound v c e = ?
+means_of p d t stamp band rows sound v c e = record {
+  plain = plain p d c;
+  stamp = subst (λ m. IsVlanId m) (sym e.stamp_is) v;
+  ports = all_named d t stamp band (flat_map declared_on t.switches) rows.ports e.ports ∙ declared_all t t.switches;
+  means = λ port k.
+      let r = pairwise_left (λ (x : Declared) (q : PortRows). IsPortRows d t stamp band x.site x.port q) (flat_map declared_on t.switches) rows.ports port e.ports k in
+      let s = from-flat_map declared_on t.switches r.0 r.1 in
+      port_means_named p d t stamp rows.stamp band rows.band r.0.site r.0.port port e.stamp_is e.band_is sound c (subst (λ (x : Site). IsIn t.switches x) (sym (site_of s.0 s.0.ports r.0 s.2)) s.1) r.2;
+}

@@ -96,25 +96,61 @@ same_cases m n = elim (eqb_tells m n) [ inl y ↦ inl y.1 | inr o ↦ inr o.1 ]
 
 range_cases : (p : Packet) → IsInRange p ⊎ ¬ IsInRange p
 range_cases p =
-    elim (value_cases Sw p.sw) [ inr n ↦ inr (λ r. n (r Sw)) | inl a ↦
-    elim (value_cases Pt p.pt) [ inr n ↦ inr (λ r. n (r Pt)) | inl b ↦
-    elim (value_cases EthTyp p.header.eth_typ) [ inr n ↦ inr (λ r. n (r EthTyp)) | inl c ↦
-    elim (value_cases IpProto p.header.ip_proto) [ inr n ↦ inr (λ r. n (r IpProto)) | inl d ↦
-    elim (value_cases EthSrc p.header.eth_src) [ inr n ↦ inr (λ r. n (r EthSrc)) | inl e ↦
-    elim (value_cases EthDst p.header.eth_dst) [ inr n ↦ inr (λ r. n (r EthDst)) | inl f ↦
-    elim (value_cases Ip4Src p.header.ip4_src) [ inr n ↦ inr (λ r. n (r Ip4Src)) | inl g ↦
-    elim (value_cases Ip4Dst p.header.ip4_dst) [ inr n ↦ inr (λ r. n (r Ip4Dst)) | inl h ↦
-    elim (value_cases TcpSrcPort p.header.tcp_src_port) [ inr n ↦ inr (λ r. n (r TcpSrcPort)) | inl i ↦
-    elim (value_cases TcpDstPort p.header.tcp_dst_port) [ inr n ↦ inr (λ r. n (r TcpDstPort)) | inl j ↦
-    inl (whole p (record { sw = a; pt = b; eth_typ = c; ip_proto = d; eth_src = e; eth_dst = f; ip4_src = g; ip4_dst = h; tcp_src_port = i; tcp_dst_port = j })) ] ] ] ] ] ] ] ] ] ]
+    elim (value_cases Sw p.sw) [
+      | inr n ↦ inr (λ r. n (r Sw))
+      | inl a ↦
+          elim (value_cases Pt p.pt) [
+            | inr n ↦ inr (λ r. n (r Pt))
+            | inl b ↦
+                elim (value_cases EthTyp p.header.eth_typ) [
+                  | inr n ↦ inr (λ r. n (r EthTyp))
+                  | inl c ↦
+                      elim (value_cases IpProto p.header.ip_proto) [
+                        | inr n ↦ inr (λ r. n (r IpProto))
+                        | inl d ↦
+                            elim (value_cases EthSrc p.header.eth_src) [
+                              | inr n ↦ inr (λ r. n (r EthSrc))
+                              | inl e ↦
+                                  elim (value_cases EthDst p.header.eth_dst) [
+                                    | inr n ↦ inr (λ r. n (r EthDst))
+                                    | inl f ↦
+                                        elim (value_cases Ip4Src p.header.ip4_src) [
+                                          | inr n ↦ inr (λ r. n (r Ip4Src))
+                                          | inl g ↦
+                                              elim (value_cases Ip4Dst p.header.ip4_dst) [
+                                                | inr n ↦ inr (λ r. n (r Ip4Dst))
+                                                | inl h ↦
+                                                    elim (value_cases TcpSrcPort p.header.tcp_src_port) [
+                                                      | inr n ↦ inr (λ r. n (r TcpSrcPort))
+                                                      | inl i ↦
+                                                          elim (value_cases TcpDstPort p.header.tcp_dst_port) [
+                                                            | inr n ↦ inr (λ r. n (r TcpDstPort))
+                                                            | inl j ↦
+                                                                inl (whole p (record { sw = a; pt = b; eth_typ = c; ip_proto = d; eth_src = e; eth_dst = f; ip4_src = g; ip4_dst = h; tcp_src_port = i; tcp_dst_port = j }))
+                                                          ]
+                                                    ]
+                                              ]
+                                        ]
+                                  ]
+                            ]
+                      ]
+                ]
+          ]
+    ]
 
 abbrev NoIp : Packet → Type 0
 NoIp p = (p.header.ip_proto ≡ 0) × (p.header.ip4_src ≡ 0) × (p.header.ip4_dst ≡ 0)
 
 no_ip_cases : (p : Packet) → NoIp p ⊎ ¬ NoIp p
-no_ip_cases p = elim (zero_cases p.header.ip_proto) [ inr n ↦ inr (λ z. n z.0) | inl a ↦
-    elim (zero_cases p.header.ip4_src) [ inr n ↦ inr (λ z. n z.1) | inl b ↦
-    elim (zero_cases p.header.ip4_dst) [ inr n ↦ inr (λ z. n z.2) | inl c ↦ inl (a, b, c) ] ] ]
+no_ip_cases p = elim (zero_cases p.header.ip_proto) [
+  | inr n ↦ inr (λ z. n z.0)
+  | inl a ↦
+      elim (zero_cases p.header.ip4_src) [
+        | inr n ↦ inr (λ z. n z.1)
+        | inl b ↦
+            elim (zero_cases p.header.ip4_dst) [ inr n ↦ inr (λ z. n z.2) | inl c ↦ inl (a, b, c) ]
+      ]
+]
 
 ip_cases : (p : Packet) → (p.header.eth_typ ≢ 2048 → NoIp p) ⊎ ¬ (p.header.eth_typ ≢ 2048 → NoIp p)
 ip_cases p = elim (same_cases p.header.eth_typ 2048) [
@@ -135,15 +171,21 @@ no_port_kind p = elim (same_cases p.header.eth_typ 2048) [
 ]
 
 shaped_cases : (p : Packet) → IsWellShaped p ⊎ ¬ IsWellShaped p
-shaped_cases p = elim (range_cases p) [ inr n ↦ inr (λ s. n s.in_range) | inl r ↦
-    elim (ip_cases p) [ inr n ↦ inr (λ s. n s.ip_only) | inl i ↦
-    elim (no_port_kind p) [
-      | inr n ↦ inl (record { in_range = r; ip_only = i; no_ports = λ k. absurd (n k) })
-      | inl k ↦ elim (both_cases (p.header.tcp_src_port ≡ 0) (p.header.tcp_dst_port ≡ 0) (zero_cases p.header.tcp_src_port) (zero_cases p.header.tcp_dst_port)) [
-        | inl z ↦ inl (record { in_range = r; ip_only = i; no_ports = λ j. z })
-        | inr m ↦ inr (λ s. m (s.no_ports k))
+shaped_cases p = elim (range_cases p) [
+  | inr n ↦ inr (λ s. n s.in_range)
+  | inl r ↦
+      elim (ip_cases p) [
+        | inr n ↦ inr (λ s. n s.ip_only)
+        | inl i ↦
+            elim (no_port_kind p) [
+              | inr n ↦ inl (record { in_range = r; ip_only = i; no_ports = λ k. absurd (n k) })
+              | inl k ↦ elim (both_cases (p.header.tcp_src_port ≡ 0) (p.header.tcp_dst_port ≡ 0) (zero_cases p.header.tcp_src_port) (zero_cases p.header.tcp_dst_port)) [
+                | inl z ↦ inl (record { in_range = r; ip_only = i; no_ports = λ j. z })
+                | inr m ↦ inr (λ s. m (s.no_ports k))
+              ]
+            ]
       ]
-    ] ] ]
+]
 
 pub plain : (p : Term) (d : Tree) → CompiledOf p d → IsPlain p
 plain p d c = record {

@@ -77,8 +77,8 @@ adds_port d t stamp band s i n e old mid new port h k a p w = record {
   more = a.more ++ port ∷ [];
   all = w ∙ ap (λ (l : List PortRows). l ++ port ∷ []) a.all ∙ append_assoc old a.more (port ∷ []);
   rows = subst (λ (l : List Declared). ArePortRows d t stamp band l (a.more ++ port ∷ []))
-    (sym (ap (map (declared_at s)) (take_more s.ports i e h ∙ ap (λ (m : ℕ). take i s.ports ++ m ∷ []) (sym k)) ∙ map-append (declared_at s) (take i s.ports) (n ∷ [])))
-    (pairwise_append (λ (x : Declared) (port : PortRows). IsPortRows d t stamp band x.site x.port port) (map (declared_at s) (take i s.ports)) (declared_at s n ∷ []) a.more (port ∷ []) a.rows (p, tt));
+      (sym (ap (map (declared_at s)) (take_more s.ports i e h ∙ ap (λ (m : ℕ). take i s.ports ++ m ∷ []) (sym k)) ∙ map-append (declared_at s) (take i s.ports) (n ∷ [])))
+      (pairwise_append (λ (x : Declared) (port : PortRows). IsPortRows d t stamp band x.site x.port port) (map (declared_at s) (take i s.ports)) (declared_at s n ∷ []) a.more (port ∷ []) a.rows (p, tt));
 }
 
 -- the rows so far
@@ -91,7 +91,7 @@ pub count_port : (d : Tree) (t : Layout) (stamp : ℕ) (band : Band) (s : Site) 
 count_port d t stamp band s i n e total port h k c p =
     let l = rows_length (view_of t stamp s n) (top_of band (kind_at t (place_of (s.sw, n)))) (entries_at d s n) port.rows p.rows.rows in
     let more : row_count d s (take (i + 1) s.ports) ≡ row_count d s (take i s.ports) + length (entries_at d s n) =
-        ap (row_count d s) (take_more s.ports i e h ∙ ap (λ (m : ℕ). take i s.ports ++ m ∷ []) (sym k)) ∙ count_append d s (take i s.ports) n in
+    ap (row_count d s) (take_more s.ports i e h ∙ ap (λ (m : ℕ). take i s.ports ++ m ∷ []) (sym k)) ∙ count_append d s (take i s.ports) n in
     omega (arith, l, more, c)
 
 pub port_small : (d : Tree) (t : Layout) (stamp : ℕ) (band : Band) (s : Site) (n : ℕ) (port : PortRows) → IsPortRows d t stamp band s n port → length port.rows ≤ 16000
@@ -150,8 +150,8 @@ adds_switch d t stamp band sites i s mid new h k a b =
     let e : take (i + 1) sites ≡ take i sites ++ s ∷ [] = take_more sites i s h ∙ ap (λ (m : Site). take i sites ++ m ∷ []) (sym k) in
     record {
       rows = subst (λ (l : List Declared). ArePortRows d t stamp band l new) (sym (ap (flat_map declared_on) e ∙ flat_append declared_on (take i sites) s))
-        (subst (λ (l : List PortRows). ArePortRows d t stamp band (flat_map declared_on (take i sites) ++ declared_on s) l) (sym b.all)
-        (pairwise_append (λ (x : Declared) (port : PortRows). IsPortRows d t stamp band x.site x.port port) (flat_map declared_on (take i sites)) (declared_on s) mid b.more a.rows b.rows));
+          (subst (λ (l : List PortRows). ArePortRows d t stamp band (flat_map declared_on (take i sites) ++ declared_on s) l) (sym b.all)
+          (pairwise_append (λ (x : Declared) (port : PortRows). IsPortRows d t stamp band x.site x.port port) (flat_map declared_on (take i sites)) (declared_on s) mid b.more a.rows b.rows));
       few = λ u m. elim (in-either (take i sites) (s ∷ []) u (subst (λ (l : List Site). IsIn l u) e m)) [
         | inl w ↦ a.few u w
         | inr w ↦ last u w

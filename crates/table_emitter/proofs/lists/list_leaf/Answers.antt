@@ -28,7 +28,7 @@ pub returns-in_err-push_row-clause-bars : goal.returns-in_err-push_row-clause-ba
 returns-in_err-push_row-clause-bars c =
     let named = leaf_named c.args.path.now c.args.leaf.now _ _ _ _ c.requires.kinds (c.generic.ensures ∙ c.fixed_by.ensures ∙ ap (λ (ls : List Lit). apply ls open_cell) c.trues.ensures) c.in_ok-cells.ensures c.deref-cell-items.ensures.value in
     let b = subst (λ (es : List Entry). Bars c.args.view.now (length c.args.rows.now) es c.in_err-push_row.field-0.0) named
-      (cell_bars c.args.view.now c.args.top c.args.path.now c.args.leaf.now _ _ _ _ _ _ c.loop-cell-test.true c.in_ok-made.ensures.actions c.loop-cell.invariant c.in_err-push_row.ensures.bars) in
+    (cell_bars c.args.view.now c.args.top c.args.path.now c.args.leaf.now _ _ _ _ _ _ c.loop-cell-test.true c.in_ok-made.ensures.actions c.loop-cell.invariant c.in_err-push_row.ensures.bars) in
     search (rules, b)
 
 pub loop-cell-preserved : goal.loop-cell-preserved
