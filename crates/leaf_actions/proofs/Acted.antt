@@ -1,29 +1,26 @@
 -- What the actions of a list of copies send.
-use Rattle.std.proofs.Common.{◌≡◌, ◌≢◌, ◌≤◌, ◌⊎◌, ℕ, inl, inr, refl, ap, sym, ◌∙◌, subst, arith, cond, Bool, true, false, ◌==◌, List, [], ◌∷◌, ◌++◌, map, append_assoc, Option, Some, None}
+use Rattle.std.proofs.Common.{◌≡◌, ◌≢◌, ◌≤◌, ◌⊎◌, ℕ, inl, inr, refl, ap, sym, ◌∙◌, arith, cond, Bool, true, false, ◌==◌, List, [], ◌∷◌, ◌++◌, map, append_assoc, Option, Some, None}
 use Rattle.std.specs.Prelude.{nat_le, ◌&&◌, not}
-use Rattle.std.proofs.lemmas.Bool.{eqb-true, eqb-false, eq-eqb, ne_eqb, le-leb}
+use Rattle.std.proofs.lemmas.Bool.{eqb-true, eqb-false, ne_eqb, le-leb}
 use Rattle.std.proofs.lemmas.Bool.Decides.{eqb_tells}
 use Rattle.nk_values.specs.declared.action.Action.{Action}
-use Rattle.nk_values.specs.declared.action.Action.TheVariants.{Output, SetVlanVid, StripVlan, SetDlSrc, SetDlDst, SetNwSrc, SetNwDst, SetTpSrc, SetTpDst}
-use Rattle.nk_values.specs.declared.field.Field.{Field}
-use Rattle.nk_values.specs.declared.field.Field.TheVariants.{Pt, EthTyp, IpProto, EthSrc, EthDst, Ip4Src, Ip4Dst, TcpSrcPort, TcpDstPort}
+use Rattle.nk_values.specs.declared.action.Action.TheVariants.{Output, SetDlSrc, SetDlDst, SetNwSrc, SetNwDst, SetTpSrc, SetTpDst}
+use Rattle.nk_values.specs.declared.field.Field.TheVariants.{EthTyp, IpProto, EthSrc, EthDst, Ip4Src, Ip4Dst, TcpSrcPort, TcpDstPort}
 use Rattle.nk_values.specs.declared.packet.Header.{Header}
 use Rattle.nk_values.specs.declared.packet.Packet.{Packet}
-use Rattle.nk_values.specs.declared.lit.Lit.{Lit}
 use Rattle.nk_values.specs.declared.rows.PortKind.{PortKind}
 use Rattle.nk_values.specs.declared.rows.PortKind.TheVariants.{Edge, Linked}
 use Rattle.nk_values.specs.declared.sent.Sent.{Sent}
-use Rattle.nk_values.specs.Acts.{out_port, sent_to, sent_by, acted}
+use Rattle.nk_values.specs.Acts.{out_port, sent_to, acted}
 use Rattle.nk_values.specs.Members.{IsIn}
-use Rattle.nk_values.specs.Packets.{get}
 use Rattle.nk_values.specs.Patterns.{Incoming}
 use Rattle.nk_values.specs.Tags.{IsVlanId}
 use Rattle.fdd_nodes.specs.Cells.{free, fill, pick, Agrees}
 use Rattle.fdd_nodes.specs.Trees.{apply}
 use Rattle.leaf_actions.specs.declared.route.Route.{Route}
 use Rattle.leaf_actions.specs.declared.view.PortView.{PortView}
-use Rattle.leaf_actions.specs.Chains.{keeps, Climbs}
-use Rattle.leaf_actions.specs.Listing.{change, changed, retagged, port_number, listed}
+use Rattle.leaf_actions.specs.Chains.{Climbs}
+use Rattle.leaf_actions.specs.Listing.{changed, retagged, port_number, listed}
 use Rattle.leaf_actions.specs.Settable.{settable, CopyCanBeSet}
 use Rattle.leaf_actions.specs.Views.{tag_at}
 use Rattle.leaf_actions.proofs.Chained.{Keeps, keeps_of}

@@ -1,23 +1,22 @@
 -- Lists of actions: what they are, and what they send.
-use Rattle.std.proofs.Common.{◌≡◌, ◌≤◌, ◌⊎◌, ℕ, inl, inr, refl, ap, sym, ◌∙◌, subst, arith, cond, Bool, true, false, ◌==◌, List, [], ◌∷◌, map, Option, Some, None}
+use Rattle.std.proofs.Common.{◌≡◌, ◌⊎◌, ℕ, inl, inr, refl, ap, sym, ◌∙◌, subst, arith, cond, Bool, true, false, ◌==◌, List, [], ◌∷◌, map, Option, Some, None}
 use Rattle.std.proofs.lemmas.Bool.{eqb-true}
 use Rattle.nk_values.specs.declared.action.Action.{Action}
 use Rattle.nk_values.specs.declared.field.Field.{Field}
 use Rattle.nk_values.specs.declared.field.Field.TheVariants.{Pt}
-use Rattle.nk_values.specs.declared.packet.Header.{Header}
 use Rattle.nk_values.specs.declared.packet.Packet.{Packet}
 use Rattle.nk_values.specs.declared.lit.Lit.{Lit}
 use Rattle.nk_values.specs.declared.sent.Sent.{Sent}
 use Rattle.nk_values.specs.Acts.{acted}
 use Rattle.nk_values.specs.Held.{put}
 use Rattle.nk_values.specs.Lits.{lit_field, lit_value}
-use Rattle.nk_values.specs.Members.{IsIn, SameMembers}
+use Rattle.nk_values.specs.Members.{SameMembers}
 use Rattle.nk_values.specs.Packets.{get, with_value}
-use Rattle.nk_values.specs.Ranges.{IsValue, IsLiteralOf}
+use Rattle.nk_values.specs.Ranges.{IsLiteralOf}
 use Rattle.nk_values.specs.Tags.{IsVlanId}
 use Rattle.nk_values.proofs.PacketLaws.{get-with_same, get-with_other, field_cases}
 use Rattle.fdd_nodes.specs.Cells.{open_cell}
-use Rattle.fdd_nodes.specs.Paths.{Way, IsOnPath}
+use Rattle.fdd_nodes.specs.Paths.{Way}
 use Rattle.fdd_nodes.specs.Trees.{apply}
 use Rattle.leaf_actions.specs.declared.made.Unordered.{Unordered}
 use Rattle.leaf_actions.specs.declared.route.Route.{Route}
@@ -28,7 +27,7 @@ use Rattle.leaf_actions.specs.Changes.{fixed}
 use Rattle.leaf_actions.specs.Chains.{Climbs}
 use Rattle.leaf_actions.specs.Listing.{first_apart, listed, IsActionList}
 use Rattle.leaf_actions.specs.Routes.{out_of, IsListing}
-use Rattle.leaf_actions.specs.Settable.{AreSettable, CopyCanBeSet}
+use Rattle.leaf_actions.specs.Settable.{AreSettable}
 use Rattle.leaf_actions.specs.Views.{port_in, tag_at, arriving}
 use Rattle.leaf_actions.proofs.Acted.{IsOut, acted_listed}
 use Rattle.leaf_actions.proofs.Allowed.{one_settable}

@@ -1,7 +1,5 @@
 -- Copies that actions can make, one by one and as a whole.
-use Rattle.std.proofs.Common.{◌≡◌, inl, inr, refl, sym, subst, List, [], ◌∷◌}
-use Rattle.nk_values.specs.declared.field.Field.{Field}
-use Rattle.nk_values.specs.declared.field.Field.TheVariants.{EthTyp, IpProto}
+use Rattle.std.proofs.Common.{inl, inr, refl, subst, List, [], ◌∷◌}
 use Rattle.nk_values.specs.declared.lit.Lit.{Lit}
 use Rattle.nk_values.specs.Lits.{lit_field}
 use Rattle.nk_values.specs.Members.{IsIn}

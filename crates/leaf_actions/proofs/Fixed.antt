@@ -8,14 +8,14 @@ use Rattle.nk_values.specs.declared.lit.Lit.{Lit}
 use Rattle.nk_values.specs.Held.{Holds, put}
 use Rattle.nk_values.specs.Lits.{lit_field, lit_value}
 use Rattle.nk_values.specs.Members.{IsIn}
-use Rattle.nk_values.specs.Packets.{get, with_value}
+use Rattle.nk_values.specs.Packets.{get}
 use Rattle.nk_values.specs.Ranges.{IsValue}
 use Rattle.nk_values.proofs.LitLaws.{lit_is_value}
 use Rattle.nk_values.proofs.PacketLaws.{get-with_same, get-with_other, field_cases, same_packet}
 use Rattle.fdd_nodes.specs.Cells.{free, open_cell, Agrees, fill, pick, IsValid}
 use Rattle.fdd_nodes.specs.Paths.{Way, IsOnPath}
 use Rattle.fdd_nodes.specs.Trees.{apply}
-use Rattle.fdd_nodes.proofs.CellLaws.{lit_not_free, agrees_with, fill_fixed, open_agrees, open_valid}
+use Rattle.fdd_nodes.proofs.CellLaws.{lit_not_free, agrees_with, open_agrees, open_valid}
 use Rattle.leaf_actions.specs.Changes.{fixed}
 use Rattle.leaf_actions.specs.Settable.{CanSet, CopyCanBeSet}
 

@@ -1,11 +1,11 @@
 -- Routes of copies, in whatever order.
-use Rattle.std.proofs.Common.{◌≡◌, ◌≤◌, ◌<◌, ℕ, zero, suc, ◌+◌, inl, inr, refl, ap, sym, ◌∙◌, subst, arith, Bool, true, false, cond, ◌==◌, List, [], ◌∷◌, ◌++◌, length, get_or, map, Option, Some, None, add-one}
-use Rattle.std.specs.List.{flat_map, Contains}
+use Rattle.std.proofs.Common.{◌≡◌, ◌≤◌, ◌<◌, ℕ, zero, suc, inl, inr, refl, ap, sym, ◌∙◌, subst, arith, Bool, true, false, cond, ◌==◌, List, [], ◌∷◌, ◌++◌, length, get_or, map, Option, Some, None, add-one}
+use Rattle.std.specs.List.{Contains}
 use Rattle.std.specs.List.Sorted.{IsPermutation, IsSorted}
 use Rattle.std.specs.Ordering.{is_lt, ordering_then, nat_cmp}
 use Rattle.std.specs.declared.cmp.Ordering.{Ordering}
 use Rattle.std.specs.declared.cmp.Ordering.TheVariants.{Less, Equal, Greater}
-use Rattle.std.proofs.lemmas.Bool.{eqb-true, lt-ltb}
+use Rattle.std.proofs.lemmas.Bool.{lt-ltb}
 use Rattle.std.proofs.lemmas.Bool.Decides.{leb_tells}
 use Rattle.std.proofs.lemmas.List.{map-append}
 use Rattle.std.proofs.lemmas.List.Sorted.{Contains-permutation, IsPermutation-sym}
@@ -15,10 +15,10 @@ use Rattle.nk_values.specs.declared.field.Field.TheVariants.{Pt}
 use Rattle.nk_values.specs.declared.sent.Sent.{Sent}
 use Rattle.nk_values.specs.Members.{IsIn, SameMembers}
 use Rattle.nk_values.specs.Packets.{with_value}
-use Rattle.nk_values.proofs.MemberLaws.{in-left, in-right, in-either}
+use Rattle.nk_values.proofs.MemberLaws.{in-either}
 use Rattle.fdd_nodes.specs.Cells.{open_cell}
 use Rattle.fdd_nodes.specs.Copies.{copy_cmp}
-use Rattle.fdd_nodes.specs.Trees.{apply, outcomes}
+use Rattle.fdd_nodes.specs.Trees.{apply}
 use Rattle.leaf_actions.specs.declared.route.Route.{Route}
 use Rattle.leaf_actions.specs.declared.view.PortView.{PortView}
 use Rattle.leaf_actions.specs.declared.view.SwitchPort.{SwitchPort}

@@ -6,6 +6,7 @@ ghost use Rattle.fdd_nodes.specs.Trees.{tree};
 ghost use Rattle.fdd_compile.specs.Compiles.{CompiledOf};
 ghost use Rattle.fdd_compile.specs.Places.{diagram_of};
 ghost use Rattle.topology_model.specs.Layouts.{place_of};
+ghost use Rattle.topology_model.specs.Wired.{IsTopology};
 ghost use Rattle.packet_tracer.specs.Means.{kind_at, top_of, RowsMean};
 ghost use Rattle.table_emitter.specs.Emission.{CanBeMade, switch_port, view_of, entries_at, IsPortRows, AddsSwitch, IsEmitted, BarsSwitch, BarsPolicy};
 ghost use Rattle.table_emitter.specs.Faults.{Bars};
@@ -57,6 +58,7 @@ fn emit_rows(
     requires made { CanBeMade (tree root.now) }
     requires stamp { IsVlanId stamp }
     ensures rows { IfOk result (IsEmitted (tree root.now) topology.now stamp band) }
+    ensures topology { OnOk result (IsTopology topology.now) }
     ensures bars { IfErr result (BarsPolicy (tree root.now) topology.now stamp) }
 {
     let mut ports = PortLists::new(alloc);

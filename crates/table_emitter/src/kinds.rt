@@ -18,7 +18,9 @@ pub struct Kinds {
 
 // The numbers of IPv4, TCP and UDP.
 const IPV4: u64 = 2048;
+
 const TCP: u64 = 6;
+
 const UDP: u64 = 17;
 
 impl Kinds {

@@ -14,7 +14,11 @@ use std::alloc::{AllocError, Global};
 const FREE: u64 = u64::MAX;
 
 // The cells of the rows of a path that fixes a cell.
-pub(crate) fn cells_of(alloc: Global, kinds: Kinds, cell: &Packet) -> Result<Vec<Packet>, AllocError>
+pub(crate) fn cells_of(
+    alloc: Global,
+    kinds: Kinds,
+    cell: &Packet,
+) -> Result<Vec<Packet>, AllocError>
     ensures { IfOk result (λ xs. xs.items ≡ cells_of kinds cell.now) }
 {
     let mut cells = Vec::new(alloc);
