@@ -1,4 +1,5 @@
 pub mod Bare
+pub mod FutureLaws
 pub mod HopLaws
 pub mod Links
 pub mod Placing

@@ -33,6 +33,21 @@ pub times_more : (p : Term) (n m : ℕ) → n ≤ m → (k : ℕ) (h : Trail) �
 times_more p n m l zero h = λ t i. i
 times_more p n m l (suc k) h = flat_map-within (den p n) (den p m) (times k (den p n) h) (times k (den p m) h) (times_more p n m l k h) (λ u. more_turns p n m u l)
 
+-- repetitions from the front
+pub times-to_front : (k : ℕ) (f : Trail → List Trail) (x y : Trail) → IsIn (times (suc k) f x) y → (z : Trail) × IsIn (f x) z × IsIn (times k f z) y
+times-to_front zero f x y m = (y, elim (in-either (f x) [] y m) [ inl h ↦ h | inr h ↦ absurd h ], inl refl)
+times-to_front (suc k) f x y m =
+    let r = from-flat_map f (times (suc k) f x) y m in
+    let s = times-to_front k f x r.0 r.1 in
+    (s.0, s.1, in-flat_map f (times k f s.0) r.0 y s.2 r.2)
+
+pub times-from_front : (k : ℕ) (f : Trail → List Trail) (x z y : Trail) → IsIn (f x) z → IsIn (times k f z) y → IsIn (times (suc k) f x) y
+times-from_front zero f x z y h (inl e) = in-left (f x) [] y (subst (λ w. IsIn (f x) w) e h)
+times-from_front zero f x z y h (inr b) = absurd b
+times-from_front (suc k) f x z y h m =
+    let r = from-flat_map f (times k f z) y m in
+    in-flat_map f (times (suc k) f x) r.0 y (times-from_front k f x z r.0 h r.1) r.2
+
 -- at most n repetitions are k of them, with k at most n
 pub from-up_to : (n : ℕ) (step : Trail → List Trail) (h t : Trail) → IsIn (up_to n step h) t → (k : ℕ) × IsIn (times k step h) t
 from-up_to zero step h t i = (zero, i)

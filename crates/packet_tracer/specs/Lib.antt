@@ -1,4 +1,5 @@
 pub mod Hops
+pub mod Laws
 pub mod Means
 pub mod Turns
 pub mod Walks

@@ -3,6 +3,7 @@
 
 pub mod flight;
 pub mod hopping;
+pub mod laws;
 #[cfg(test)]
 mod tests;
 pub mod version;
@@ -10,5 +11,6 @@ pub mod walking;
 
 pub use flight::{Flight, Hopped, Walk};
 pub use hopping::hop;
+pub use laws::hops_keep_futures;
 pub use version::Version;
 pub use walking::walk;
