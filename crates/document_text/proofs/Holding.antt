@@ -33,7 +33,7 @@ use Rattle.document_text.specs.Schedules.{refused_if, formed, at_switch, arrival
 use Rattle.document_text.specs.Lines.{is_end_value, at_edge, placed_by, placed, switch_form, switch_line, link_form, link_line, behind_topology, behind_policies, unset, one_numeral, two_numerals, hops_line, capacity_line, stamps_line, policy_line, packet_form, packet_line, schedule_line}
 use Rattle.document_text.specs.Steps.{Step, Next, Enters, Opens, Stops, head_of, event_too_many, is_too_many, next, opens, enters, happens, scheduled, declares, step}
 use Rattle.document_text.specs.Answers.{IsNext, IsOpening}
-use Rattle.document_text.specs.Laws.{Arrives, IsNamed}
+use Rattle.document_text.specs.Laws.{Arrives, IsNamed, IsRead}
 use Rattle.document_text.proofs.Sound.{Stays, formed-ok, refused-ok, words-keep, edge-ok}
 
 abbrev pub InHops : ℕ → Type 0
@@ -52,6 +52,7 @@ pub record Holds (s : State) : Type 0 where
   pub policies : length s.policies ≤ 64
   pub packets : length s.packets ≤ 10000
   pub events : length s.events ≤ 100000
+  pub read : (p : Term) → IsIn s.policies p → IsRead p
   pub arrives : (p : PacketLine) → IsIn s.packets p → Arrives s.layout p
   pub named : (e : ScheduleLine) → IsIn s.events e → IsNamed s.layout (length s.packets) e.event
   pub no_packets : place_of_kind s.reached < 4 → s.packets ≡ []
@@ -66,6 +67,7 @@ start-holds = record {
   policies = omega arith;
   packets = omega arith;
   events = omega arith;
+  read = λ p m. absurd m;
   arrives = λ p m. absurd m;
   named = λ e m. absurd m;
   no_packets = λ l. refl;
@@ -115,6 +117,7 @@ layout-holds s k t h late low = record {
   policies = h.policies;
   packets = h.packets;
   events = h.events;
+  read = h.read;
   arrives = λ p m. absurd (subst (λ ps. IsIn ps p) (h.no_packets (omega (arith, late, low))) m);
   named = λ e m. absurd (subst (λ es. IsIn es e) (h.no_events (omega (arith, late, low))) m);
   no_packets = λ l. h.no_packets (omega (arith, late, low));
@@ -135,6 +138,7 @@ kind-holds s k h late = record {
   policies = h.policies;
   packets = h.packets;
   events = h.events;
+  read = h.read;
   arrives = h.arrives;
   named = h.named;
   no_packets = λ l. h.no_packets (omega (arith, late, l));
@@ -143,19 +147,32 @@ kind-holds s k h late = record {
 }
 
 hops-holds : (s : State) (o : Option ℕ) → Holds s → IfSome o InHops → Holds (record s { hops = o })
-hops-holds s o h k = record { hops = k; capacity = h.capacity; stamps = h.stamps; policies = h.policies; packets = h.packets; events = h.events; arrives = h.arrives; named = h.named; no_packets = h.no_packets; no_events = h.no_events; inside = h.inside }
+hops-holds s o h k = record { hops = k; capacity = h.capacity; stamps = h.stamps; policies = h.policies; packets = h.packets; events = h.events; read = h.read; arrives = h.arrives; named = h.named; no_packets = h.no_packets; no_events = h.no_events; inside = h.inside }
 
 capacity-holds : (s : State) (o : Option ℕ) → Holds s → IfSome o InRows → Holds (record s { capacity = o })
-capacity-holds s o h k = record { hops = h.hops; capacity = k; stamps = h.stamps; policies = h.policies; packets = h.packets; events = h.events; arrives = h.arrives; named = h.named; no_packets = h.no_packets; no_events = h.no_events; inside = h.inside }
+capacity-holds s o h k = record { hops = h.hops; capacity = k; stamps = h.stamps; policies = h.policies; packets = h.packets; events = h.events; read = h.read; arrives = h.arrives; named = h.named; no_packets = h.no_packets; no_events = h.no_events; inside = h.inside }
 
 stamps-holds : (s : State) (o : Option (ℕ × ℕ)) → Holds s → IfSome o AreStamps → Holds (record s { stamps = o })
-stamps-holds s o h k = record { hops = h.hops; capacity = h.capacity; stamps = k; policies = h.policies; packets = h.packets; events = h.events; arrives = h.arrives; named = h.named; no_packets = h.no_packets; no_events = h.no_events; inside = h.inside }
+stamps-holds s o h k = record { hops = h.hops; capacity = h.capacity; stamps = k; policies = h.policies; packets = h.packets; events = h.events; read = h.read; arrives = h.arrives; named = h.named; no_packets = h.no_packets; no_events = h.no_events; inside = h.inside }
 
 inside-holds : (s : State) (b : Bool) → Holds s → (b ≡ true → 5 ≤ place_of_kind s.reached) → Holds (record s { inside = b })
-inside-holds s b h k = record { hops = h.hops; capacity = h.capacity; stamps = h.stamps; policies = h.policies; packets = h.packets; events = h.events; arrives = h.arrives; named = h.named; no_packets = h.no_packets; no_events = h.no_events; inside = k }
+inside-holds s b h k = record { hops = h.hops; capacity = h.capacity; stamps = h.stamps; policies = h.policies; packets = h.packets; events = h.events; read = h.read; arrives = h.arrives; named = h.named; no_packets = h.no_packets; no_events = h.no_events; inside = k }
 
-pub policy-holds : (s : State) (p : Term) → Holds s → length s.policies < 64 → Holds (with_policy s p)
-policy-holds s p h few = record { hops = h.hops; capacity = h.capacity; stamps = h.stamps; policies = omega (arith, few, length-append s.policies (p ∷ [])); packets = h.packets; events = h.events; arrives = h.arrives; named = h.named; no_packets = h.no_packets; no_events = h.no_events; inside = h.inside }
+pub policy-holds : (s : State) (p : Term) → Holds s → length s.policies < 64 → IsRead p → Holds (with_policy s p)
+policy-holds s p h few r = record {
+  hops = h.hops;
+  capacity = h.capacity;
+  stamps = h.stamps;
+  policies = omega (arith, few, length-append s.policies (p ∷ []));
+  packets = h.packets;
+  events = h.events;
+  read = λ q m. elim (in-either s.policies (p ∷ []) q m) [ inl k ↦ h.read q k | inr k ↦ elim k [ inl e ↦ subst IsRead e r | inr n ↦ absurd n ] ];
+  arrives = h.arrives;
+  named = h.named;
+  no_packets = h.no_packets;
+  no_events = h.no_events;
+  inside = h.inside;
+}
 
 -- each line
 switch-holds : (s t : State) (ws : List (List ℕ)) → Holds s → switch_line s ws ≡ Ok t → Holds t
@@ -277,6 +294,7 @@ packet-holds s p h few early at = record {
   policies = h.policies;
   packets = omega (arith, few, length-append s.packets (p ∷ []));
   events = h.events;
+  read = h.read;
   arrives = λ q m. elim (in-last s.packets p q m) [ inl k ↦ h.arrives q k | inr k ↦ subst (Arrives s.layout) k at ];
   named = λ e m. absurd (subst (λ es. IsIn es e) (h.no_events (omega (arith, early))) m);
   no_packets = λ l. absurd (omega (arith, l));
@@ -293,6 +311,7 @@ event-holds s e h few late name = record {
   policies = h.policies;
   packets = h.packets;
   events = omega (arith, few, length-append s.events (e ∷ []));
+  read = h.read;
   arrives = h.arrives;
   named = λ f m. elim (in-last s.events e f m) [ inl k ↦ h.named f k | inr k ↦ subst (λ x. IsNamed s.layout (length s.packets) x.event) k name ];
   no_packets = h.no_packets;

@@ -38,6 +38,7 @@ doc-within s h e = record {
   policies = (some-policy s.policies e, h.policies);
   packets = h.packets;
   events = h.events;
+  read = h.read;
   arrives = h.arrives;
   named = h.named;
 }
@@ -70,7 +71,7 @@ does-within Go n d (Stops f) next opens go k = no-doc d _ k
 
 closes-within : (Go : Mode → Type 0) (d : Doc) (s : State) (begin : ℕ) (text : List ℕ) → HasRoom s → ((m : Mode) → HoldsIn m → Go m → IsWithin d)
     → Closes Go (Accepted d) s begin text → IsWithin d
-closes-within Go d s begin text h go (inl k) = go (Lines (with_policy s k.0)) (policy-holds s k.0 h.0 h.1) k.2
+closes-within Go d s begin text h go (inl k) = go (Lines (with_policy s k.0)) (policy-holds s k.0 h.0 h.1 (text, k.1)) k.2
 closes-within Go d s begin text h go (inr k) = no-doc d _ k.2
 
 chosen-within : (Go : Mode → Type 0) (d : Doc) (s : State) (begin : ℕ) (text line : List ℕ) (b : Bool) → HasRoom s → ((m : Mode) → HoldsIn m → Go m → IsWithin d)

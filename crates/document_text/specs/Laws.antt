@@ -2,6 +2,8 @@
 use Rattle.std.specs.Prelude.{◌≡◌, ℕ, true, ◌≤◌, ◌<◌, List, length}
 use Rattle.nk_values.specs.Members.{IsIn}
 use Rattle.nk_values.specs.Packets.{IsWellShaped}
+use Rattle.nk_syntax.specs.Terms.{Term}
+use Rattle.netkat_parser.specs.Grammar.{IsText}
 use Rattle.topology_model.specs.Layouts.{Layout, is_edge, has_switch, place_of}
 use Rattle.document_text.specs.declared.document.Event.{Event}
 use Rattle.document_text.specs.declared.document.Event.TheVariants.{Send, Take, Apply, Reply, Heard, Arrive, Lost}
@@ -37,15 +39,20 @@ pub record AreSettings (s : Settings) : Type 0 where
   pub capacity : (1 ≤ s.capacity) × (s.capacity ≤ 200000)
   pub stamps : (1 ≤ s.stamps.0) × (s.stamps.0 < s.stamps.1) × (s.stamps.1 ≤ 4094)
 
+-- the policy is read from some text
+abbrev pub IsRead : Term → Type 0
+IsRead p = (text : List ℕ) × IsText text p
+
 -- what holds of every document
 pub record IsWithin (d : Doc) : Type 0 where
   pub settings : AreSettings d.settings
   pub policies : (1 ≤ length d.policies) × (length d.policies ≤ 64)
   pub packets : length d.packets ≤ 10000
   pub events : length d.schedule ≤ 100000
+  pub read : (p : Term) → IsIn d.policies p → IsRead p
   pub arrives : (p : PacketLine) → IsIn d.packets p → Arrives d.layout p
   pub named : (e : ScheduleLine) → IsIn d.schedule e → IsNamed d.layout (length d.packets) e.event
 
--- Each document that is read is within the limits, its packets arrive at edge ports, and its events name what there is.
+-- Each document that is read is within the limits, its policies are read from texts, its packets arrive at edge ports, and its events name what there is.
 abbrev pub Within : Type 0
 Within = (text : List ℕ) (d : Doc) → IsDocument text d → IsWithin d

@@ -7,7 +7,7 @@ pub fn one_outcome()
 {}
 
 /// A document that was read is within the limits: its settings are in their ranges, it has 1 to 64
-/// policies, each packet is well shaped and arrives at a port without a link, and events name switches
+/// policies, each read from some text, each packet is well shaped and arrives at a port without a link, and events name switches
 /// and packet lines that there are.
 pub fn within()
     ensures { Within }

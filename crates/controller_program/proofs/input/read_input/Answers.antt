@@ -2,6 +2,7 @@ use Rattle.std.proofs.Common.{◌≡◌, arith, ◌∙◌}
 use Rattle.document_text.specs.Answers.{doc_of}
 use Rattle.document_text.specs.Documents.{Accepted, Refused}
 use Rattle.controller_program.proofs.Reading.{read_whole, short}
+use Rattle.controller_program.proofs.Soundness.{sound}
 use Rattle.controller_program.proofs.input.read_input.Goals as goal
 
 pub returns-in-Ok-read_document-clause-document : goal.returns-in-Ok-read_document-clause-document
@@ -15,3 +16,6 @@ returns-in-Ok-read_document-clause-ended g c =
 pub returns-in-Err-Fault-clause-document : goal.returns-in-Err-Fault-clause-document
 returns-in-Err-Fault-clause-document g c =
     read_whole _ _ _ (Refused c.in-Err-Fault.fault) c.in-Ok.ensures.bytes c.deref.ensures.value (rw c.in-Err-Fault.field-0-is at c.in-Err-Fault.ensures.reads)
+
+pub returns-in-Ok-read_document-clause-sound : goal.returns-in-Ok-read_document-clause-sound
+returns-in-Ok-read_document-clause-sound g c = sound c.deref.result.now (doc_of c.in-Ok-read_document.document) c.in-Ok-read_document.ensures.reads
