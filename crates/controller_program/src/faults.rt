@@ -2,8 +2,7 @@
 ghost use Rattle.std.specs.Prelude.{◌≡◌};
 ghost use Rattle.controller_program.specs.Faults.{policy_fault, topology_fault, document_fault, placed_fault};
 
-use document_text::DocFault;
-use document_text::Fault as DocumentFault;
+use document_text::{DocFault, Fault as DocumentFault};
 use netkat_parser::Fault as PolicyFault;
 use report_text::{Fault, TextFault};
 use topology_model::TopoFault;

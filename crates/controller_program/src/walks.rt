@@ -57,5 +57,12 @@ fn walk_of(
     ensures { (p : Term) → RowsMean rows.now p document.now.topology → IfOk result (IsWalkOf (doc_of document.now) p line.now) }
 {
     let hops = u64::from(document.settings.hops);
-    walk(alloc, rows, &document.topology, &line.packet, line.tag, hops)
+    walk(
+        alloc,
+        rows,
+        &document.topology,
+        &line.packet,
+        line.tag,
+        hops,
+    )
 }

@@ -18,7 +18,7 @@ walks_of-requires-clause-means c =
     let p = get_or (policies_of d) i Dup in (
       p,
       subst (λ (v : Version). RowsMean v.rows p d.topology) (sym c.version-item.is)
-      (version_at d.topology d.settings 0 (policies_of d) c.args.versions.now i Dup c.version-item.result c.requires.versions c.loop-version-test.true).means,
+          (version_at d.topology d.settings 0 (policies_of d) c.args.versions.now i Dup c.version-item.result c.requires.versions c.loop-version-test.true).means,
     )
 
 pub loop-version-preserved : goal.loop-version-preserved
@@ -27,8 +27,8 @@ loop-version-preserved c =
     let i = c.loop-version.version-index in
     let p = get_or (policies_of d) i Dup in
     let means =
-        subst (λ (v : Version). RowsMean v.rows p d.topology) (sym c.version-item.is)
-        (version_at d.topology d.settings 0 (policies_of d) c.args.versions.now i Dup c.version-item.result c.requires.versions c.loop-version-test.true).means
+    subst (λ (v : Version). RowsMean v.rows p d.topology) (sym c.version-item.is)
+    (version_at d.topology d.settings 0 (policies_of d) c.args.versions.now i Dup c.version-item.result c.requires.versions c.loop-version-test.true).means
     in
     let counts = same_count d.topology d.settings 0 (policies_of d) c.args.versions.now c.requires.versions in
     subst (λ (wss : List (Vec Walk Global)). AreTraces (doc_of d) (take (i + 1) (policies_of d)) (map (λ ws. ws.items) wss)) (sym c.in_ok-push.ensures.items)
