@@ -45,7 +45,7 @@ fn row<R: Abort + AllocGlobal>(
 }
 
 // What a command prints.
-fn prints<R: Abort + AllocGlobal>(
+pub fn prints<R: Abort + AllocGlobal>(
     rt: &R,
     word: &str,
     document: &str,
