@@ -1,0 +1,137 @@
+// Documents at the limits, and one step past them.
+use crate::Status;
+use crate::tests::prints;
+use std::alloc::{AllocError, Global};
+use std::test::Fail;
+
+// So many pieces, joined, each with its number from 1.
+fn joined(alloc: Global, count: u64, before: &str, between: &str) -> Result<String, AllocError> {
+    let mut text = String::new(alloc);
+    for place in 0..count {
+        if place > 0 {
+            text.push_str(between)?;
+        }
+        text.push_str(before)?;
+        text.push_str(&(place + 1).to_string(alloc)?)?;
+    }
+    Ok(text)
+}
+
+// A switch with two ports, and this policy.
+fn with_policy(alloc: Global, policy: &str) -> Result<String, AllocError> {
+    format!(in alloc; "switch 1 ports 1 2\npolicy\n{policy}\nend\n")
+}
+
+#[test]
+fn at_most_2000_values(rt: HostRuntime) -> Result<(), Fail> {
+    let alloc = rt.alloc();
+    let most = with_policy(alloc, &joined(alloc, 2000, "drop; ethDst=", "+")?)?;
+    prints(&rt, "trace", &most, (Status::Done, "policy 1\n"))?;
+    let more = with_policy(alloc, &joined(alloc, 2001, "drop; ethDst=", "\n+")?)?;
+    let refusal = "nkctl: line 2003 column 15: 7 TooManyValues\n";
+    prints(&rt, "trace", &more, (Status::Refused, refusal))
+}
+
+#[test]
+fn at_most_200_brackets(rt: HostRuntime) -> Result<(), Fail> {
+    let alloc = rt.alloc();
+    let mut deep = String::new(alloc);
+    for _ in 0..200u64 {
+        deep.push_str("(")?;
+    }
+    deep.push_str("drop")?;
+    for _ in 0..200u64 {
+        deep.push_str(")")?;
+    }
+    prints(
+        &rt,
+        "trace",
+        &with_policy(alloc, &deep)?,
+        (Status::Done, "policy 1\n"),
+    )?;
+    let deeper = format!(in alloc; "({deep})")?;
+    prints(
+        &rt,
+        "trace",
+        &with_policy(alloc, &deeper)?,
+        (Status::Refused, "nkctl: line 3 column 201: 6 TooDeep\n"),
+    )
+}
+
+#[test]
+fn at_most_256_switches_and_ports(rt: HostRuntime) -> Result<(), Fail> {
+    let alloc = rt.alloc();
+    let mut switches = String::new(alloc);
+    for sw in 0..257u64 {
+        switches.push_str(&format!(in alloc; "switch {} ports 1\n", sw + 1)?)?;
+    }
+    let refusal = "nkctl: line 257 column 1: 35 TooMany\n";
+    prints(&rt, "rules", &switches, (Status::Refused, refusal))?;
+    let ports = joined(alloc, 257, "", " ")?;
+    let wide = format!(in alloc; "switch 1 ports {ports}\n")?;
+    let refusal = "nkctl: line 1 column 1: 35 TooMany\n";
+    prints(&rt, "rules", &wide, (Status::Refused, refusal))
+}
+
+#[test]
+fn at_most_10000_packets(rt: HostRuntime) -> Result<(), Fail> {
+    let alloc = rt.alloc();
+    let mut text = with_policy(alloc, "drop")?;
+    let mut traced = String::from_str(alloc, "policy 1\n")?;
+    for number in 0..10_000u64 {
+        text.push_str("packet 1:1\n")?;
+        traced.push_str(&format!(in alloc; "packet {}\n", number + 1)?)?;
+    }
+    prints(&rt, "trace", &text, (Status::Done, &traced))?;
+    text.push_str("packet 1:1\n")?;
+    let refusal = "nkctl: line 10005 column 1: 10 Limit\n";
+    prints(&rt, "trace", &text, (Status::Refused, refusal))
+}
+
+#[test]
+fn at_most_4194304_bytes(rt: HostRuntime) -> Result<(), Fail> {
+    let alloc = rt.alloc();
+    let mut text = with_policy(alloc, "drop")?;
+    text.push_str("#")?;
+    for _ in text.len()..4_194_304 {
+        text.push_str("x")?;
+    }
+    prints(&rt, "trace", &text, (Status::Done, "policy 1\n"))?;
+    text.push_str("x")?;
+    let refusal = "nkctl: line 5 column 1: 10 Limit\n";
+    prints(&rt, "trace", &text, (Status::Refused, refusal))
+}
+
+#[test]
+fn at_most_16000_rows_at_a_port(rt: HostRuntime) -> Result<(), Fail> {
+    let alloc = rt.alloc();
+    let sources = joined(alloc, 126, "pt:=1; ethSrc=", "+")?;
+    let destinations = joined(alloc, 126, "pt:=2; ethDst=", "+")?;
+    let policy = format!(in alloc; "{sources}+{destinations}")?;
+    prints(
+        &rt,
+        "rules",
+        &with_policy(alloc, &policy)?,
+        (
+            Status::Refused,
+            "nkctl: policy 1 switch 1 port 1: 26 TooManyRows\n",
+        ),
+    )
+}
+
+#[test]
+fn at_most_60000_bytes_of_actions(rt: HostRuntime) -> Result<(), Fail> {
+    let alloc = rt.alloc();
+    let sources = joined(alloc, 60, "ethSrc:=", "+")?;
+    let destinations = joined(alloc, 60, "ethDst:=", "+")?;
+    let policy = format!(in alloc; "pt:=2; ({sources}); ({destinations})")?;
+    prints(
+        &rt,
+        "rules",
+        &with_policy(alloc, &policy)?,
+        (
+            Status::Refused,
+            "nkctl: policy 1 switch 1 port 1: 27 TooManyActions\n",
+        ),
+    )
+}
