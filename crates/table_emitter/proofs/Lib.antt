@@ -4,5 +4,6 @@ pub mod Hitting
 pub mod KindLaws
 pub mod Listed
 pub mod Meaning
+pub mod PartLaws
 pub mod Plainness
 pub mod Switches

@@ -79,7 +79,7 @@ pub part_answers : (sw pt : ℕ) (d : Tree) (p : Packet) → p.sw ≡ sw → p.p
 part_answers sw pt d p e f = part_leaf Pt pt (part_with Sw sw d) p f ∙ part_leaf Sw sw d p e
 
 -- it tests neither the switch nor the port
-part_ordered : (f : Field) (n : ℕ) (d : Tree) → IsOrderedFrom (step * place f) d → IsOrderedFrom (step * (place f + 1)) (part_with f n d)
+pub part_ordered : (f : Field) (n : ℕ) (d : Tree) → IsOrderedFrom (step * place f) d → IsOrderedFrom (step * (place f + 1)) (part_with f n d)
 part_ordered f n (Leaf cs) o = tt
 part_ordered f n (Node l t u) o =
     let small = lit_small l in

@@ -4,6 +4,7 @@
 pub mod emitting;
 pub mod fault;
 pub mod kinds;
+pub mod laws;
 mod lists;
 mod parts;
 mod patterns;
