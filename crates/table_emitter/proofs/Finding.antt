@@ -1,8 +1,8 @@
 -- The first row that a packet hits is of the packet's own path.
-use Rattle.std.proofs.Common.{◌≡◌, ◌≢◌, ◌≤◌, ◌<◌, ◌⊎◌, ℕ, ◌+◌, ◌-◌, ◌*◌, inl, inr, refl, ap, sym, ◌∙◌, subst, arith, cond, Bool, true, false, ◌==◌, List, [], ◌∷◌, ◌++◌, map, Option, Some, None}
+use Rattle.std.proofs.Common.{◌≡◌, ◌≢◌, ◌≤◌, ◌⊎◌, ℕ, ◌+◌, ◌-◌, ◌*◌, inl, inr, refl, ap, sym, ◌∙◌, subst, arith, cond, Bool, true, false, ◌==◌, List, [], ◌∷◌, ◌++◌, map, Option, Some, None}
 use Rattle.std.specs.Prelude.{◌&&◌, ◌||◌, not, if◌then◌else◌}
 use Rattle.std.specs.List.{list_any}
-use Rattle.std.proofs.lemmas.Bool.{eq-eqb, ne_eqb, eqb-true, eqb-false}
+use Rattle.std.proofs.lemmas.Bool.{eq-eqb, ne_eqb}
 use Rattle.std.proofs.lemmas.Bool.Decides.{eqb_tells}
 use Rattle.nk_values.specs.declared.field.Field.{Field}
 use Rattle.nk_values.specs.declared.field.Field.TheVariants.{Sw, Pt, EthTyp, IpProto, EthSrc, EthDst, Ip4Src, Ip4Dst, TcpSrcPort, TcpDstPort}
@@ -23,17 +23,16 @@ use Rattle.nk_values.proofs.MemberLaws.{in-left, in-right, in-either}
 use Rattle.nk_values.proofs.PacketLaws.{get-with_same, get-with_other, field_cases}
 use Rattle.fdd_nodes.specs.Cells.{free, open_cell, Agrees}
 use Rattle.fdd_nodes.specs.Paths.{Way, IsOnPath, with_true, with_false}
-use Rattle.fdd_nodes.specs.Trees.{Tree, Leaf, Node, apply, leaf_at, Tests, IsOrderedFrom}
+use Rattle.fdd_nodes.specs.Trees.{Tree, Leaf, Node, apply, leaf_at, IsOrderedFrom}
 use Rattle.fdd_nodes.proofs.CellLaws.{lit_not_free}
 use Rattle.fdd_nodes.proofs.SplitLaws.{leaf_at-then, leaf_at-else, ordered_weaken}
 use Rattle.leaf_actions.specs.declared.view.PortView.{PortView}
 use Rattle.leaf_actions.specs.Changes.{fixed}
 use Rattle.leaf_actions.specs.Views.{arriving}
 use Rattle.leaf_actions.proofs.Fixed.{fixed_agrees}
-use Rattle.table_emitter.specs.declared.kinds.Kinds.{Kinds}
-use Rattle.table_emitter.specs.Entries.{Entry, entry_of, leaf_entries, entries, IsRowOf, AreRowsOf}
+use Rattle.table_emitter.specs.Entries.{Entry, entry_of, entries, IsRowOf, AreRowsOf}
 use Rattle.table_emitter.specs.Kinds.{is_type, is_protocol, is_port, is_ip, true_bars, false_bars, bars, kinds_of}
-use Rattle.table_emitter.specs.Patterns.{with_protocols, cells_of, pattern_of}
+use Rattle.table_emitter.specs.Patterns.{cells_of, pattern_of}
 use Rattle.table_emitter.proofs.Hitting.{hits_own, hits_not}
 
 -- what a list of tests has

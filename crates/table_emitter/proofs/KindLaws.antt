@@ -1,20 +1,18 @@
 -- What paths say of frames, test by test.
-use Rattle.std.proofs.Common.{◌≡◌, ℕ, refl, ap, sym, ◌∙◌, Bool, true, false, List, [], ◌∷◌, ◌++◌, map, cond}
-use Rattle.std.specs.Prelude.{◌&&◌, ◌||◌, not}
+use Rattle.std.proofs.Common.{◌≡◌, ℕ, refl, ap, ◌∙◌, Bool, true, false, List, [], ◌∷◌, ◌++◌, map}
+use Rattle.std.specs.Prelude.{◌&&◌, ◌||◌}
 use Rattle.std.specs.List.{list_any}
 use Rattle.nk_values.specs.declared.packet.Packet.{Packet}
-use Rattle.nk_values.specs.declared.field.Field.TheVariants.{EthTyp}
 use Rattle.nk_values.specs.declared.lit.Lit.{Lit}
 use Rattle.nk_values.specs.Lits.{lit_field}
 use Rattle.nk_values.specs.declared.field.Field.{Field}
-use Rattle.nk_values.specs.Packets.{with_value}
 use Rattle.fdd_nodes.specs.Paths.{Way, with_true, with_false}
 use Rattle.fdd_nodes.specs.Trees.{Tree, Leaf, Node}
 use Rattle.leaf_actions.specs.Changes.{fixed}
 use Rattle.table_emitter.specs.declared.kinds.Kinds.{Kinds}
-use Rattle.table_emitter.specs.Entries.{Entry, entry_of, leaf_entries, entries}
+use Rattle.table_emitter.specs.Entries.{Entry, entry_of, entries}
 use Rattle.table_emitter.specs.Kinds.{is_type, is_protocol, is_port, is_ip, true_bars, false_bars, bars, kinds_of, after_true, after_false, is_void}
-use Rattle.table_emitter.specs.Patterns.{with_protocols, cells_of}
+use Rattle.table_emitter.specs.Patterns.{cells_of}
 
 any_more : (p : Lit → Bool) (ls : List Lit) (l : Lit) → list_any p (ls ++ l ∷ []) ≡ (list_any p ls || p l)
 any_more p [] l = last (p l)

@@ -32,7 +32,7 @@ use Rattle.leaf_actions.specs.declared.view.PortView.{PortView}
 use Rattle.table_emitter.specs.declared.fault.EmitError.{EmitError}
 use Rattle.table_emitter.specs.declared.fault.EmitError.TheVariants as error
 use Rattle.table_emitter.specs.Entries.{Entry, entry_of, leaf_entries, entries, AreActionsOf, IsRowOf, AreRowsOf, AreRows, Adds}
-use Rattle.table_emitter.specs.Faults.{IsFine, IsFaultAt, IsFirstFault, Bars, BarsLeaf, BarsRow}
+use Rattle.table_emitter.specs.Faults.{IsFine, IsFaultAt, Bars, BarsLeaf, BarsRow}
 
 append_nil : {X : Type 0} (xs : List X) → xs ++ [] ≡ xs
 append_nil [] = refl

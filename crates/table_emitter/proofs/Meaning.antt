@@ -1,9 +1,8 @@
 -- The rows of a compiled policy stand for it.
-use Rattle.std.proofs.Common.{◌≡◌, ◌≢◌, ◌≤◌, ◌<◌, ◌⊎◌, ℕ, suc, ◌+◌, ◌-◌, ◌*◌, inl, inr, refl, ap, sym, ◌∙◌, subst, arith, cond, Bool, true, false, ◌==◌, List, [], ◌∷◌, ◌++◌, length, map, append_assoc, Option, Some, None}
+use Rattle.std.proofs.Common.{◌≡◌, ◌≢◌, ◌≤◌, ◌⊎◌, ℕ, ◌+◌, ◌-◌, ◌*◌, inl, inr, refl, ap, sym, ◌∙◌, subst, arith, cond, Bool, true, false, ◌==◌, List, [], ◌∷◌, ◌++◌, length, map, append_assoc, Option, Some, None}
 use Rattle.std.specs.List.{flat_map}
 use Rattle.std.proofs.lemmas.Bool.{eqb-true, eqb-false, eq-eqb, ne_eqb}
 use Rattle.std.proofs.lemmas.List.{map-append}
-use Rattle.nk_values.specs.declared.action.Action.{Action}
 use Rattle.nk_values.specs.declared.field.Field.{Field}
 use Rattle.nk_values.specs.declared.field.Field.TheVariants.{Sw, Pt}
 use Rattle.nk_values.specs.declared.lit.Lit.{Lit}
@@ -33,9 +32,9 @@ use Rattle.nk_syntax.specs.Terms.{Term}
 use Rattle.history_meaning.specs.Network.{Place}
 use Rattle.history_meaning.specs.Plain.{HasResult}
 use Rattle.fdd_nodes.specs.Cells.{open_cell}
-use Rattle.fdd_nodes.specs.Paths.{Way, no_tests, with_true, with_false, IsOnPath}
-use Rattle.fdd_nodes.specs.Trees.{Tree, Leaf, Node, apply, leaf_at, outcomes, answers, Assigns, IsSetBy, IsOrderedFrom}
-use Rattle.fdd_nodes.proofs.MakesLaws.{source, among_lists}
+use Rattle.fdd_nodes.specs.Paths.{no_tests, with_true, IsOnPath}
+use Rattle.fdd_nodes.specs.Trees.{Tree, Leaf, Node, leaf_at, answers, Assigns, IsSetBy, IsOrderedFrom}
+use Rattle.fdd_nodes.proofs.MakesLaws.{source}
 use Rattle.fdd_nodes.proofs.SplitLaws.{ordered_weaken}
 use Rattle.fdd_compile.specs.Compiles.{CompiledOf}
 use Rattle.topology_model.specs.declared.line.Site.{Site}
@@ -49,13 +48,13 @@ use Rattle.leaf_actions.specs.Settable.{CanSet}
 use Rattle.leaf_actions.specs.Views.{port_in, tag_at, arriving}
 use Rattle.leaf_actions.proofs.Allowed.{one_settable}
 use Rattle.leaf_actions.proofs.Fixed.{unset}
-use Rattle.packet_tracer.specs.Means.{standing, incoming, sent_packet, sent_as, Answers, port_pattern, FixesPort, Ranked, EndsWith, PortMeans, top_of, port_tag, kind_at, declared_ports, port_place, port_of, RowsMean}
+use Rattle.packet_tracer.specs.Means.{standing, incoming, sent_packet, sent_as, Answers, port_pattern, FixesPort, Ranked, EndsWith, PortMeans, top_of, port_tag, kind_at, port_place, port_of, RowsMean}
 use Rattle.packet_tracer.proofs.Placing.{edge_kind, linked_kind}
-use Rattle.table_emitter.specs.Emission.{CanBeMade, switch_port, view_of, entries_at, IsPortRows, Pairwise, Declared, declared_at, declared_on, ArePortRows, IsEmitted}
-use Rattle.table_emitter.specs.Entries.{Entry, entry_of, leaf_entries, entries, IsRowOf, AreRowsOf, AreRows}
+use Rattle.table_emitter.specs.Emission.{CanBeMade, switch_port, view_of, entries_at, IsPortRows, Declared, declared_at, declared_on, ArePortRows, IsEmitted}
+use Rattle.table_emitter.specs.Entries.{Entry, entry_of, entries, AreRowsOf}
 use Rattle.table_emitter.specs.Parts.{part_with, part_at}
 use Rattle.table_emitter.specs.Patterns.{pattern_of}
-use Rattle.table_emitter.proofs.Finding.{Finds, finds, RowOf, row_found}
+use Rattle.table_emitter.proofs.Finding.{finds, row_found}
 use Rattle.table_emitter.proofs.Plainness.{can_be_made, plain}
 use Rattle.table_emitter.proofs.Switches.{pairwise_left}
 

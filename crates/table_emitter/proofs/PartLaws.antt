@@ -1,18 +1,17 @@
 -- Parts at a port are cofactors.
-use Rattle.std.proofs.Common.{◌≡◌, ◌≤◌, ℕ, ◌+◌, ◌*◌, refl, ap, sym, ◌∙◌, subst, arith, cond, ◌==◌}
+use Rattle.std.proofs.Common.{◌≡◌, ℕ, ◌*◌, refl, ap, sym, ◌∙◌, subst, arith, cond, ◌==◌}
 use Rattle.nk_values.specs.declared.field.Field.{Field}
 use Rattle.nk_values.specs.declared.field.Field.TheVariants.{Sw, Pt}
 use Rattle.nk_values.specs.declared.lit.Lit.{Lit}
 use Rattle.nk_values.specs.Lits.{lit_field, lit_value}
 use Rattle.nk_values.specs.Ranges.{place}
-use Rattle.nk_values.specs.Ranks.{step, rank}
+use Rattle.nk_values.specs.Ranks.{step}
 use Rattle.nk_values.proofs.LitLaws.{lit_small}
-use Rattle.fdd_nodes.specs.Trees.{Tree, Leaf, Node, IsOrdered, IsOrderedFrom}
+use Rattle.fdd_nodes.specs.Trees.{Tree, Leaf, Node, IsOrderedFrom}
 use Rattle.fdd_ops.specs.Cofactors.{IsFieldFrom}
 use Rattle.fdd_ops.specs.Cofactors as ops
-use Rattle.fdd_compile.specs.Places.{IsPartAt}
 use Rattle.table_emitter.specs.Laws.{PartsAreCofactors}
-use Rattle.table_emitter.specs.Parts.{part_with, part_at}
+use Rattle.table_emitter.specs.Parts.{part_with}
 use Rattle.table_emitter.proofs.Meaning.{part_ordered}
 
 same_part : (l : Lit) (d : Tree) → ops.part_at l d ≡ part_with (lit_field l) (lit_value l) d

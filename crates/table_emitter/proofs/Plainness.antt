@@ -1,20 +1,19 @@
 -- What compiled policies assign, and that their results are well shaped.
-use Rattle.std.proofs.Common.{◌≡◌, ◌≢◌, ◌≤◌, ◌<◌, ◌⊎◌, ℕ, inl, inr, refl, ap, sym, ◌∙◌, subst, arith, Bool, true, false, Option, Some, None}
+use Rattle.std.proofs.Common.{◌≡◌, ◌≢◌, ◌⊎◌, ℕ, inl, inr, refl, subst, arith, Option, Some, None}
 use Rattle.std.proofs.lemmas.Bool.Decides.{leb_tells, eqb_tells}
 use Rattle.nk_values.specs.declared.field.Field.{Field}
 use Rattle.nk_values.specs.declared.field.Field.TheVariants.{Sw, Pt, EthTyp, IpProto, EthSrc, EthDst, Ip4Src, Ip4Dst, TcpSrcPort, TcpDstPort}
 use Rattle.nk_values.specs.declared.packet.Packet.{Packet}
-use Rattle.nk_values.specs.declared.lit.Lit.{Lit}
 use Rattle.nk_values.specs.Lits.{lit_field, lit_value}
-use Rattle.nk_values.specs.Packets.{get, IsInRange, EachInRange, IsWellShaped}
+use Rattle.nk_values.specs.Packets.{IsInRange, IsWellShaped}
 use Rattle.nk_values.specs.Ranges.{least_value, greatest, IsValue}
 use Rattle.nk_values.proofs.PacketLaws.{field_cases}
-use Rattle.nk_values.proofs.Ranged.{whole, each}
+use Rattle.nk_values.proofs.Ranged.{whole}
 use Rattle.nk_syntax.specs.Terms.{Term, Terms, Filter, Assign, Sum, Seq, Star, Dup, no_terms, term}
 use Rattle.history_meaning.specs.Plain.{IsSettable, IsBare, AreBare, IsPlain}
 use Rattle.fdd_nodes.specs.Trees.{Tree}
 use Rattle.fdd_compile.specs.declared.fault.CompileFault.{CompileFault}
-use Rattle.fdd_compile.specs.Compiles.{CompiledOf, IsUnguarded}
+use Rattle.fdd_compile.specs.Compiles.{CompiledOf}
 use Rattle.fdd_compile.specs.Leftmost.{assignment_fault, first_of, leftmost, leftmost_of}
 use Rattle.fdd_compile.specs.Named.{TermAssigns, TermsAssign}
 use Rattle.leaf_actions.specs.Settable.{CanSet}

@@ -1,12 +1,10 @@
 -- The rows of a switch, port by port, and of a topology, switch by switch.
-use Rattle.std.proofs.Common.{◌≡◌, ◌≤◌, ◌<◌, ℕ, suc, ◌+◌, ◌*◌, inl, inr, refl, ap, sym, ◌∙◌, subst, arith, List, [], ◌∷◌, ◌++◌, length, map, take, drop, get_or, append_assoc, length-append, add-one, drop-cons}
+use Rattle.std.proofs.Common.{◌≡◌, ◌≤◌, ◌<◌, ℕ, suc, ◌+◌, inl, inr, refl, ap, sym, ◌∙◌, subst, arith, List, [], ◌∷◌, ◌++◌, length, map, take, drop, get_or, append_assoc, drop-cons}
 use Rattle.std.specs.List.{flat_map}
 use Rattle.std.proofs.lemmas.List.{map-append, take_more, take_all, take-append-drop}
-use Rattle.nk_values.specs.declared.fault.EmitFault.{EmitFault}
 use Rattle.nk_values.specs.declared.fault.EmitFault.TheVariants as fault
 use Rattle.nk_values.specs.declared.rows.Band.{Band}
 use Rattle.nk_values.specs.declared.rows.PortRows.{PortRows}
-use Rattle.nk_values.specs.declared.rows.Rows.{Rows}
 use Rattle.nk_values.specs.Members.{IsIn}
 use Rattle.nk_values.proofs.MemberLaws.{in-either, in-flat_map}
 use Rattle.fdd_nodes.specs.Trees.{Tree}
@@ -17,7 +15,7 @@ use Rattle.topology_model.proofs.Ranges.{in-get_or}
 use Rattle.packet_tracer.specs.Means.{kind_at, top_of}
 use Rattle.table_emitter.specs.declared.fault.EmitError.{EmitError}
 use Rattle.table_emitter.specs.declared.fault.EmitError.TheVariants as error
-use Rattle.table_emitter.specs.Emission.{view_of, entries_at, IsPortRows, Pairwise, Declared, declared_at, declared_on, ArePortRows, row_count, AddsSwitch, IsEmitted, IsFinePort, IsFineSwitch, IsPortFault, BarsSwitch, BarsPolicy}
+use Rattle.table_emitter.specs.Emission.{view_of, entries_at, IsPortRows, Pairwise, Declared, declared_at, declared_on, ArePortRows, row_count, AddsSwitch, IsEmitted, IsFinePort, IsFineSwitch, BarsSwitch, BarsPolicy}
 use Rattle.table_emitter.specs.Faults.{Bars}
 use Rattle.table_emitter.proofs.Listed.{rows_length, made_fine}
 

@@ -1,5 +1,5 @@
 -- Why a compiled policy has no rows.
-use Rattle.std.specs.Prelude.{◌≡◌, ℕ, ◌+◌, ◌<◌, ◌≤◌, List, [], ◌∷◌, ◌++◌, length}
+use Rattle.std.specs.Prelude.{◌≡◌, ℕ, ◌+◌, ◌<◌, ◌≤◌, List, ◌∷◌, ◌++◌, length}
 use Rattle.nk_values.specs.declared.action.Action.{Action}
 use Rattle.nk_values.specs.declared.fault.EmitFault.{EmitFault}
 use Rattle.nk_values.specs.declared.fault.EmitFault.TheVariants as fault

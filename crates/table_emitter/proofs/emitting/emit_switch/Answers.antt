@@ -1,4 +1,4 @@
-use Rattle.std.proofs.Common.{◌≡◌, ◌<◌, ap, sym, ◌∙◌, rules, arith, length, get_or, List, ℕ}
+use Rattle.std.proofs.Common.{◌<◌, ap, rules, arith, length, get_or, List, ℕ}
 use Rattle.fdd_nodes.specs.Trees.{tree}
 use Rattle.table_emitter.proofs.Switches.{adds_port, count_port, port_small, port_bars, total_bars}
 use Rattle.table_emitter.proofs.emitting.emit_switch.Goals as goal

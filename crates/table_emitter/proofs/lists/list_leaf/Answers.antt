@@ -1,4 +1,4 @@
-use Rattle.std.proofs.Common.{◌≡◌, ◌≢◌, ◌<◌, ap, sym, ◌∙◌, refl, subst, rules, arith, length, List, []}
+use Rattle.std.proofs.Common.{◌<◌, ap, sym, ◌∙◌, refl, subst, rules, arith, length, List, []}
 use Rattle.std.proofs.lemmas.Bool.{eqb-false}
 use Rattle.nk_values.specs.declared.lit.Lit.{Lit}
 use Rattle.fdd_nodes.specs.Cells.{open_cell}

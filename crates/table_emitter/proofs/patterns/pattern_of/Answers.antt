@@ -1,4 +1,4 @@
-use Rattle.std.proofs.Common.{◌≡◌, ◌≢◌, arith}
+use Rattle.std.proofs.Common.{arith}
 use Rattle.nk_values.specs.declared.field.Field.TheVariants.{EthTyp, IpProto, Ip4Src, Ip4Dst, TcpSrcPort, TcpDstPort}
 use Rattle.table_emitter.proofs.patterns.pattern_of.Goals as goal
 

@@ -1,4 +1,4 @@
-use Rattle.std.proofs.Common.{◌+◌, ◌≡◌, ◌≤◌, drop}
+use Rattle.std.proofs.Common.{◌≤◌, drop}
 use Rattle.std.specs.Prelude.{◌↔◌}
 use Rattle.table_emitter.specs.Sizes.{sizes_of}
 use Rattle.table_emitter.proofs.sizes.are_small.Given as goal

@@ -1,5 +1,5 @@
 use Rattle.std.proofs.Common.{◌≡◌, ◌<◌, ap, sym, ◌∙◌, rules, arith}
-use Rattle.fdd_nodes.specs.Paths.{Way, with_true, with_false}
+use Rattle.fdd_nodes.specs.Paths.{Way, with_false}
 use Rattle.fdd_nodes.specs.Trees.{tree}
 use Rattle.table_emitter.specs.declared.kinds.Kinds.{Kinds}
 use Rattle.table_emitter.specs.Kinds.{kinds_of, after_true, after_false, is_void}
