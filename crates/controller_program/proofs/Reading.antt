@@ -1,5 +1,5 @@
 -- A text reads as its first 4,194,305 bytes do.
-use Rattle.std.proofs.Common.{◌≡◌, ℕ, ◌<◌, ◌≤◌, inl, inr, Bool, true, false, cond, nat_le, nat_lt, List, take, length, Option, None, Some, IfSome, sym, ap, ◌∙◌, subst, arith}
+use Rattle.std.proofs.Common.{◌≡◌, ℕ, ◌≤◌, inl, inr, false, cond, nat_le, nat_lt, List, take, length, Option, None, Some, IfSome, sym, ap, ◌∙◌, subst, arith}
 use Rattle.std.proofs.lemmas.Bool.{cases_lt, lt-leb, leb-true, cases_Bool}
 use Rattle.std.proofs.lemmas.List.{take_all, take-take, length-take-le}
 use Rattle.document_text.specs.declared.fault.Fault.TheVariants.{Limit}

@@ -1,5 +1,5 @@
 -- Every document that is read is sound.
-use Rattle.std.proofs.Common.{◌≡◌, ℕ, List, arith}
+use Rattle.std.proofs.Common.{ℕ, List, arith}
 use Rattle.topology_model.proofs.Ranges.{test_edge}
 use Rattle.document_text.specs.Documents.{Doc}
 use Rattle.document_text.specs.Grammar.{IsDocument}

@@ -1,5 +1,5 @@
 -- What every document that was read holds to.
-use Rattle.std.specs.Prelude.{◌≡◌, ℕ, ◌≤◌, ◌<◌, true, List}
+use Rattle.std.specs.Prelude.{◌≤◌, ◌<◌, List}
 use Rattle.nk_values.specs.Members.{IsIn}
 use Rattle.nk_values.specs.Packets.{IsWellShaped}
 use Rattle.nk_syntax.specs.Terms.{Term}

@@ -1,19 +1,15 @@
 -- What holds of the lines so far, and is kept by each line.
-use Rattle.std.proofs.Common.{◌≡◌, ◌≢◌, ℕ, ◌+◌, ◌<◌, ◌≤◌, ◌⊎◌, inl, inr, Bool, true, false, not, ◌&&◌, ◌||◌, ◌==◌, nat_le, nat_lt, cond, List, [], ◌∷◌, ◌++◌, length, take, Option, Some, None, is_some, Result, Ok, Err, refl, sym, ap, ◌∙◌, subst, arith, length-append}
+use Rattle.std.proofs.Common.{◌≡◌, ◌≢◌, ℕ, ◌<◌, ◌≤◌, ◌⊎◌, inl, inr, Bool, true, false, not, ◌&&◌, ◌||◌, ◌==◌, nat_le, nat_lt, cond, List, [], ◌∷◌, ◌++◌, length, Option, Some, None, Result, Ok, Err, refl, sym, ap, subst, arith, length-append}
 use Rattle.std.proofs.lemmas.Bool.Decides.{nat_tests}
 use Rattle.std.specs.Prelude.{IfSome, codes}
-use Rattle.std.specs.Option.{unwrap_or, option_map, option_and_then}
-use Rattle.std.specs.List.{list_all}
+use Rattle.std.specs.Option.{option_map, option_and_then}
 use Rattle.std.specs.Str.{bytes_eq}
 use Rattle.nk_values.specs.Members.{IsIn}
 use Rattle.nk_values.proofs.MemberLaws.{in-either}
-use Rattle.nk_values.specs.declared.field.Field.TheVariants.{Sw, Pt}
-use Rattle.nk_values.specs.Packets.{IsWellShaped}
+use Rattle.nk_values.specs.declared.field.Field.TheVariants.{Sw}
 use Rattle.nk_syntax.specs.Terms.{Term}
 use Rattle.netkat_parser.specs.declared.fault.Fault.TheVariants.{ValueRange, UnknownName}
 use Rattle.topology_model.specs.Layouts.{Layout, has_switch, is_edge, place_of}
-use Rattle.topology_model.specs.Lines.{line_fault, with_line}
-use Rattle.topology_model.specs.declared.line.TopoLine.{TopoLine}
 use Rattle.topology_model.specs.declared.fault.TopoFault.{TopoFault}
 use Rattle.topology_model.specs.declared.fault.TopoFault.TheVariants.{UnknownSwitch, NoEdge}
 use Rattle.document_text.specs.declared.document.Event.{Event}
@@ -21,7 +17,7 @@ use Rattle.document_text.specs.declared.document.Event.TheVariants as event
 use Rattle.document_text.specs.declared.document.PacketLine.{PacketLine}
 use Rattle.document_text.specs.declared.document.ScheduleLine.{ScheduleLine}
 use Rattle.document_text.specs.declared.fault.Fault.{Fault}
-use Rattle.document_text.specs.declared.fault.Fault.TheVariants.{BadLine, Limit, NoPolicy, Text, Topology, StampRange, TooFewStamps}
+use Rattle.document_text.specs.declared.fault.Fault.TheVariants.{BadLine, Limit, NoPolicy, Text, Topology}
 use Rattle.document_text.specs.declared.head.Head.{Head}
 use Rattle.document_text.specs.declared.head.Head.TheVariants as head
 use Rattle.document_text.specs.declared.told.Kind.{Kind}
@@ -30,8 +26,8 @@ use Rattle.document_text.specs.Packets.{Given, is_value, is_vlan_id, with_words,
 use Rattle.document_text.specs.Texts.{numeral, end_of, is_end}
 use Rattle.document_text.specs.States.{State, start, place_of_kind, is_late, is_empty, has_edge, with_policy}
 use Rattle.document_text.specs.Schedules.{refused_if, formed, at_switch, arrival, event_alone, event_of_one, event_of_two, event_of, is_index}
-use Rattle.document_text.specs.Lines.{is_end_value, at_edge, placed_by, placed, switch_form, switch_line, link_form, link_line, behind_topology, behind_policies, unset, one_numeral, two_numerals, hops_line, capacity_line, stamps_line, policy_line, packet_form, packet_line, schedule_line}
-use Rattle.document_text.specs.Steps.{Step, Next, Enters, Opens, Stops, head_of, event_too_many, is_too_many, next, opens, enters, happens, scheduled, declares, step}
+use Rattle.document_text.specs.Lines.{is_end_value, at_edge, placed_by, switch_form, switch_line, link_form, link_line, behind_policies, one_numeral, two_numerals, hops_line, capacity_line, stamps_line, policy_line, packet_form, packet_line, schedule_line}
+use Rattle.document_text.specs.Steps.{Next, Stops, head_of, event_too_many, is_too_many, next, opens, enters, happens, scheduled, declares, step}
 use Rattle.document_text.specs.Answers.{IsNext, IsOpening}
 use Rattle.document_text.specs.Laws.{Arrives, IsNamed, IsRead}
 use Rattle.document_text.proofs.Sound.{Stays, formed-ok, refused-ok, words-keep, edge-ok}

@@ -1,11 +1,11 @@
 -- The words of a packet line, one after another.
-use Rattle.std.proofs.Common.{◌≡◌, ℕ, Bool, true, false, cond, List, [], ◌∷◌, ◌++◌, map, Option, Some, None, refl, sym, ap, ◌∙◌, subst}
+use Rattle.std.proofs.Common.{◌≡◌, ℕ, Bool, true, false, cond, List, [], ◌∷◌, ◌++◌, Some, None, refl, ap, ◌∙◌}
 use Rattle.std.proofs.lemmas.List.{map-append}
 use Rattle.std.specs.Borrow.{Bor}
 use Rattle.std.specs.List.{list_any}
 use Rattle.std.specs.Str.{bytes_eq}
 use Rattle.indexmap.specs.IndexSet.{insert_key}
-use Rattle.document_text.specs.Packets.{Given, pair_of, with_word, with_pair, with_named}
+use Rattle.document_text.specs.Packets.{Given, pair_of, with_word, with_named}
 use Rattle.document_text.specs.Answers.{texts}
 
 abbrev Names : Type 0

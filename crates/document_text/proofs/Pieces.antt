@@ -1,6 +1,6 @@
 -- Lines and words, one after another.
 use Rattle.std.proofs.Common.{◌≡◌, ℕ, zero, suc, ◌+◌, ◌<◌, ◌≤◌, Bool, true, false, ◌==◌, cond, List, [], ◌∷◌, ◌++◌, length, take, drop, filter, refl, sym, ap, ◌∙◌, subst, arith, add-one, append_assoc, ◌-◌, length-drop}
-use Rattle.document_text.specs.Texts.{in_front, lines_of, first_len, is_over, content_len, is_blank, pieces, piece_len, is_filled, words_of}
+use Rattle.document_text.specs.Texts.{in_front, lines_of, first_len, is_over, content_len, is_blank, pieces, piece_len, is_filled}
 
 pub take-all : {A : Type 0} (n : ℕ) (xs : List A) → length xs ≤ n → take n xs ≡ xs
 take-all zero [] h = refl

@@ -1,35 +1,23 @@
 -- What holds of every document that is read.
-use Rattle.std.proofs.Common.{◌≡◌, ℕ, ◌+◌, ◌<◌, ◌≤◌, inl, inr, Bool, true, false, not, ◌&&◌, ◌||◌, ◌==◌, nat_le, nat_lt, cond, List, [], ◌∷◌, ◌++◌, length, map, take, Option, Some, None, is_some, Result, Ok, Err, refl, sym, ap, ◌∙◌, subst, arith, length-append}
-use Rattle.std.proofs.lemmas.Bool.Decides.{nat_tests}
+use Rattle.std.proofs.Common.{◌≡◌, ℕ, Bool, true, false, not, ◌&&◌, cond, List, [], ◌∷◌, ◌++◌, Option, Some, None, Result, Ok, refl, ap, ◌∙◌}
 use Rattle.std.specs.Prelude.{IfSome, codes}
-use Rattle.std.specs.Option.{option_map, option_and_then, unwrap_or}
-use Rattle.std.specs.List.{list_any, list_all, find}
+use Rattle.std.specs.Option.{option_map, option_and_then}
+use Rattle.std.specs.List.{list_any, find}
 use Rattle.std.specs.Str.{bytes_eq}
-use Rattle.nk_values.specs.Members.{IsIn}
-use Rattle.nk_values.proofs.MemberLaws.{in-either}
 use Rattle.nk_values.specs.declared.field.Field.{Field}
-use Rattle.nk_values.specs.declared.field.Field.TheVariants.{Sw, Pt, EthTyp, IpProto, EthSrc, EthDst, Ip4Src, Ip4Dst, TcpSrcPort, TcpDstPort}
+use Rattle.nk_values.specs.declared.field.Field.TheVariants.{EthTyp, IpProto, EthSrc, EthDst, Ip4Src, Ip4Dst, TcpSrcPort, TcpDstPort}
 use Rattle.nk_values.specs.declared.packet.Packet.{Packet}
-use Rattle.nk_values.specs.Packets.{with_value, IsWellShaped}
+use Rattle.nk_values.specs.Packets.{with_value}
 use Rattle.nk_syntax.specs.Prints.{name_of}
-use Rattle.nk_syntax.specs.Terms.{Term}
 use Rattle.netkat_parser.specs.Numbers.{number}
-use Rattle.topology_model.specs.Layouts.{Layout, has_switch, has_port, is_linked, is_edge, place_of}
-use Rattle.topology_model.specs.Lines.{line_fault}
-use Rattle.topology_model.specs.declared.line.TopoLine.{TopoLine}
-use Rattle.topology_model.specs.declared.fault.TopoFault.{TopoFault}
-use Rattle.document_text.specs.declared.document.Event.{Event}
+use Rattle.topology_model.specs.Layouts.{is_edge, place_of}
 use Rattle.document_text.specs.declared.document.PacketLine.{PacketLine}
-use Rattle.document_text.specs.declared.document.ScheduleLine.{ScheduleLine}
 use Rattle.document_text.specs.declared.fault.Fault.{Fault}
-use Rattle.document_text.specs.declared.told.Kind.{Kind}
-use Rattle.document_text.specs.declared.told.Kind.TheVariants as kind
-use Rattle.document_text.specs.Packets.{Given, is_value, header_fields, given_at, pair_of, with_tag, with_number, with_field, with_named, with_pair, with_word, with_words}
+use Rattle.document_text.specs.Packets.{Given, is_value, header_fields, pair_of, with_tag, with_number, with_field, with_named, with_pair, with_word, with_words}
 use Rattle.document_text.specs.Texts.{numeral}
-use Rattle.document_text.specs.States.{State, place_of_kind}
+use Rattle.document_text.specs.States.{State}
 use Rattle.document_text.specs.Schedules.{refused_if, formed}
 use Rattle.document_text.specs.Lines.{at_edge}
-use Rattle.document_text.specs.Laws.{Arrives}
 
 -- the parts of a test that lets pass
 pub formed-ok : {A B : Type 0} (o : Option A) (go : A → Result B Fault) (t : B) → formed o go ≡ Ok t → (a : A) × (o ≡ Some a) × (go a ≡ Ok t)

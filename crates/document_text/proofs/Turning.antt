@@ -1,15 +1,10 @@
 -- One line after another.
-use Rattle.std.proofs.Common.{◌≡◌, ℕ, ◌+◌, ◌<◌, ◌≤◌, inl, inr, Bool, true, false, List, [], ◌∷◌, ◌++◌, length, take, drop, Option, Some, None, Result, Ok, Err, refl, sym, ap, ◌∙◌, subst, arith, add_assoc}
+use Rattle.std.proofs.Common.{◌≡◌, ℕ, ◌+◌, ◌<◌, inl, inr, true, false, List, [], ◌∷◌, ◌++◌, length, take, drop, Some, None, Result, Ok, Err, refl, sym, ap, ◌∙◌, subst, arith, add_assoc}
 use Rattle.std.specs.Borrow.{Bor}
 use Rattle.std.proofs.Math.Seq.{take-add, take-length}
 use Rattle.std.proofs.lemmas.List.{drop-drop}
-use Rattle.nk_values.specs.Packets.{IsWellShaped}
-use Rattle.netkat_parser.specs.declared.fault.ParseFault.{ParseFault}
-use Rattle.netkat_parser.specs.Places.{HasFault}
-use Rattle.netkat_parser.proofs.Outcomes.{fault-one}
 use Rattle.document_text.specs.declared.block.Block as declared
 use Rattle.document_text.specs.declared.fault.Fault.{Fault}
-use Rattle.document_text.specs.declared.fault.DocFault.{DocFault}
 use Rattle.document_text.specs.declared.fault.DocumentError.{DocumentError}
 use Rattle.document_text.specs.declared.fault.DocumentError.TheVariants as document
 use Rattle.document_text.specs.declared.fault.Stop.{Stop}
@@ -18,10 +13,10 @@ use Rattle.document_text.specs.declared.reader.Reader.{Reader}
 use Rattle.document_text.specs.declared.reader.Taken.{Taken}
 use Rattle.document_text.specs.declared.reader.Taken.TheVariants.{Line, Opening}
 use Rattle.document_text.specs.Documents.{Outcome, Refused}
-use Rattle.document_text.specs.States.{State, with_policy}
+use Rattle.document_text.specs.States.{State}
 use Rattle.document_text.specs.Steps.{Step, Next, Enters, Opens, Stops, step}
 use Rattle.document_text.specs.Texts.{lines_of, first_len, words_of, is_end}
-use Rattle.document_text.specs.Grammar.{Mode, Lines, Block, Does, Closes, Chosen, Goes, LacksEnd, Ends, IsFrom, IsBehind, line_start, refused_in, refused_at}
+use Rattle.document_text.specs.Grammar.{Mode, Lines, Block, Does, Closes, Chosen, LacksEnd, IsFrom, refused_at}
 use Rattle.document_text.specs.Answers.{IsNext, IsOpening, IsStop, Takes, Turns, Remains, RemainsBehind, LacksAnswer, AddsPolicy, state_of}
 use Rattle.document_text.specs.Answers as answers
 use Rattle.document_text.proofs.Pieces.{lines-at}

@@ -1,17 +1,12 @@
 -- A text has one outcome.
 use Rattle.std.proofs.Common.{◌≡◌, ℕ, ◌+◌, inl, inr, Bool, true, false, List, [], ◌∷◌, take, sym, ap, ◌∙◌, subst}
-use Rattle.nk_values.specs.Packets.{IsWellShaped}
-use Rattle.nk_syntax.specs.Terms.{Term}
-use Rattle.netkat_parser.specs.declared.fault.ParseFault.{ParseFault}
-use Rattle.netkat_parser.specs.Grammar.{Where, IsText}
-use Rattle.netkat_parser.specs.Places.{HasFault}
 use Rattle.netkat_parser.proofs.Unique.{text-one}
 use Rattle.netkat_parser.proofs.Outcomes.{no-both, fault-one}
 use Rattle.document_text.specs.Documents.{Outcome}
 use Rattle.document_text.specs.States.{State, start, with_policy}
 use Rattle.document_text.specs.Steps.{Step, Next, Enters, Opens, Stops, step}
 use Rattle.document_text.specs.Texts.{lines_of, words_of, is_end}
-use Rattle.document_text.specs.Grammar.{Mode, Lines, Block, Does, Closes, Chosen, Goes, LacksEnd, Ends, IsFrom, IsBehind, IsReading, within_limit, most_bytes, line_start, refused_in, refused_at}
+use Rattle.document_text.specs.Grammar.{Mode, Lines, Block, Does, Closes, Chosen, Goes, LacksEnd, Ends, IsFrom, IsReading, within_limit, most_bytes, line_start, refused_in}
 
 -- what comes of going on in a mode is one outcome
 abbrev IsOne : (Mode → Outcome → Type 0) → Type 0

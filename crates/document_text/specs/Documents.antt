@@ -1,5 +1,5 @@
 -- What a document says.
-use Rattle.std.specs.Prelude.{ℕ, List}
+use Rattle.std.specs.Prelude.{List}
 use Rattle.nk_syntax.specs.Terms.{Term}
 use Rattle.topology_model.specs.Layouts.{Layout}
 use Rattle.document_text.specs.declared.document.PacketLine.{PacketLine}

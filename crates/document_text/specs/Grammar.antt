@@ -1,5 +1,5 @@
 -- The grammar of documents, with the first fault: line by line, from the first one on.
-use Rattle.std.specs.Prelude.{◌≡◌, ◌≢◌, ◌⊎◌, ℕ, Bool, true, false, not, ◌+◌, ◌==◌, nat_le, nat_lt, List, [], ◌∷◌, ◌++◌, length, take, count_by, if◌then◌else◌}
+use Rattle.std.specs.Prelude.{◌≡◌, ◌⊎◌, ℕ, Bool, true, false, not, ◌+◌, ◌==◌, nat_le, nat_lt, List, [], ◌∷◌, ◌++◌, length, take, count_by, if◌then◌else◌}
 use Rattle.nk_values.specs.Packets.{IsWellShaped}
 use Rattle.nk_syntax.specs.Terms.{Term}
 use Rattle.netkat_parser.specs.declared.fault.Place.{Place}
@@ -7,7 +7,6 @@ use Rattle.netkat_parser.specs.declared.fault.ParseFault.{ParseFault}
 use Rattle.netkat_parser.specs.Grammar.{IsText, Where}
 use Rattle.netkat_parser.specs.Places.{HasFault, place_behind}
 use Rattle.topology_model.specs.declared.fault.TopoFault.TheVariants.{NoEdge}
-use Rattle.document_text.specs.declared.document.PacketLine.{PacketLine}
 use Rattle.document_text.specs.declared.fault.Fault.{Fault}
 use Rattle.document_text.specs.declared.fault.Fault.TheVariants.{BadLine, NoPolicy, Limit, Text, Topology}
 use Rattle.document_text.specs.declared.fault.DocFault.{DocFault}

@@ -1,5 +1,5 @@
 -- The lines of a document but for those of policies and of the schedule: what each has to be, and what it declares. Where a line has several faults, the first one named here is its fault.
-use Rattle.std.specs.Prelude.{ℕ, Bool, true, false, not, ◌==◌, ◌&&◌, ◌||◌, nat_le, nat_eq, List, [], ◌∷◌, ◌++◌, codes, Option, None, Some, is_some, is_none, if◌then◌else◌, Result, Ok, Err, option_map, option_and_then}
+use Rattle.std.specs.Prelude.{ℕ, Bool, true, not, ◌==◌, ◌&&◌, ◌||◌, nat_le, List, [], ◌∷◌, codes, Option, None, Some, is_some, if◌then◌else◌, Result, Ok, Err, option_map, option_and_then}
 use Rattle.std.specs.List.{list_all}
 use Rattle.std.specs.Str.{bytes_eq}
 use Rattle.nk_values.specs.declared.field.Field.TheVariants.{Sw, Pt}

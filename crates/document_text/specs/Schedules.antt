@@ -1,5 +1,5 @@
 -- The lines of a schedule.
-use Rattle.std.specs.Prelude.{ℕ, Bool, true, not, ◌&&◌, ◌==◌, nat_le, List, [], ◌∷◌, ◌++◌, length, codes, Option, None, Some, if◌then◌else◌, Result, Ok, Err, option_and_then}
+use Rattle.std.specs.Prelude.{ℕ, Bool, not, ◌&&◌, nat_le, List, [], ◌∷◌, length, codes, Option, None, Some, if◌then◌else◌, Result, Ok, Err}
 use Rattle.std.specs.Str.{bytes_eq}
 use Rattle.nk_values.specs.declared.field.Field.TheVariants.{Sw}
 use Rattle.netkat_parser.specs.declared.fault.Fault.TheVariants.{ValueRange}

@@ -1,7 +1,6 @@
 -- What the lines so far have declared.
-use Rattle.std.specs.Prelude.{ℕ, Bool, true, false, not, nat_le, nat_lt, List, [], ◌∷◌, ◌++◌, Option, None, Some, is_some}
+use Rattle.std.specs.Prelude.{ℕ, Bool, true, false, not, nat_lt, List, [], ◌∷◌, ◌++◌, Option, None}
 use Rattle.std.specs.Option.{unwrap_or}
-use Rattle.history_meaning.specs.Network.{Place}
 use Rattle.nk_syntax.specs.Terms.{Term}
 use Rattle.topology_model.specs.Layouts.{Layout, empty, edges_of}
 use Rattle.document_text.specs.declared.document.PacketLine.{PacketLine}

@@ -1,7 +1,6 @@
 -- From bytes to lines, words and numbers.
-use Rattle.std.specs.Prelude.{ℕ, suc, take, Bool, true, false, not, ◌==◌, ◌&&◌, ◌||◌, nat_eq, List, [], ◌∷◌, map, filter, codes, Option, None, Some, if◌then◌else◌, option_map, option_and_then}
+use Rattle.std.specs.Prelude.{ℕ, suc, take, Bool, true, false, ◌==◌, ◌||◌, List, [], ◌∷◌, filter, codes, Option, Some, if◌then◌else◌, option_map, option_and_then}
 use Rattle.std.specs.List.{before_first, after_first}
-use Rattle.std.specs.Cmp.Lexicographic.{pointwise}
 use Rattle.std.specs.Str.{bytes_eq}
 use Rattle.netkat_parser.specs.Numbers as parser
 

@@ -1,4 +1,4 @@
-use Rattle.std.proofs.Common.{◌≡◌, arith, ◌∙◌}
+use Rattle.std.proofs.Common.{arith}
 use Rattle.document_text.specs.Answers.{doc_of}
 use Rattle.document_text.specs.Documents.{Accepted, Refused}
 use Rattle.controller_program.proofs.Reading.{read_whole, short}

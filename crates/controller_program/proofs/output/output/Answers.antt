@@ -1,7 +1,4 @@
-use Rattle.std.proofs.Common.{List, map, subst}
-use Rattle.document_text.specs.Answers.{doc_of}
-use Rattle.report_text.specs.Rules.{rules_text}
-use Rattle.controller_program.specs.Views.{policies_of, IsOutputOf}
+use Rattle.std.proofs.Common.{map}
 use Rattle.controller_program.proofs.output.output.Goals as goal
 
 pub returns-in-Rules-clause-text : goal.returns-in-Rules-clause-text

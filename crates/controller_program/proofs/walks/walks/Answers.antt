@@ -1,4 +1,4 @@
-use Rattle.std.proofs.Common.{◌+◌, List, length, map, get_or, take, sym, subst, arith}
+use Rattle.std.proofs.Common.{◌+◌, List, map, get_or, take, sym, subst, arith}
 use Rattle.std.specs.declared.alloc.Global.{Global}
 use Rattle.std.specs.declared.vec.Vec.{Vec}
 use Rattle.nk_syntax.specs.Terms.{Dup}

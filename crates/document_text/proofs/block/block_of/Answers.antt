@@ -1,4 +1,4 @@
-use Rattle.std.proofs.Common.{◌≡◌, ℕ, ◌+◌, ◌-◌, ◌<◌, true, false, length, take, drop, refl, sym, ap, ◌∙◌, subst, arith, length-drop}
+use Rattle.std.proofs.Common.{◌+◌, ◌-◌, ◌<◌, length, take, drop, refl, sym, ap, ◌∙◌, arith, length-drop}
 use Rattle.document_text.specs.Texts.{is_end}
 use Rattle.document_text.specs.Answers.{texts}
 use Rattle.document_text.proofs.Pieces.{rest-of}

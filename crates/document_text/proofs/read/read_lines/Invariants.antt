@@ -1,4 +1,4 @@
-use Rattle.std.proofs.Common.{ℕ, ◌+◌, ◌≤◌, length}
+use Rattle.std.proofs.Common.{◌+◌, ◌≤◌, length}
 use Rattle.document_text.specs.Documents.{Outcome}
 use Rattle.document_text.specs.States.{start}
 use Rattle.document_text.specs.Grammar.{Lines, IsFrom}

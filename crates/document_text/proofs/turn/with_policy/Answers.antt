@@ -1,4 +1,4 @@
-use Rattle.std.proofs.Common.{map, refl}
+use Rattle.std.proofs.Common.{refl}
 use Rattle.std.proofs.lemmas.List.{map-append}
 use Rattle.nk_syntax.specs.Views.{term_of}
 use Rattle.document_text.proofs.turn.with_policy.Goals as goal
