@@ -102,21 +102,44 @@ fn at_most_4194304_bytes(rt: HostRuntime) -> Result<(), Fail> {
     prints(&rt, "trace", &text, (Status::Refused, refusal))
 }
 
+// A policy with (m + 1) * (n + 1) rows at each port: m sources go to port 1 and n destinations to port 2.
+fn grid(alloc: Global, m: u64, n: u64) -> Result<String, AllocError> {
+    let sources = joined(alloc, m, "pt:=1; ethSrc=", "+")?;
+    let destinations = joined(alloc, n, "pt:=2; ethDst=", "+")?;
+    format!(in alloc; "{sources}+{destinations}")
+}
+
 #[test]
 fn at_most_16000_rows_at_a_port(rt: HostRuntime) -> Result<(), Fail> {
     let alloc = rt.alloc();
-    let sources = joined(alloc, 126, "pt:=1; ethSrc=", "+")?;
-    let destinations = joined(alloc, 126, "pt:=2; ethDst=", "+")?;
-    let policy = format!(in alloc; "{sources}+{destinations}")?;
+    let most = grid(alloc, 124, 127)?;
     prints(
         &rt,
-        "rules",
-        &with_policy(alloc, &policy)?,
-        (
-            Status::Refused,
-            "nkctl: policy 1 switch 1 port 1: 26 TooManyRows\n",
-        ),
+        "trace",
+        &with_policy(alloc, &most)?,
+        (Status::Done, "policy 1\n"),
+    )?;
+    let more = format!(in alloc; "{most}+pt=1; ethSrc=1; ethDst=128; pt:=2")?;
+    let refusal = "nkctl: policy 1 switch 1 port 1: 26 TooManyRows\n";
+    prints(
+        &rt,
+        "trace",
+        &with_policy(alloc, &more)?,
+        (Status::Refused, refusal),
     )
+}
+
+#[test]
+fn at_most_65000_rows_at_a_switch(rt: HostRuntime) -> Result<(), Fail> {
+    let alloc = rt.alloc();
+    let most = grid(alloc, 124, 103)?;
+    let five = format!(in alloc; "switch 1 ports 1 2 3 4 5\npolicy\n{most}\nend\n")?;
+    prints(&rt, "trace", &five, (Status::Done, "policy 1\n"))?;
+    let more = format!(in alloc;
+        "switch 1 ports 1 2 3 4 5\npolicy\n{most}+pt=1; ethSrc=1; ethDst=104; pt:=2\nend\n"
+    )?;
+    let refusal = "nkctl: policy 1 switch 1: 26 TooManyRows\n";
+    prints(&rt, "trace", &more, (Status::Refused, refusal))
 }
 
 #[test]

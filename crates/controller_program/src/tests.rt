@@ -259,10 +259,14 @@ fn refuses_texts(rt: HostRuntime) -> Result<(), Fail> {
 }
 
 // Policies with their fault.
-const REFUSED: [(&str, &str); 5] = [
+const REFUSED: [(&str, &str); 6] = [
     ("pt:=2; dup", ": 20 Dup"),
     ("sw:=2 + dup", ": 21 SetsSwitch"),
     ("ipProto:=6", ": 22 SetsType"),
+    (
+        "ip4Dst:=10.0.0.1; pt:=2",
+        ": 24 Unguarded 1:1 ethTyp=0x0801 ipProto=0 ethSrc=00:00:00:00:00:00 ethDst=00:00:00:00:00:00 ip4Src=0.0.0.0 ip4Dst=0.0.0.0 tcpSrcPort=0 tcpDstPort=0",
+    ),
     (
         "pt=1; (ethSrc:=1; pt:=2 + ethDst:=2; pt:=3)",
         " switch 1 port 1: 25 Unordered out 2 sets ethSrc, out 3 sets ethDst",
