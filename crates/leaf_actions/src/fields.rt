@@ -20,8 +20,8 @@ pub(crate) const SETTABLE: [Field; 6] = [
     Field::TcpDstPort,
 ];
 
-// What a path fixes.
-pub(crate) fn fixed(path: &Path) -> Cell
+/// What a path fixes.
+pub fn fixed(path: &Path) -> Cell
     ensures { result ≡ fixed path.now }
 {
     fixed_by(path.trues())

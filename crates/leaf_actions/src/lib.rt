@@ -1,7 +1,7 @@
 // The actions of a leaf of a diagram.
 #![tactic(auto)]
 
-mod fields;
+pub mod fields;
 pub mod made;
 mod order;
 mod pairs;

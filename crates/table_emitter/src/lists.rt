@@ -6,7 +6,6 @@ ghost use Rattle.fdd_nodes.specs.Paths.{Way, no_tests, with_true, with_false};
 ghost use Rattle.nk_values.specs.declared.lit.Lit.{Lit};
 ghost use Rattle.fdd_nodes.specs.Trees.{tree};
 ghost use Rattle.leaf_actions.specs.Settable.{AreSettable};
-ghost use Rattle.leaf_actions.specs.Changes.{fixed};
 ghost use Rattle.table_emitter.specs.Emission.{CanBeMade};
 ghost use Rattle.table_emitter.specs.Entries.{entry_of, leaf_entries, entries, AreActionsOf, AreRows, Adds};
 ghost use Rattle.table_emitter.specs.Faults.{Bars, BarsLeaf, BarsRow};
@@ -17,9 +16,10 @@ use crate::fault::EmitError;
 use crate::kinds::Kinds;
 use crate::patterns::{cells_of, pattern_of};
 use crate::sizes::are_small;
-use fdd_nodes::{Cell, Leaf, Node, Path};
+use fdd_nodes::{Leaf, Node, Path};
+use leaf_actions::fields::fixed;
 use leaf_actions::{ActionsError, PortView, actions};
-use nk_values::{Actions, EmitFault, FieldSet, Lit, Packet, Pattern, Row, RowList};
+use nk_values::{Actions, EmitFault, FieldSet, Packet, Pattern, Row, RowList};
 use std::alloc::{AllocError, Global};
 
 // The most rows that a port may have.
@@ -124,7 +124,7 @@ fn list_leaf(
     ensures rows { OnOk result (Adds view.now top (leaf_entries path.now leaf.now) rows.old rows.new) }
     ensures bars { IfErr result (Bars view.now (length rows.old) (leaf_entries path.now leaf.now)) }
 {
-    let cells = cells_of(alloc, kinds, fixed_by(path.trues()).generic())?;
+    let cells = cells_of(alloc, kinds, fixed(path).generic())?;
     if cells.is_empty() {
         return Ok(());
     }
@@ -133,17 +133,6 @@ fn list_leaf(
         push_row(alloc, pattern_of(view, cell), &made, view, top, rows)?;
     }
     Ok(())
-}
-
-// What true tests fix.
-fn fixed_by(lits: &[Lit]) -> Cell
-    ensures { result ≡ fixed (record no_tests { trues = lits.now }) }
-{
-    let mut cell = Cell::open();
-    for l in lits {
-        cell = cell.with(l);
-    }
-    cell
 }
 
 // The actions of the rows of a path.
