@@ -1,3 +1,4 @@
+pub mod Alone
 pub mod Bare
 pub mod FutureLaws
 pub mod HopLaws

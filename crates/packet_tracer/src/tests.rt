@@ -1,16 +1,18 @@
 // Small networks, by rows written by hand.
-ghost use Rattle.std.specs.Prelude.{◌≡◌, ◌+◌, ◌<◌, ◌^◌, ◌-◌, IfOk};
+ghost use Rattle.std.specs.Prelude.{◌≡◌, ◌+◌, ◌<◌, ◌^◌, ◌-◌, IfOk, [], ◌∷◌};
 ghost use Rattle.nk_values.specs.declared.row.Row.{Row};
 ghost use Rattle.nk_values.specs.Members.{IsIn};
 ghost use Rattle.nk_values.specs.Changes.{row_of};
+ghost use Rattle.nk_syntax.specs.Terms.{Filter, One};
+ghost use Rattle.packet_tracer.specs.Means.{RowsMean};
 
 use crate::flight::{Flight, Hopped};
 use crate::hopping::hop;
-use crate::walking::turns;
+use crate::walking::{turns, walk};
 use flow_table::{ChangeError, Table};
 use nk_values::{
-    Action, Actions, Command, FlowMod, Header, History, Packet, Pattern, PortKind, PortRows, Row,
-    RowList, Tag, in_range,
+    Action, Actions, Band, Command, FlowMod, Header, History, Packet, Pattern, PortKind, PortLists,
+    PortRows, Row, RowList, Rows, Tag, in_range, well_shaped,
 };
 use std::alloc::{AllocError, Global};
 use std::process::Abort;
@@ -258,5 +260,71 @@ fn one_hop(rt: HostRuntime) -> Result<(), Fail> {
     went(&rt, &hopped.flights[0].history, &[(1, 1), (1, 2), (2, 1)]);
     assert_eq!(rt; hopped.flights[0].history.newest().header.eth_dst, 5);
     assert_eq!(rt; hopped.flights[0].hops, 1);
+    Ok(())
+}
+
+// A switch with one port.
+fn alone_line(alloc: Global) -> Result<Vec<TopoLine>, AllocError>
+    ensures { IfOk result (λ lines. lines.items ≡ TopoLine.Switch 1 (1 ∷ []) ∷ []) }
+{
+    let ports = Ports::new(vec![in alloc; 1]?);
+    Ok(vec![in alloc; TopoLine::Switch { sw: 1, ports }]?)
+}
+
+fn alone(rt: &impl Abort, alloc: Global) -> Result<Topology, TopoError>
+    ensures { IfOk result (λ t. t ≡ record { switches = record { sw = 1; ports = 1 ∷ [] } ∷ []; links = [] }) }
+{
+    let lines = alone_line(alloc)?;
+    assert!(rt; lines.iter().all(|line| line.is_in_range()));
+    Topology::build(alloc, &lines)
+}
+
+// Its rows, which send each packet back, as the policy does that keeps every packet.
+fn returning(alloc: Global) -> Result<Rows, AllocError>
+    ensures { IfOk result (λ rows. RowsMean rows (Filter One) (record { switches = record { sw = 1; ports = 1 ∷ [] } ∷ []; links = [] })) }
+{
+    let mut actions = Actions::new(alloc);
+    actions.push(Action::Output(65528))?;
+    let mut rows = RowList::new(alloc);
+    rows.push(Row {
+        pattern: Pattern {
+            in_port: Some(1),
+            dl_vlan: Some(65535),
+            ..Pattern::any()
+        },
+        priority: 36000,
+        actions,
+    })?;
+    let mut ports = PortLists::new(alloc);
+    ports.push(PortRows {
+        sw: 1,
+        pt: 1,
+        kind: PortKind::Edge,
+        rows,
+    })?;
+    Ok(Rows {
+        stamp: 1,
+        band: Band::High,
+        ports,
+    })
+}
+
+#[test]
+fn walks_back(rt: HostRuntime) -> Result<(), Fail> {
+    let alloc = rt.alloc();
+    let alone = alone(&rt, alloc)?;
+    let rows = returning(alloc)?;
+    let packet = Packet {
+        sw: 1,
+        pt: 1,
+        header: HEADER,
+    };
+    assert!(rt; well_shaped(&packet));
+    let untagged = walk(alloc, &rows, &alone, &packet, Tag::none(), 64)?;
+    assert_eq!(rt; (untagged.finished.len(), untagged.in_flight.len()), (1, 0));
+    went(&rt, &untagged.finished[0], &[(1, 1), (1, 1)]);
+    let tag = Tag::vlan(1).ok_or("no tag")?;
+    let tagged = walk(alloc, &rows, &alone, &packet, tag, 64)?;
+    assert_eq!(rt; (tagged.finished.len(), tagged.in_flight.len()), (0, 0));
     Ok(())
 }
