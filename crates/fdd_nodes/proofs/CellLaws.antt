@@ -96,7 +96,7 @@ keeps_with c q l o h f n = elim (field_cases (lit_field l) f) [
   | inr d ↦ let e = get-with_other c (lit_field l) f (lit_value l) d in h f (λ k. n (sym e ∙ k)) ∙ e
 ]
 
-valid_with : (c : Packet) (l : Lit) → IsValid c → IsValid (put l c)
+pub valid_with : (c : Packet) (l : Lit) → IsValid c → IsValid (put l c)
 valid_with c l v = record {
   at = λ f n. elim (field_cases (lit_field l) f) [
     | inl e ↦ subst (λ (g : Field). IsValue g (get (put l c) g)) e (subst (IsValue (lit_field l)) (sym (get-with_same c (lit_field l) (lit_value l))) (lit_is_value l))

@@ -185,7 +185,7 @@ impl Hash for Assignments {
     }
 }
 
-fn applied(lits: &[Lit], packet: &Packet) -> Packet
+pub(crate) fn applied(lits: &[Lit], packet: &Packet) -> Packet
     ensures { result ≡ made lits.now packet.now }
 {
     let mut changed = *packet;

@@ -2,6 +2,7 @@
 ghost use Rattle.std.specs.Prelude.{◌≡◌};
 ghost use Rattle.fdd_nodes.specs.Cells.{pick as the_pick};
 
+use crate::assignments::{Assignments, applied};
 use nk_values::{Header, Lit, Packet};
 use std::marker::Model;
 
@@ -35,7 +36,9 @@ pub enum Known {
 impl Cell {
     ghost use Rattle.nk_values.specs.Held.{put};
     ghost use Rattle.fdd_nodes.specs.Cells.{open_cell, cell_of, fill};
+    ghost use Rattle.fdd_nodes.specs.Copies.{IsCopy};
     ghost use Rattle.fdd_nodes.specs.Known.{Knows};
+    ghost use Rattle.fdd_nodes.specs.Trees.{apply};
 
     /// The cell of all packets.
     pub fn open() -> Cell
@@ -72,6 +75,16 @@ impl Cell {
     {
         Cell {
             fixed: l.put(&self.fixed),
+        }
+    }
+
+    /// What a copy makes of the cell: the assignments are fixed, and whatever the cell fixes besides.
+    pub fn after(&self, copy: &Assignments) -> Cell
+        ensures made { result ≡ apply copy.now self.now }
+        ensures copy { IsCopy copy.now }
+    {
+        Cell {
+            fixed: applied(copy.lits(), &self.fixed),
         }
     }
 

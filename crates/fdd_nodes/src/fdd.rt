@@ -40,6 +40,13 @@ impl Fdd {
         &self.root
     }
 
+    /// The root, without the diagram around it.
+    pub fn into_root(self) -> Node
+        ensures { tree result ≡ tree_of self }
+    {
+        self.root
+    }
+
     /// The same diagram again.
     pub fn copy(&self, alloc: Global) -> Result<Fdd, AllocError>
         ensures { IfOk result (λ r. tree_of r ≡ tree_of self.now) }

@@ -10,15 +10,15 @@ use Rattle.nk_values.specs.Lits.{lit_field, lit_value}
 use Rattle.nk_values.specs.Packets.{get}
 use Rattle.nk_values.specs.Ranks.{rank}
 use Rattle.nk_values.proofs.LitLaws.{rank_field, rank_value, same_lit}
-use Rattle.fdd_nodes.specs.Trees.{Tree, Leaf, Node, IsOrderedFrom, Tests, Assigns}
+use Rattle.fdd_nodes.specs.Trees.{Tree, Leaf, Node, answers, SameAnswers, IsOrderedFrom, Tests, Assigns}
 use Rattle.fdd_nodes.specs.Roots.{HasRoot, IsAfter}
-use Rattle.fdd_nodes.specs.Cells.{free}
+use Rattle.fdd_nodes.specs.Cells.{free, open_cell, cell_of}
 use Rattle.fdd_nodes.specs.Known.{Bars}
 use Rattle.fdd_ops.specs.Builds.{NodeOf, Sound}
 use Rattle.fdd_ops.specs.Unions.{Settles}
-use Rattle.fdd_ops.specs.Choices.{IsFirstOf, Chooses, ChoosesHere}
+use Rattle.fdd_ops.specs.Choices.{IsFirstOf, Chooses, ChoosesHere, Chosen}
 use Rattle.fdd_nodes.proofs.SplitLaws.{Splits, ordered_weaken}
-use Rattle.fdd_nodes.proofs.CellLaws.{holds_fixed, agrees_with}
+use Rattle.fdd_nodes.proofs.CellLaws.{holds_fixed, agrees_with, open_agrees, cell_agrees, get-open}
 use Rattle.fdd_ops.proofs.BuildLaws.{same_leaf, same_trans, same_sym, node_then, node_else, node_ordered, sound_node, sound_weaken}
 
 -- choices
@@ -131,3 +131,27 @@ pub before : (m l : Lit) (x y : Tree) → IsFirstOf m l x y → {b : Bool} → b
 before m l x y f {b = b} e h =
     let d : rank m ≢ rank l = λ k. different m l b e h (same_lit m l (rank_field m l k) (rank_value m l k)) in
     omega (arith, d, f.from_l)
+
+-- what a choice answers and names, whichever way it was built
+
+pub chosen_yes : (l : Lit) (x y r : Tree) → Chosen l x y r → (p : Packet) → Holds p l → SameAnswers (answers r p) (answers x p)
+chosen_yes l x y r (inl g) p h = same_trans _ _ _ (node_then l g.part y r g.node p h) (g.settles.same p (cell_agrees l p h))
+chosen_yes l x y r (inr c) p h = c.yes p (open_agrees p) h
+
+pub chosen_no : (l : Lit) (x y r : Tree) → Chosen l x y r → (p : Packet) → ¬ Holds p l → SameAnswers (answers r p) (answers y p)
+chosen_no l x y r (inl g) p h = node_else l g.part y r g.node p h
+chosen_no l x y r (inr c) p h = c.no p (open_agrees p) h
+
+pub chosen_ordered : (l : Lit) (x y r : Tree) → Chosen l x y r → IsOrderedFrom 0 x → IsOrderedFrom 0 y → IsOrderedFrom 0 r
+chosen_ordered l x y r (inl g) ox oy =
+    node_ordered open_cell l g.part y r 0 g.node (omega arith) g.settles.sound.is_open (g.settles.ordered _ (after_ordered l x g.after_x ox)) (after_ordered l y g.after_y oy)
+chosen_ordered l x y r (inr c) ox oy = c.ordered 0 (omega arith) ox oy
+
+-- T and A cover what x and y name
+pub chosen_sound : (l : Lit) (T A : Lit → Type 0) (x y r : Tree) → T l → ((m : Lit) → Tests x m → T m) → ((m : Lit) → Tests y m → T m) → ((m : Lit) → Assigns x m → A m) → ((m : Lit) → Assigns y m → A m) → Sound open_cell T A y → Chosen l x y r → Sound open_cell T A r
+chosen_sound l T A x y r tl tx ty ax ay sy (inl g) =
+    sound_node open_cell T A l g.part y r (get-open (lit_field l)) tl (sound_weaken (cell_of l) _ _ T A g.part tx ax g.settles.sound) sy g.node
+chosen_sound l T A x y r tl tx ty ax ay sy (inr c) =
+    sound_weaken open_cell _ _ T A r
+    (λ m k. elim k [ inl e ↦ subst T e tl | inr v ↦ elim v [ inl w ↦ tx m w | inr w ↦ ty m w ] ])
+    (λ m k. elim k [ inl w ↦ ax m w | inr w ↦ ay m w ]) c.sound

@@ -1,5 +1,5 @@
 -- What the operations promise.
-use Rattle.std.proofs.Common.{◌⊎◌, inl, inr, refl, ap, sym, ◌∙◌, subst, arith, List, [], ◌∷◌}
+use Rattle.std.proofs.Common.{◌≡◌, ◌⊎◌, inl, inr, refl, ap, sym, ◌∙◌, subst, arith, List, [], ◌∷◌}
 use Rattle.nk_values.specs.declared.field.Field.{Field}
 use Rattle.nk_values.specs.declared.packet.Packet.{Packet}
 use Rattle.nk_values.specs.declared.lit.Lit.{Lit}
@@ -14,14 +14,17 @@ use Rattle.fdd_nodes.specs.Trees.{Tree, Leaf, Node, outcomes, answers, IsOrdered
 use Rattle.fdd_nodes.specs.Cells.{open_cell, Respects}
 use Rattle.fdd_nodes.specs.Names.{literals, IsFew, AreFew}
 use Rattle.fdd_nodes.specs.Normals.{IsNormal}
-use Rattle.fdd_ops.specs.Builds.{Sound}
+use Rattle.fdd_ops.specs.Builds.{IsOpenAt, Sound}
 use Rattle.fdd_ops.specs.Unions.{Joins}
 use Rattle.fdd_ops.specs.Sequences.{Sequences}
 use Rattle.fdd_ops.specs.Cofactors.{Cofactors}
 use Rattle.fdd_ops.specs.Negations.{Negates}
 use Rattle.fdd_nodes.proofs.SplitLaws.{leaf_at-then, leaf_at-else}
 use Rattle.fdd_nodes.proofs.CellLaws.{lit_not_free, open_agrees, get-open}
-use Rattle.fdd_ops.specs.Operations.{OneOf, ZeroOf, TestOf, AssignmentOf, UnionOf, SequenceOf, NegationOf, CofactorOf}
+use Rattle.fdd_ops.specs.Choices.{Chosen}
+use Rattle.fdd_ops.specs.Operations.{OneOf, ZeroOf, TestOf, AssignmentOf, UnionOf, ChoiceOf, SequenceOf, NegationOf, CofactorOf}
+use Rattle.fdd_ops.proofs.BuildLaws.{sound_weaken}
+use Rattle.fdd_ops.proofs.ChoiceLaws.{chosen_yes, chosen_no, chosen_ordered, chosen_sound}
 use Rattle.fdd_nodes.proofs.NameLaws.{fresh_packet, fresh_of_one, count_within, named, tests_literal, assigns_literal}
 
 -- what is built in the open cell from few values is normal
@@ -38,6 +41,15 @@ of_both a b r few o s =
 of_one : (a r : Tree) → IsFew a → IsOrdered r → Sound open_cell (Tests a) (Assigns a) r → IsNormal r
 of_one a r few o s = let g = fresh_of_one a few in normal_of _ _ r g.0 g.1 g.2.tested g.2.assigned o s
 
+-- what names no more than a does names few values
+pub few_of_one : (a r : Tree) → ((m : Lit) → Tests r m → Tests a m) → ((m : Lit) → Assigns r m → Assigns a m) → IsFew a → IsFew r
+few_of_one a r ht ha few =
+    let k = count_within (literals r) (literals a) (λ m w. elim (named r m w) [
+      | inl x ↦ tests_literal a m (ht m x)
+      | inr x ↦ assigns_literal a m (ha m x)
+    ]) in
+    omega (arith, k, few)
+
 pub union_of : (a b r : Tree) → IsOrdered a → IsOrdered b → AreFew a b → Joins open_cell a b r → UnionOf a b r
 union_of a b r oa ob few j = record {
   answer = λ p. j.union p (open_agrees p);
@@ -45,6 +57,36 @@ union_of a b r oa ob few j = record {
   tests = j.sound.tests;
   assigns = j.sound.assigns;
 }
+
+-- what is normal is as what is built in the open cell
+sound_of : (b : Tree) → IsNormal b → Sound open_cell (Tests b) (Assigns b) b
+sound_of b n = record { is_open = open_at b; respects = n.respects; tests = λ m k. k; assigns = λ m k. k; tight = λ o g q ft fa. n.tight }
+  where
+    open_at : (t : Tree) → IsOpenAt open_cell t
+    open_at (Leaf cs) = tt
+    open_at (Node l t e) = get-open (lit_field l)
+
+-- what a choice names
+choice_sound : (l : Lit) (a b r : Tree) → IsNormal b → Chosen l a b r → Sound open_cell (λ m. (l ≡ m) ⊎ (Tests a m ⊎ Tests b m)) (λ m. Assigns a m ⊎ Assigns b m) r
+choice_sound l a b r n c =
+    chosen_sound l _ _ a b r (inl refl) (λ m k. inr (inl k)) (λ m k. inr (inr k)) (λ m k. inl k) (λ m k. inr k)
+    (sound_weaken open_cell _ _ _ _ b (λ m k. inr (inr k)) (λ m k. inr k) (sound_of b n)) c
+
+pub choice_of : (l : Lit) (a b r : Tree) → IsOrdered a → IsOrdered b → IsFew (Node l a b) → IsNormal b → Chosen l a b r → ChoiceOf l a b r
+choice_of l a b r oa ob few n c =
+    let g = fresh_of_one (Node l a b) few in
+    let s = choice_sound l a b r n c in
+    record {
+      yes = chosen_yes l a b r c;
+      no = chosen_no l a b r c;
+      normal = normal_of _ _ r g.0 g.1 g.2.tested g.2.assigned (chosen_ordered l a b r c oa ob) s;
+      tests = s.tests;
+      assigns = s.assigns;
+    }
+
+-- a choice names few values
+pub choice_few : (l : Lit) (a b r : Tree) → IsFew (Node l a b) → IsNormal b → Chosen l a b r → IsFew r
+choice_few l a b r few n c = let s = choice_sound l a b r n c in few_of_one (Node l a b) r s.tests s.assigns few
 
 pub sequence_law : (a b r : Tree) → IsOrdered a → IsOrdered b → AreFew a b → Sequences a b r → SequenceOf a b r
 sequence_law a b r oa ob few j = record {
@@ -76,15 +118,6 @@ cofactor_law l a r oa few j =
       tests = j.tests;
       assigns = j.assigns;
     }
-
--- what names no more than a does names few values
-pub few_of_one : (a r : Tree) → ((m : Lit) → Tests r m → Tests a m) → ((m : Lit) → Assigns r m → Assigns a m) → IsFew a → IsFew r
-few_of_one a r ht ha few =
-    let k = count_within (literals r) (literals a) (λ m w. elim (named r m w) [
-      | inl x ↦ tests_literal a m (ht m x)
-      | inr x ↦ assigns_literal a m (ha m x)
-    ]) in
-    omega (arith, k, few)
 
 one_leaf : (c : List Lit) → Respects open_cell (Leaf (c ∷ []))
 one_leaf c = λ m k z. lit_not_free m (sym z ∙ get-open (lit_field m))

@@ -14,6 +14,7 @@ use Rattle.fdd_nodes.specs.Copies.{IsCopy, strip, Puts}
 use Rattle.fdd_nodes.specs.Cells.{free}
 use Rattle.fdd_nodes.specs.Known.{Bars}
 use Rattle.fdd_ops.specs.Builds.{NodeOf, Sound}
+use Rattle.fdd_ops.specs.Skips.{Skips}
 use Rattle.fdd_ops.specs.Unions.{IsUnion, Joins, Adds, AddsBoth}
 use Rattle.fdd_nodes.proofs.MakesLaws.{source, outcome, among_lists}
 use Rattle.fdd_nodes.proofs.SplitLaws.{Splits, ordered_weaken, first_from, first_tested}
@@ -93,6 +94,14 @@ joins_else c l a a1 a0 b b1 b0 r sa sb f n h = record {
   union = λ p g. let y : ¬ Holds p l = λ k. n.other (sym (g.at (lit_field l) n.fixed) ∙ k) in union_via a a0 b b0 r r p (sa.else_leaf p y) (sb.else_leaf p y) (same_leaf r r p refl) (h.union p g);
   ordered = λ k oa ob. ordered_weaken r k _ (let j = first_from l a b k f oa ob in omega (arith, j)) (h.ordered _ (sa.else_ordered k oa) (sb.else_ordered k ob));
   sound = sound_else c l a a1 a0 b b1 b0 r sa sb h.sound;
+}
+
+-- where the cell decides the first tests
+pub joins_skip : (c : Packet) (a a' b b' r : Tree) → Skips c a a' → Skips c b b' → Joins c a' b' r → Joins c a b r
+joins_skip c a a' b b' r sa sb h = record {
+  union = λ p g. union_via a a' b b' r r p (sa.leaf p g) (sb.leaf p g) (same_leaf r r p refl) (h.union p g);
+  ordered = λ k oa ob. h.ordered k (sa.ordered k oa) (sb.ordered k ob);
+  sound = sound_weaken c _ _ _ _ r (both _ _ _ _ sa.tests sb.tests) (both _ _ _ _ sa.assigns sb.assigns) h.sound;
 }
 
 pub joins_copies : (c : Packet) (xs ys ds : List (List Lit)) → AddsBoth c xs ys ds → Joins c (Leaf xs) (Leaf ys) (Leaf ds)

@@ -6,4 +6,5 @@ pub mod Cofactors
 pub mod Negations
 pub mod Operations
 pub mod Sequences
+pub mod Skips
 pub mod Unions

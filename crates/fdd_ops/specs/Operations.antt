@@ -46,6 +46,14 @@ pub record UnionOf (a b r : Tree) : Type 0 where
   pub tests : (m : Lit) → Tests r m → Tests a m ⊎ Tests b m
   pub assigns : (m : Lit) → Assigns r m → Assigns a m ⊎ Assigns b m
 
+-- r answers as a where l holds, and else as b
+pub record ChoiceOf (l : Lit) (a b r : Tree) : Type 0 where
+  pub yes : (p : Packet) → Holds p l → SameAnswers (answers r p) (answers a p)
+  pub no : (p : Packet) → ¬ Holds p l → SameAnswers (answers r p) (answers b p)
+  pub normal : IsNormal r
+  pub tests : (m : Lit) → Tests r m → (l ≡ m) ⊎ (Tests a m ⊎ Tests b m)
+  pub assigns : (m : Lit) → Assigns r m → Assigns a m ⊎ Assigns b m
+
 -- r answers what b answers to the answers of a
 pub record SequenceOf (a b r : Tree) : Type 0 where
   pub answer : (p z : Packet) → IsIn (answers r p) z ↔ Through a b p z

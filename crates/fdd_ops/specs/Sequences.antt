@@ -1,17 +1,20 @@
 -- Sequences.
-use Rattle.std.specs.Prelude.{◌≡◌, ℕ, ◌⊎◌, List}
+use Rattle.std.specs.Prelude.{◌≡◌, ◌≢◌, ℕ, ◌⊎◌, List, [], ◌∷◌}
+use Rattle.nk_values.specs.declared.field.Field.{Field}
 use Rattle.nk_values.specs.declared.packet.Packet.{Packet}
 use Rattle.nk_values.specs.declared.lit.Lit.{Lit}
 use Rattle.nk_values.specs.Held.{Holds}
 use Rattle.nk_values.specs.Members.{IsIn}
-use Rattle.fdd_nodes.specs.Trees.{Tree, outcomes, answers, apply, SameAnswers, IsOrderedFrom, IsOrdered, Tests, IsSetBy, Assigns}
+use Rattle.fdd_nodes.specs.Roots.{HasRoot, IsAfter}
+use Rattle.fdd_nodes.specs.Trees.{Tree, leaf_at, outcomes, answers, apply, SameAnswers, IsOrderedFrom, IsOrdered, Tests, IsSetBy, Assigns}
 use Rattle.fdd_nodes.specs.Cells.{free, Agrees, open_cell}
 use Rattle.fdd_nodes.specs.declared.cell.Known.{Known}
 use Rattle.fdd_nodes.specs.declared.cell.Known.TheVariants.{Open, Yes, No}
 use Rattle.nk_values.specs.Lits.{lit_field}
 use Rattle.nk_values.specs.Packets.{get}
 use Rattle.fdd_nodes.specs.Copies.{after, strip}
-use Rattle.fdd_ops.specs.Builds.{Sound}
+use Rattle.fdd_ops.specs.Builds.{NodeOf, Sound}
+use Rattle.fdd_ops.specs.Choices.{Chooses}
 
 -- new has the copies of cs after the copy x, stripped, beside what old has
 pub record AddsAfter (c : Packet) (x : List Lit) (cs old new : List (List Lit)) : Type 0 where
@@ -42,18 +45,53 @@ pub record Pushes (c : Packet) (x : List Lit) (b r : Tree) : Type 0 where
   pub ordered : (k : ℕ) → IsOrderedFrom k b → IsOrderedFrom k r
   pub sound : Sound c (Tests b) (λ m. Assigns b m ⊎ IsIn x m) r
 
--- r gathers what b answers after each copy
-pub record Gathers (cs : List (List Lit)) (b r : Tree) : Type 0 where
-  pub has : (p z : Packet) (c : List Lit) → IsIn cs c → IsIn (answers b (apply c p)) z → IsIn (answers r p) z
-  pub only : (p z : Packet) → IsIn (answers r p) z → (c : List Lit) × IsIn cs c × IsIn (answers b (apply c p)) z
-  pub ordered : IsOrdered b → IsOrdered r
-  pub sound : Sound open_cell (Tests b) (λ m. Assigns b m ⊎ IsSetBy cs m) r
+-- the copy sets no field that s fixes
+abbrev pub Spares : Packet → List Lit → Type 0
+Spares s [] = Unit {0}
+Spares s (l ∷ x) = (get s (lit_field l) ≡ free) × Spares s x
+
+-- b leads each packet that is as p in the fields which s fixes to the leaf that h leads it to
+pub record IsReached (s : Packet) (h b : Tree) (p : Packet) : Type 0 where
+  pub at : (q : Packet) → ((f : Field) → get s f ≢ free → get q f ≡ get p f) → leaf_at b q ≡ leaf_at h q
+
+-- r fixes the fields that s fixes, and the field of l, where l is the first test of h
+pub record Asks (s : Packet) (h : Tree) (l : Lit) (r : Packet) : Type 0 where
+  pub kept : (f : Field) → get s f ≢ free → get r f ≢ free
+  pub root : HasRoot l h → get r (lit_field l) ≢ free
+
+-- the first test of one of them is l
+abbrev pub IsNext : Lit → Tree → Tree → Type 0
+IsNext l a h = HasRoot l a ⊎ HasRoot l h
+
+-- a node of two diagrams that come after its test
+pub record Tops (l : Lit) (x y r : Tree) : Type 0 where
+  pub node : NodeOf l x y r
+  pub after_x : IsAfter l x
+  pub after_y : IsAfter l y
+
+-- r answers as x where l holds, and else as y
+abbrev pub JoinedAt : Packet → Lit → Tree → Tree → Tree → Type 0
+JoinedAt c l x y r = Tops l x y r ⊎ Chooses c l x y r
+
+-- in the cell c, r gathers what b answers after each copy, where b leads to h
+pub record Gathers (c s : Packet) (cs : List (List Lit)) (h b r : Tree) : Type 0 where
+  pub has : (p z : Packet) (d : List Lit) → Agrees c p → IsReached s h b p → IsIn cs d → IsIn (answers b (apply d p)) z → IsIn (answers r p) z
+  pub only : (p z : Packet) → Agrees c p → IsReached s h b p → IsIn (answers r p) z → (d : List Lit) × IsIn cs d × IsIn (answers b (apply d p)) z
+  pub ordered : IsOrdered h → IsOrdered b → IsOrdered r
+  pub sound : Sound c (λ m. Tests h m ⊎ Tests b m) (λ m. (Assigns h m ⊎ Assigns b m) ⊎ IsSetBy cs m) r
 
 -- z is an answer of b to an answer of a
 pub record Through (a b : Tree) (p z : Packet) : Type 0 where
   pub between : Packet
   pub first : IsIn (answers a p) between
   pub second : IsIn (answers b between) z
+
+-- in the cell c, r answers as a and then b, where b leads to h
+pub record SequencesIn (c s : Packet) (a h b r : Tree) : Type 0 where
+  pub has : (p z : Packet) → Agrees c p → IsReached s h b p → Through a b p z → IsIn (answers r p) z
+  pub only : (p z : Packet) → Agrees c p → IsReached s h b p → IsIn (answers r p) z → Through a b p z
+  pub ordered : IsOrdered a → IsOrdered h → IsOrdered b → IsOrdered r
+  pub sound : Sound c (λ m. Tests a m ⊎ (Tests h m ⊎ Tests b m)) (λ m. Assigns a m ⊎ (Assigns h m ⊎ Assigns b m)) r
 
 -- r answers as a and then b
 pub record Sequences (a b r : Tree) : Type 0 where

@@ -23,8 +23,14 @@ pub(crate) fn choose(alloc: Global, l: &Lit, x: &Node, y: Chain) -> Result<Chain
     choose_in(alloc, &Cell::open(), l, x, &no)
 }
 
-// The first diagram where a literal holds, and else the second, on the packets of a cell.
-fn choose_in(alloc: Global, cell: &Cell, l: &Lit, x: &Node, y: &Node) -> Result<Chain, AllocError>
+/// The first diagram where a literal holds, and else the second, on the packets of a cell.
+pub(crate) fn choose_in(
+    alloc: Global,
+    cell: &Cell,
+    l: &Lit,
+    x: &Node,
+    y: &Node,
+) -> Result<Chain, AllocError>
     ensures { IfOk result (λ r. Chooses cell.now l.now (tree x.now) (tree y.now) (built r)) }
 {
     let m = first_of(l, x, y);

@@ -8,9 +8,10 @@ mod leaves;
 mod negations;
 pub mod ops;
 mod sequences;
+mod skips;
 mod unions;
 
-pub use ops::{assign, cofactor, negate, one, sequence, test, union, zero};
+pub use ops::{assign, choice, cofactor, negate, one, sequence, test, union, zero};
 
 #[cfg(test)]
 mod tests;

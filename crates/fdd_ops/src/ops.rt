@@ -1,10 +1,14 @@
 // The operations on diagrams. Each result is normal, and names only literals that its arguments name.
 ghost use Rattle.std.specs.Prelude.{IfOk};
 ghost use Rattle.fdd_nodes.specs.Fdds.{tree_of};
-ghost use Rattle.fdd_nodes.specs.Names.{AreFew};
+ghost use Rattle.fdd_nodes.specs.Names.{IsFew, AreFew};
+ghost use Rattle.fdd_nodes.specs.Normals.{IsNormal};
+ghost use Rattle.fdd_nodes.specs.Trees as trees;
 ghost use Rattle.fdd_ops.specs.Negations.{IsPredicate};
-ghost use Rattle.fdd_ops.specs.Operations.{OneOf, ZeroOf, TestOf, AssignmentOf, UnionOf, SequenceOf, NegationOf, CofactorOf};
+ghost use Rattle.fdd_ops.specs.Operations.{OneOf, ZeroOf, TestOf, AssignmentOf, UnionOf, ChoiceOf, SequenceOf, NegationOf, CofactorOf};
 
+use crate::chain::Chain;
+use crate::choices::choose;
 use crate::cofactors::cofactor_of;
 use crate::negations::negate_in;
 use crate::sequences::sequence_of;
@@ -53,6 +57,18 @@ pub fn union(alloc: Global, a: &Fdd, b: &Fdd) -> Result<Fdd, AllocError>
     ensures { IfOk result (λ r. UnionOf (tree_of a.now) (tree_of b.now) (tree_of r)) }
 {
     let chain = union_in(alloc, &Cell::open(), a.root(), b.root())?;
+    let root = chain.close(alloc)?;
+    Ok(Fdd::new(root))
+}
+
+/// The first diagram where a literal holds, and else the second.
+pub fn choice(alloc: Global, l: Lit, a: &Fdd, b: Fdd) -> Result<Fdd, AllocError>
+    requires few { IsFew (trees.Node l (tree_of a.now) (tree_of b)) }
+    requires normal { IsNormal (tree_of b) }
+    ensures { IfOk result (λ r. ChoiceOf l (tree_of a.now) (tree_of b) (tree_of r)) }
+{
+    let other = Chain::of(alloc, b.into_root());
+    let chain = choose(alloc, &l, a.root(), other)?;
     let root = chain.close(alloc)?;
     Ok(Fdd::new(root))
 }

@@ -1,10 +1,11 @@
 // Small diagrams, and what they answer.
 ghost use Rattle.std.specs.Prelude.{◌≡◌, ◌+◌, length, IsTrue, IfSome};
 ghost use Rattle.fdd_nodes.specs.Fdds.{tree_of};
-ghost use Rattle.fdd_nodes.specs.Names.{AreFew, literals, literals_of};
+ghost use Rattle.fdd_nodes.specs.Names.{IsFew, AreFew, literals, literals_of};
+ghost use Rattle.fdd_nodes.specs.Trees as trees;
 ghost use Rattle.fdd_nodes.specs.Trees.{tree};
 
-use crate::ops::{assign, cofactor, negate, one, sequence, test, union, zero};
+use crate::ops::{assign, choice, cofactor, negate, one, sequence, test, union, zero};
 use fdd_nodes::{Assignments, Fdd, Node};
 use nk_values::{Field, Header, Lit, Packet};
 use std::alloc::Global;
@@ -64,6 +65,19 @@ fn are_few(a: &Fdd, b: &Fdd) -> bool
     ensures { IsTrue result → AreFew (tree_of a.now) (tree_of b.now) }
 {
     let Some(rest) = room_left(a.root(), 4000) else {
+        return false;
+    };
+    let Some(_left) = room_left(b.root(), rest) else {
+        return false;
+    };
+    true
+}
+
+// Whether a test of a literal with two diagrams behind it names few values.
+fn fits(l: &Lit, a: &Fdd, b: &Fdd) -> bool
+    ensures { IsTrue result → IsFew (trees.Node l.now (tree_of a.now) (tree_of b.now)) }
+{
+    let Some(rest) = room_left(a.root(), 3999) else {
         return false;
     };
     let Some(_left) = room_left(b.root(), rest) else {
@@ -160,6 +174,26 @@ fn redundant_tests_go(rt: HostRuntime) -> Result<(), Fail> {
 
 fn negate_of(alloc: Global, l: Lit) -> Result<Fdd, Fail> {
     Ok(negate(alloc, &test(alloc, l)?)?)
+}
+
+// port 1 goes to port 2, and every other to port 3; where both go to port 2 nothing is tested
+#[test]
+fn choices(rt: HostRuntime) -> Result<(), Fail> {
+    let alloc = rt.alloc();
+    let (here, there) = (lit(Field::Pt, 1)?, lit(Field::Pt, 2)?);
+    let yes = assign(alloc, there)?;
+    let no = assign(alloc, lit(Field::Pt, 3)?)?;
+    let same = assign(alloc, there)?;
+    if !fits(&here, &yes, &no) || !fits(&here, &yes, &same) || !no.normal() || !same.normal() {
+        return Err("too many values".into());
+    }
+    let chosen = choice(alloc, here, &yes, no)?;
+    let alike = choice(alloc, here, &yes, same)?;
+    let at = |pt: u64| packet(pt, 2048, 0);
+    assert!(rt; chosen.answer(alloc, &at(1))?.as_slice() == [at(2)].as_slice());
+    assert!(rt; chosen.answer(alloc, &at(9))?.as_slice() == [at(3)].as_slice());
+    assert!(rt; chosen.normal() && is_leaf(&alike));
+    Ok(())
 }
 
 // at port 1, `pt=1; ethTyp:=2048 + pt=2; skip` keeps what is behind the first test

@@ -7,6 +7,7 @@ ghost use Rattle.fdd_ops.specs.Unions.{Joins, Settles};
 
 use crate::chain::Chain;
 use crate::leaves::{joined, settled};
+use crate::skips::part_in;
 use fdd_nodes::{Cell, Known, Node};
 use std::alloc::{AllocError, Global};
 
@@ -19,7 +20,9 @@ pub(crate) fn union_in(alloc: Global, cell: &Cell, a: &Node, b: &Node) -> Result
     };
     match cell.knows(&l) {
         Known::Open => {
-            let inner = union_in(alloc, &cell.with(&l), a.then_of(&l), b.then_of(&l))?;
+            let part = cell.with(&l);
+            let (x, y) = (part_in(&part, a.then_of(&l)), part_in(&part, b.then_of(&l)));
+            let inner = union_in(alloc, &part, x, y)?;
             let yes = inner.close(alloc)?;
             let no = union_in(alloc, cell, a.else_of(&l), b.else_of(&l))?;
             no.add(alloc, l, yes)
