@@ -1,161 +1,190 @@
--- Rounds of a star, and what the last one shows.
-use Rattle.std.proofs.Common.{◌≡◌, ℕ, zero, suc, ◌+◌, ◌<◌, ◌≤◌, inl, inr, refl, sym, subst, arith, List, [], ◌∷◌, ◌++◌, length, get_or, add-one}
+-- The star of a diagram, cell by cell.
+use Rattle.std.proofs.Common.{◌≡◌, ◌≢◌, ℕ, zero, suc, ◌+◌, ◌<◌, inl, inr, refl, ap, sym, ◌∙◌, subst, arith, Bool, List, [], ◌∷◌, ◌++◌, length, if◌then◌else◌, ◌==◌}
+use Rattle.std.proofs.lemmas.Bool.{eq-eqb, ne_eqb}
 use Rattle.std.proofs.lemmas.Bool.Decides.{eqb_tells}
 use Rattle.nk_values.specs.declared.field.Field.{Field}
+use Rattle.nk_values.specs.declared.field.Field.TheVariants.{Sw, Pt, EthTyp, IpProto, EthSrc, EthDst, Ip4Src, Ip4Dst, TcpSrcPort, TcpDstPort}
 use Rattle.nk_values.specs.declared.packet.Packet.{Packet}
 use Rattle.nk_values.specs.declared.lit.Lit.{Lit}
-use Rattle.nk_values.specs.Held.{put}
+use Rattle.nk_values.specs.Held.{Holds, put}
 use Rattle.nk_values.specs.Lits.{lit_field, lit_value}
-use Rattle.nk_values.specs.Members.{IsIn, Within}
-use Rattle.nk_values.specs.Packets.{get, IsInRange}
-use Rattle.nk_values.specs.Ranges.{IsValue}
-use Rattle.nk_values.proofs.LitLaws.{lit_is_value}
-use Rattle.nk_values.proofs.MemberLaws.{in-either}
-use Rattle.nk_values.proofs.PacketLaws.{get-with_same, get-with_other, field_cases}
-use Rattle.fdd_nodes.specs.Trees.{Tree, leaf_at, apply, answers}
-use Rattle.fdd_nodes.specs.Cells.{open_cell, Alike}
-use Rattle.fdd_nodes.specs.Names.{literals, IsFew, AreFew}
-use Rattle.nk_values.specs.Members.{Within}
-use Rattle.fdd_nodes.proofs.MakesLaws.{source}
-use Rattle.fdd_nodes.proofs.CellLaws.{open_agrees}
+use Rattle.nk_values.specs.Members.{IsIn, SameMembers}
+use Rattle.nk_values.specs.Packets.{get, with_value}
+use Rattle.nk_values.proofs.MemberLaws.{in-left, in-right, in-either}
+use Rattle.fdd_nodes.specs.Trees.{Tree, Leaf, Node, apply, outcomes, IsSetBy, Tests}
+use Rattle.fdd_nodes.specs.Cells.{free, open_cell, fill}
+use Rattle.fdd_nodes.specs.Copies.{Puts}
+use Rattle.std.specs.List.{Contains}
+use Rattle.std.specs.List.Sorted.{IsPermutation}
+use Rattle.std.proofs.lemmas.List.Sorted.{Contains-permutation, IsPermutation-sym}
+use Rattle.fdd_nodes.specs.Names.{literals, IsFew}
+use Rattle.fdd_nodes.proofs.CellLaws.{lit_not_free, agrees_with, open_agrees, get-open}
+use Rattle.fdd_nodes.proofs.MakesLaws.{source, outcome}
 use Rattle.fdd_nodes.proofs.NameLaws.{count_within, named, tests_literal, assigns_literal}
-use Rattle.fdd_ops.specs.Operations.{OneOf, UnionOf, SequenceOf}
-use Rattle.fdd_differ.specs.Differ.{AreAlike, Shows}
-use Rattle.fdd_star.specs.Rounds.{IsNamedBy, Rounds}
-use Rattle.fdd_star.specs.Stars.{Turns, StarOf, IsDeep}
+use Rattle.fdd_ops.specs.Operations.{ChoiceOf}
+use Rattle.fdd_star.specs.declared.reach.Reach.{Reach}
+use Rattle.fdd_star.specs.Asks.{Asks}
+use Rattle.fdd_star.specs.Reaches.{copies_of, asked_of, IsClosed, IsNamedBy, Misses, StarBut}
+use Rattle.fdd_star.specs.Stars.{Turns, StarOf}
+use Rattle.fdd_star.proofs.FillLaws.{EscapesAll, fill_agrees, apply_fill, turns_filled, filled_turns}
+
+-- what names no more than p does names few values
 
 inside : (p t : Tree) → IsNamedBy p t → (m : Lit) → IsIn (literals t) m → IsIn (literals p) m
 inside p t h m k = elim (named t m k) [ inl x ↦ tests_literal p m (h.tests m x) | inr x ↦ assigns_literal p m (h.assigns m x) ]
 
--- two diagrams that name only what p names are few together
-pub few_within : (p a b : Tree) → IsFew p → IsNamedBy p a → IsNamedBy p b → AreFew a b
-few_within p a b few ha hb = record {
-  bound =
-      let k = count_within (literals a ++ literals b) (literals p) (λ m w. elim (in-either (literals a) (literals b) m w) [ inl x ↦ inside p a ha m x | inr x ↦ inside p b hb m x ]) in
-      omega (arith, k, few);
+pub few_within : (p a : Tree) → IsFew p → IsNamedBy p a → IsFew a
+few_within p a few h = let k = count_within (literals a) (literals p) (inside p a h) in omega (arith, k, few)
+
+-- the names of copies
+
+set_by : (cs : List (List Lit)) (m : Lit) → IsSetBy cs m → (x : List Lit) × IsIn cs x × IsIn x m
+set_by [] m h = absurd h
+set_by (c ∷ cs) m h = elim h [ inl k ↦ (c, inl refl, k) | inr k ↦ let w = set_by cs m k in (w.0, inr w.1, w.2) ]
+
+named_leaf : (p : Tree) (c : Packet) (r : Reach) (cs : List (List Lit)) → IsClosed p c r → SameMembers cs (copies_of r) → IsNamedBy p (Leaf cs)
+named_leaf p c r cs h s = record { tests = λ m k. absurd k; assigns = λ m k. let w = set_by cs m k in h.named w.0 m (s.front w.0 w.1) w.2 }
+
+-- on the packets of the cell that hold nothing which was asked, the copies answer as the star
+pub star_leaf : (p : Tree) (c : Packet) (r : Reach) (cs : List (List Lit)) → IsClosed p c r → SameMembers cs (copies_of r) → StarBut p c (asked_of r) (Leaf cs)
+star_leaf p c r cs h s = record {
+  made = λ pk out g miss k.
+      let o = source cs pk out k in
+      let w = h.made o.copy (s.front o.copy o.among) in
+      let turns = turns_filled p w.0 c (apply o.copy c) pk (escapes pk miss) w.2 in
+      let same = sym (apply_fill o.copy c pk) ∙ ap (apply o.copy) (fill_agrees c pk g) ∙ o.makes in
+      (w.0, w.1, subst (λ (z : Packet). Turns p w.0 z out) (fill_agrees c pk g) (subst (Turns p w.0 (fill c pk)) same turns));
+  all = λ n pk out g miss k.
+      let w = filled_turns p n c out pk (escapes pk miss) (subst (λ (z : Packet). Turns p n z out) (sym (fill_agrees c pk g)) k) in
+      let o = source (copies_of r) c w.0 (h.all n w.0 w.1) in
+      let same = ap (apply o.copy) (sym (fill_agrees c pk g)) ∙ apply_fill o.copy c pk ∙ ap (λ z. fill z pk) o.makes ∙ w.2 in
+      subst (IsIn (outcomes cs pk)) same (outcome cs o.copy pk (s.back o.copy o.among));
+  normal = record { ordered = tt; respects = λ m k z. lit_not_free m (sym z ∙ get-open (lit_field m)); tight = tt };
+  names = named_leaf p c r cs h s;
 }
+  where
+    escapes : (pk : Packet) → Misses (asked_of r) pk → EscapesAll p c pk
+    escapes pk miss n q w m k =
+        let o = source (copies_of r) c q (h.all n q w) in
+        miss m (h.asks o.copy m o.among (subst (λ (z : Packet). Asks p z m) (sym o.makes) k))
 
-pub named_itself : (p : Tree) → IsNamedBy p p
-named_itself p = record { tests = λ m k. k; assigns = λ m k. k }
-
-named_one : (p r : Tree) → OneOf r → IsNamedBy p r
-named_one p r o = record { tests = λ m k. absurd (o.tests m k); assigns = λ m k. absurd (o.assigns m k) }
-
-one_keeps : (r : Tree) → OneOf r → (pk out : Packet) → IsIn (answers r pk) out → pk ≡ out
-one_keeps r o pk out h = elim (let k : IsIn (pk ∷ []) out = subst (λ (xs : List Packet). IsIn xs out) (o.answer pk) h in k) [ inl e ↦ e | inr n ↦ absurd n ]
-
-keeps_one : (r : Tree) → OneOf r → (pk out : Packet) → pk ≡ out → IsIn (answers r pk) out
-keeps_one r o pk out e = subst (λ (xs : List Packet). IsIn xs out) (sym (o.answer pk)) (inl e)
-
-no_turn : (p : Tree) (k : ℕ) (pk out : Packet) → k ≤ 0 → Turns p k pk out → pk ≡ out
-no_turn p zero pk out l h = h
-no_turn p (suc k) pk out l h = absurd (omega (arith, l))
-
--- before the first round
-pub rounds_none : (p s l : Tree) → OneOf s → OneOf l → Rounds p 0 s l
-rounds_none p s l os ol = record {
-  made = λ pk out h. (0, omega arith, one_keeps s os pk out h);
-  all = λ pk out h. keeps_one s os pk out (no_turn p h.0 pk out h.1 h.2);
-  last_made = λ pk out h. one_keeps l ol pk out h;
-  last_all = λ pk out h. keeps_one l ol pk out h;
-  normal = os.normal;
-  names = named_one p s os;
-  last_names = named_one p l ol;
-}
-
-named_sequence : (p l t : Tree) → IsNamedBy p l → SequenceOf p l t → IsNamedBy p t
-named_sequence p l t h q = record {
-  tests = λ m k. elim (q.tests m k) [ inl x ↦ x | inr x ↦ h.tests m x ];
-  assigns = λ m k. elim (q.assigns m k) [ inl x ↦ x | inr x ↦ h.assigns m x ];
-}
-
--- what one turn more names
-pub last_named : (p s l t : Tree) (n : ℕ) → Rounds p n s l → SequenceOf p l t → IsNamedBy p t
-last_named p s l t n h q = named_sequence p l t h.last_names q
-
-turn_more : (p s l t : Tree) (n : ℕ) → Rounds p n s l → SequenceOf p l t → (pk out : Packet) → IsIn (answers t pk) out → Turns p (suc n) pk out
-turn_more p s l t n h q pk out k = let w = (q.answer pk out).0 k in (w.between, w.first, h.last_made w.between out w.second)
-
-more_turn : (p s l t : Tree) (n : ℕ) → Rounds p n s l → SequenceOf p l t → (pk out : Packet) → Turns p (suc n) pk out → IsIn (answers t pk) out
-more_turn p s l t n h q pk out k = (q.answer pk out).1 (record { between = k.0; first = k.1; second = h.last_all k.0 out k.2 })
-
-rounds_suc : (p s l t m : Tree) (n : ℕ) → Rounds p n s l → SequenceOf p l t → UnionOf s t m → Rounds p (suc n) m t
-rounds_suc p s l t m n h q u = record {
-  made = λ pk out k. elim ((u.answer pk).only out k) [
-    | inl x ↦ let w = h.made pk out x in (w.0, (let b = w.1 in omega (arith, b)), w.2)
-    | inr x ↦ (suc n, omega arith, turn_more p s l t n h q pk out x)
+-- one literal more may be held
+pub star_more : (p : Tree) (c : Packet) (ls ms : List Lit) (l : Lit) (a b r : Tree) → Tests p l → ls ≡ ms ++ l ∷ [] → StarBut p (put l c) [] a → StarBut p c ls b → ChoiceOf l a b r → StarBut p c ms r
+star_more p c ls ms l a b r tested e ha hb choice = record {
+  made = λ pk out g miss k. elim (eqb_tells (get pk (lit_field l)) (lit_value l)) [
+    | inl y ↦ ha.made pk out (agrees_with c pk l y.1 g) (λ m n. absurd n) ((choice.yes pk y.1).front out k)
+    | inr y ↦ hb.made pk out g (misses pk miss y.1) ((choice.no pk y.1).front out k)
   ];
-  all = λ pk out k. elim (eqb_tells k.0 (suc n)) [
-    | inl y ↦ (u.answer pk).right out (more_turn p s l t n h q pk out (subst (λ (j : ℕ). Turns p j pk out) y.1 k.2))
-    | inr d ↦ (u.answer pk).left out (h.all pk out (k.0, (let b = k.1 in let e = d.1 in omega (arith, b, e)), k.2))
+  all = λ n pk out g miss k. elim (eqb_tells (get pk (lit_field l)) (lit_value l)) [
+    | inl y ↦ (choice.yes pk y.1).back out (ha.all n pk out (agrees_with c pk l y.1 g) (λ m n'. absurd n') k)
+    | inr y ↦ (choice.no pk y.1).back out (hb.all n pk out g (misses pk miss y.1) k)
   ];
-  last_made = turn_more p s l t n h q;
-  last_all = more_turn p s l t n h q;
-  normal = u.normal;
+  normal = choice.normal;
   names = record {
-    tests = λ x k. elim (u.tests x k) [ inl y ↦ h.names.tests x y | inr y ↦ (last_named p s l t n h q).tests x y ];
-    assigns = λ x k. elim (u.assigns x k) [ inl y ↦ h.names.assigns x y | inr y ↦ (last_named p s l t n h q).assigns x y ];
+    tests = λ m k. elim (choice.tests m k) [
+      | inl v ↦ subst (Tests p) v tested
+      | inr v ↦ elim v [ inl w ↦ ha.names.tests m w | inr w ↦ hb.names.tests m w ]
+    ];
+    assigns = λ m k. elim (choice.assigns m k) [ inl w ↦ ha.names.assigns m w | inr w ↦ hb.names.assigns m w ];
   };
-  last_names = last_named p s l t n h q;
 }
+  where
+    misses : (pk : Packet) → Misses ms pk → ¬ Holds pk l → Misses ls pk
+    misses pk miss n m k = elim (in-either ms (l ∷ []) m (subst (λ (xs : List Lit). IsIn xs m) e k)) [
+      | inl i ↦ miss m i
+      | inr i ↦ elim i [ inl w ↦ subst (λ (x : Lit). ¬ Holds pk x) w n | inr o ↦ absurd o ]
+    ]
 
--- a round more
-pub rounds_more : (p s l t m : Tree) (n : ℕ) → Rounds p n s l → SequenceOf p l t → UnionOf s t m → Rounds p (n + 1) m t
-rounds_more p s l t m n h q u = subst (λ (k : ℕ). Rounds p k m t) (sym (add-one n)) (rounds_suc p s l t m n h q u)
+-- the test and both parts name few values
+pub choice_few : (p : Tree) (l : Lit) (a b : Tree) → IsFew p → Tests p l → IsNamedBy p a → IsNamedBy p b → IsFew (Node l a b)
+choice_few p l a b few tested ha hb = few_within p (Node l a b) few (record {
+  tests = λ m k. elim k [ inl e ↦ subst (Tests p) e tested | inr k ↦ elim k [ inl w ↦ ha.tests m w | inr w ↦ hb.tests m w ] ];
+  assigns = λ m k. elim k [ inl w ↦ ha.assigns m w | inr w ↦ hb.assigns m w ];
+})
 
-put_in_range : (l : Lit) (pk : Packet) → IsInRange pk → IsInRange (put l pk)
-put_in_range l pk h = λ f. elim (field_cases (lit_field l) f) [
-  | inl e ↦ subst (λ (g : Field). IsValue g (get (put l pk) g)) e (subst (IsValue (lit_field l)) (sym (get-with_same pk (lit_field l) (lit_value l))) (lit_is_value l))
-  | inr d ↦ subst (IsValue f) (sym (get-with_other pk (lit_field l) f (lit_value l) d)) (h f)
-]
-
-apply_in_range : (c : List Lit) (pk : Packet) → IsInRange pk → IsInRange (apply c pk)
-apply_in_range [] pk h = h
-apply_in_range (l ∷ c) pk h = apply_in_range c (put l pk) (put_in_range l pk h)
-
--- answers to packets in range are in range
-answer_in_range : (t : Tree) (pk q : Packet) → IsInRange pk → IsIn (answers t pk) q → IsInRange q
-answer_in_range t pk q h k = let s = source (leaf_at t pk) pk q k in subst IsInRange s.makes (apply_in_range s.copy pk h)
-
--- where one turn more adds nothing on packets in range, no number of turns does
-turns_stay : (p s l m t : Tree) (n : ℕ) → Rounds p n s l → Rounds p (n + 1) m t → AreAlike m s → (j : ℕ) (pk out : Packet) → IsInRange pk → Turns p j pk out → IsIn (answers s pk) out
-turns_stay p s l m t n h g a zero pk out r k = h.all pk out (0, omega arith, k)
-turns_stay p s l m t n h g a (suc j) pk out r k =
-    let q = k.0 in
-    let w = h.made q out (turns_stay p s l m t n h g a j q out (answer_in_range p pk q r k.1) k.2) in
-    (a.same pk r).front out (g.all pk out (suc w.0, (let b = w.1 in omega (arith, b)), (q, k.1, w.2)))
-
-pub star_of : (p s l m t : Tree) (n : ℕ) → n ≤ 512 → Rounds p n s l → Rounds p (n + 1) m t → AreAlike m s → StarOf p s
-star_of p s l m t n b h g a = record {
-  made = λ pk out k. let w = h.made pk out k in (w.0, (let c = w.1 in omega (arith, b, c)), w.2);
-  all = λ j pk out r k. turns_stay p s l m t n h g a j pk out r k;
+pub star_of : (p r : Tree) → StarBut p open_cell [] r → StarOf p r
+star_of p r h = record {
+  made = λ pk out k. h.made pk out (open_agrees pk) (λ m n. absurd n) k;
+  all = λ n pk out _ k. h.all n pk out (open_agrees pk) (λ m o. absurd o) k;
   normal = h.normal;
   tests = h.names.tests;
   assigns = h.names.assigns;
 }
 
--- likeness on all packets is likeness on those in range
-pub alike_all : (a b : Tree) → Alike open_cell a b → AreAlike a b
-alike_all a b h = record { same = λ pk _. h.same pk (open_agrees pk) }
+-- how many fields a cell leaves open
 
-pub deep_of : (p s l m t : Tree) (pk out : Packet) → Rounds p 512 s l → Rounds p 513 m t → Shows m s pk → IsIn (answers m pk) out → ¬ IsIn (answers s pk) out → IsDeep p pk out
-deep_of p s l m t pk out h g shown has lacks = record {
-  in_range = shown.in_range;
-  made = g.made pk out has;
-  late = λ k. lacks (h.all pk out k);
+abbrev pub one_if_free : ℕ → ℕ
+one_if_free n = if n == free then 1 else 0
+
+abbrev pub open_fields : Packet → ℕ
+open_fields c =
+    one_if_free c.sw + one_if_free c.pt + one_if_free c.header.eth_typ + one_if_free c.header.ip_proto + one_if_free c.header.eth_src
+    + one_if_free c.header.eth_dst + one_if_free c.header.ip4_src + one_if_free c.header.ip4_dst + one_if_free c.header.tcp_src_port + one_if_free c.header.tcp_dst_port
+
+free_one : (n : ℕ) → n ≡ free → one_if_free n ≡ 1
+free_one n e = ap (λ (b : Bool). if b then 1 else 0) (eq-eqb n free e)
+
+other_none : (n : ℕ) → n ≢ free → one_if_free n ≡ 0
+other_none n e = ap (λ (b : Bool). if b then 1 else 0) (ne_eqb n free e)
+
+fewer_with : (c : Packet) (f : Field) (n : ℕ) → get c f ≡ free → n ≢ free → open_fields (with_value c f n) < open_fields c
+fewer_with c Sw n e d = let a = free_one _ e in let b = other_none n d in omega (arith, a, b)
+fewer_with c Pt n e d = let a = free_one _ e in let b = other_none n d in omega (arith, a, b)
+fewer_with c EthTyp n e d = let a = free_one _ e in let b = other_none n d in omega (arith, a, b)
+fewer_with c IpProto n e d = let a = free_one _ e in let b = other_none n d in omega (arith, a, b)
+fewer_with c EthSrc n e d = let a = free_one _ e in let b = other_none n d in omega (arith, a, b)
+fewer_with c EthDst n e d = let a = free_one _ e in let b = other_none n d in omega (arith, a, b)
+fewer_with c Ip4Src n e d = let a = free_one _ e in let b = other_none n d in omega (arith, a, b)
+fewer_with c Ip4Dst n e d = let a = free_one _ e in let b = other_none n d in omega (arith, a, b)
+fewer_with c TcpSrcPort n e d = let a = free_one _ e in let b = other_none n d in omega (arith, a, b)
+fewer_with c TcpDstPort n e d = let a = free_one _ e in let b = other_none n d in omega (arith, a, b)
+
+-- fixing a field leaves fewer
+pub fewer_open : (c : Packet) (l : Lit) → get c (lit_field l) ≡ free → open_fields (put l c) < open_fields c
+fewer_open c l e = fewer_with c (lit_field l) (lit_value l) e (lit_not_free l)
+
+-- a leaf with one copy more
+
+pub same_itself : {X : Type 0} (xs : List X) → SameMembers xs xs
+same_itself xs = record { front = λ x h. h; back = λ x h. h }
+
+pub same_put : (cs ds es : List (List Lit)) (c : List Lit) → SameMembers cs ds → Puts c cs es → SameMembers es (ds ++ c ∷ [])
+same_put cs ds es c s p = record {
+  front = λ x h. elim (p.only x h) [ inl w ↦ in-left ds (c ∷ []) x (s.front x w) | inr e ↦ in-right ds (c ∷ []) x (inl e) ];
+  back = λ x h. elim (in-either ds (c ∷ []) x h) [
+    | inl w ↦ p.kept x (s.back x w)
+    | inr w ↦ elim w [ inl e ↦ subst (IsIn es) e p.has | inr n ↦ absurd n ]
+  ];
 }
 
--- what tells the last round from the one before is an output more
-pub some_missing : (p s l m t : Tree) (pk : Packet) → Rounds p 512 s l → Rounds p 513 m t → Shows m s pk → Within (answers m pk) (answers s pk) → ⊥
-some_missing p s l m t pk h g shown w =
-    shown.apart (record { front = w; back = λ out k. let a = h.made pk out k in g.all pk out (a.0, (let b = a.1 in omega (arith, b)), a.2) })
+-- the same elements in another order
 
--- the elements of a list
+in_contains : {X : Type 0} (xs : List X) (x : X) → IsIn xs x → Contains xs x
+in_contains [] x h = absurd h
+in_contains (y ∷ ys) x h = elim h [
+  | inl e ↦ (0, omega arith, e)
+  | inr n ↦ let w = in_contains ys x n in (suc w.0, (let b = w.1 in omega (arith, b)), w.2)
+]
 
-pub in_at : (xs : List Packet) (i : ℕ) (d : Packet) → i < length xs → IsIn xs (get_or xs i d)
-in_at [] i d h = absurd (omega (arith, h))
-in_at (x ∷ xs) zero d h = inl refl
-in_at (x ∷ xs) (suc i) d h = inr (in_at xs i d (omega (arith, h)))
+contains_in : {X : Type 0} (xs : List X) (x : X) → Contains xs x → IsIn xs x
+contains_in [] x h = absurd (let b = h.1 in omega (arith, b))
+contains_in (y ∷ ys) x (zero, b, e) = inl e
+contains_in (y ∷ ys) x (suc k, b, e) = inr (contains_in ys x (k, omega (arith, b), e))
 
-pub within_more : (xs ys : List Packet) (y : Packet) → Within xs ys → IsIn ys y → Within (xs ++ y ∷ []) ys
-within_more xs ys y h k = λ x m. elim (in-either xs (y ∷ []) x m) [ inl n ↦ h x n | inr n ↦ elim n [ inl e ↦ subst (IsIn ys) e k | inr o ↦ absurd o ] ]
+pub same_sorted : {X : Type 0} (xs ys zs : List X) → IsPermutation xs ys → SameMembers zs ys → SameMembers zs xs
+same_sorted xs ys zs p s = record {
+  front = λ x h. contains_in xs x (Contains-permutation ys xs x (IsPermutation-sym xs ys p) (in_contains ys x (s.front x h)));
+  back = λ x h. s.back x (contains_in ys x (Contains-permutation xs ys x p (in_contains xs x h)));
+}
+
+-- what is left of the tests, without the last one
+pub fewer_left : (P : Lit → Type 0) (ls ms : List Lit) (l : Lit) → ls ≡ ms ++ l ∷ [] → ((m : Lit) → IsIn ls m → P m) → (m : Lit) → IsIn ms m → P m
+fewer_left P ls ms l e h m k = h m (subst (λ (xs : List Lit). IsIn xs m) (sym e) (in-left ms (l ∷ []) m k))
+
+pub last_of : (ls ms : List Lit) (l : Lit) → ls ≡ ms ++ l ∷ [] → IsIn ls l
+last_of ls ms l e = subst (λ (xs : List Lit). IsIn xs l) (sym e) (in-right ms (l ∷ []) l (inl refl))
+
+-- a list without elements
+pub none_left : (ls : List Lit) → (0 < length ls → ⊥) → ls ≡ []
+none_left [] h = refl
+none_left (l ∷ ls) h = absurd (h (omega arith))

@@ -1,2 +1,3 @@
-pub mod Rounds
+pub mod Asks
+pub mod Reaches
 pub mod Stars

@@ -2,10 +2,12 @@
 #![tactic(auto)]
 
 pub mod fault;
-pub mod rounds;
+mod reach;
+pub mod repetition;
+mod visits;
 
 pub use fault::{StarDeep, StarFault};
-pub use rounds::star;
+pub use repetition::star;
 
 #[cfg(test)]
 mod tests;

@@ -5,7 +5,7 @@ ghost use Rattle.fdd_nodes.specs.Names.{AreFew, literals, literals_of};
 ghost use Rattle.fdd_nodes.specs.Trees.{tree};
 
 use crate::fault::StarFault;
-use crate::rounds::star;
+use crate::repetition::star;
 use fdd_differ::difference;
 use fdd_nodes::{Assignments, Fdd, Node};
 use fdd_ops::{assign, sequence, test, union, zero};

@@ -1,0 +1,288 @@
+-- How what is reached grows.
+use Rattle.std.proofs.Common.{◌≡◌, ◌⊎◌, ℕ, ◌+◌, ◌-◌, ◌<◌, ◌≤◌, inl, inr, refl, ap, sym, ◌∙◌, subst, arith, List, [], ◌∷◌, ◌++◌, length, take, drop, get_or}
+use Rattle.std.proofs.lemmas.List.{append_assoc, append-nil, take_more, take_all, length-drop, get_or-drop, get_or_append_left}
+use Rattle.std.specs.declared.cmp.Ordering.{Ordering}
+use Rattle.std.specs.declared.cmp.Ordering.TheVariants.{Less, Equal, Greater}
+use Rattle.std.specs.Prelude.{Result, Ok, Err, OnOk}
+use Rattle.std.specs.BTreeSet.{insert_key}
+use Rattle.std.specs.FinMap.{nat_cmp-IsAntisymmetric}
+use Rattle.std.specs.Ordering.{match_ordering}
+use Rattle.nk_values.specs.declared.packet.Packet.{Packet}
+use Rattle.nk_values.specs.declared.lit.Lit.{Lit}
+use Rattle.nk_values.specs.Members.{IsIn}
+use Rattle.nk_values.specs.Ranks.{rank, lit_cmp}
+use Rattle.nk_values.proofs.LitLaws.{same_rank}
+use Rattle.nk_values.proofs.MemberLaws.{in-left, in-right, in-either}
+use Rattle.fdd_nodes.specs.Trees.{Tree, Node, leaf_at, apply, outcomes, answers}
+use Rattle.fdd_nodes.specs.Copies.{after, IsCopy}
+use Rattle.fdd_nodes.proofs.CellLaws.{lit_not_free}
+use Rattle.fdd_nodes.proofs.AfterLaws.{after_apply, after_among}
+use Rattle.fdd_nodes.proofs.MakesLaws.{source, outcome, among_lists}
+use Rattle.fdd_star.specs.declared.reach.Reach.{Reach}
+use Rattle.fdd_star.specs.declared.visits.Visit.{Visit}
+use Rattle.fdd_star.specs.Asks.{IsVisitOf, Asks, AsksMore, IsOpenPart}
+use Rattle.fdd_star.specs.Reaches.{copies_of, asked_of, AsksAll, IsTold, Notes, Grows}
+use Rattle.fdd_star.proofs.FillLaws.{leaf_assigns}
+use Rattle.fdd_star.proofs.TurnLaws.{in_same, outcome_left, outcome_in}
+
+pub on_ok : {X E : Type 0} (r : Result X E) (P Q : Type 0) → OnOk r P → (P → Q) → OnOk r Q
+on_ok (Ok x) P Q h f = f h
+on_ok (Err e) P Q h f = tt
+
+-- literals in their order, with one more
+
+insert_has : (ls : List Lit) (l : Lit) → IsIn (insert_key lit_cmp ls l) l
+insert_has [] l = inl refl
+insert_has (x ∷ xs) l = by (lit_cmp l x) refl (insert_has xs l)
+  where
+    by : (r : Ordering) → lit_cmp l x ≡ r → IsIn (insert_key lit_cmp xs l) l → IsIn (match_ordering r (l ∷ x ∷ xs) (x ∷ xs) (x ∷ insert_key lit_cmp xs l)) l
+    by Less e h = inl refl
+    by Equal e h = inl (sym (same_rank l x (nat_cmp-IsAntisymmetric (rank l) (rank x) e)))
+    by Greater e h = inr h
+
+insert_kept : (ls : List Lit) (l m : Lit) → IsIn ls m → IsIn (insert_key lit_cmp ls l) m
+insert_kept [] l m h = absurd h
+insert_kept (x ∷ xs) l m h = by (lit_cmp l x) (elim h [ inl e ↦ inl e | inr n ↦ inr (insert_kept xs l m n) ])
+  where
+    by : (r : Ordering) → IsIn (x ∷ insert_key lit_cmp xs l) m → IsIn (match_ordering r (l ∷ x ∷ xs) (x ∷ xs) (x ∷ insert_key lit_cmp xs l)) m
+    by Less k = inr h
+    by Equal k = h
+    by Greater k = k
+
+insert_only : (ls : List Lit) (l m : Lit) → IsIn (insert_key lit_cmp ls l) m → IsIn ls m ⊎ (l ≡ m)
+insert_only [] l m h = elim h [ inl e ↦ inr e | inr n ↦ absurd n ]
+insert_only (x ∷ xs) l m h = by (lit_cmp l x) (insert_only xs l m) h
+  where
+    by : (r : Ordering) → (IsIn (insert_key lit_cmp xs l) m → IsIn xs m ⊎ (l ≡ m)) → IsIn (match_ordering r (l ∷ x ∷ xs) (x ∷ xs) (x ∷ insert_key lit_cmp xs l)) m → IsIn (x ∷ xs) m ⊎ (l ≡ m)
+    by Less g h = elim h [ inl e ↦ inr e | inr n ↦ inl n ]
+    by Equal g h = inl h
+    by Greater g h = elim h [ inl e ↦ inl (inl e) | inr n ↦ elim (g n) [ inl i ↦ inl (inr i) | inr e ↦ inr e ] ]
+
+-- what a path asks
+
+-- at an open test it is asked, and what the false branch asks
+pub asks_open : (q : Packet) (a : Tree) (l : Lit) (t e : Tree) (old mid new : List Lit) → IsOpenPart q a (Node l t e) → mid ≡ old ++ l ∷ [] → AsksMore e q mid new → AsksMore a q old new
+asks_open q a l t e old mid new p i s = record {
+  kept = λ m k. s.kept m (in_same _ _ m (sym i) (in-left old (l ∷ []) m k));
+  has = λ m k. elim (p.front m k) [
+    | inl w ↦ s.kept m (in_same _ _ m (sym i) (in-right old (l ∷ []) m (inl w.1)))
+    | inr w ↦ elim w [ inl v ↦ absurd (lit_not_free l (sym v.0 ∙ p.first)) | inr v ↦ s.has m v.1 ]
+  ];
+  only = λ m k. elim (s.only m k) [
+    | inl w ↦ elim (in-either old (l ∷ []) m (in_same _ _ m i w)) [
+      | inl v ↦ inl v
+      | inr v ↦ elim v [ inl x ↦ inr (p.back m (inl (p.first, x))) | inr n ↦ absurd n ]
+    ]
+    | inr w ↦ inr (p.back m (inr (inr ((λ z. lit_not_free l (sym z ∙ p.first)), w))))
+  ];
+}
+
+-- tests noted one by one
+
+pub asks_none : (r : Reach) → AsksAll [] r r
+asks_none r = record { kept = λ m h. h; has = λ m h. absurd h; only = λ m h. inl h }
+
+pub asks_one : (ls : List Lit) (l : Lit) (r s s' : Reach) → AsksAll ls r s → asked_of s' ≡ insert_key lit_cmp (asked_of s) l → AsksAll (ls ++ l ∷ []) r s'
+asks_one ls l r s s' a e = record {
+  kept = λ m h. in_same _ _ m (sym e) (insert_kept (asked_of s) l m (a.kept m h));
+  has = λ m h. in_same _ _ m (sym e) (elim (in-either ls (l ∷ []) m h) [
+    | inl i ↦ insert_kept (asked_of s) l m (a.has m i)
+    | inr i ↦ elim i [ inl w ↦ subst (IsIn (insert_key lit_cmp (asked_of s) l)) w (insert_has (asked_of s) l) | inr n ↦ absurd n ]
+  ]);
+  only = λ m h. elim (insert_only (asked_of s) l m (in_same _ _ m e h)) [
+    | inl i ↦ elim (a.only m i) [ inl w ↦ inl w | inr w ↦ inr (in-left ls (l ∷ []) m w) ]
+    | inr w ↦ inr (in-right ls (l ∷ []) m (inl w))
+  ];
+}
+
+pub asks_kept : (ls : List Lit) (r s s' : Reach) → AsksAll ls r s → asked_of s' ≡ asked_of s → AsksAll ls r s'
+asks_kept ls r s s' a e = record {
+  kept = λ m h. in_same _ _ m (sym e) (a.kept m h);
+  has = λ m h. in_same _ _ m (sym e) (a.has m h);
+  only = λ m h. a.only m (in_same _ _ m e h);
+}
+
+-- what a visit asks is what its packet's path asks
+pub asks_visit : (t : Tree) (q : Packet) (v : Visit) (r s : Reach) → IsVisitOf t q v → AsksAll v.asked.items r s → AsksMore t q (asked_of r) (asked_of s)
+asks_visit t q v r s h a = record {
+  kept = a.kept;
+  has = λ m k. a.has m (h.asked.has m k);
+  only = λ m k. elim (a.only m k) [
+    | inl w ↦ inl w
+    | inr w ↦ elim (h.asked.only m w) [ inl n ↦ absurd n | inr x ↦ inr x ]
+  ];
+}
+
+-- The copies of a leaf after the copy x: new has what they make, beside what old has.
+pub record Adds (c : Packet) (x : List Lit) (ds : List (List Lit)) (old new : Reach) : Type 0 where
+  pub told : IsTold c new
+  pub more : List (List Lit)
+  pub joined : copies_of new ≡ copies_of old ++ more
+  pub has : (d : List Lit) → IsIn ds d → IsIn (outcomes (copies_of new) c) (apply d (apply x c))
+  pub only : (y : List Lit) → IsIn more y → (d : List Lit) × IsIn ds d × (y ≡ after x d)
+  pub late : (y : List Lit) → IsIn more y → ¬ IsIn (outcomes (copies_of old) c) (apply y c)
+
+pub adds_none : (c : Packet) (x : List Lit) (r s : Reach) → IsTold c s → copies_of s ≡ copies_of r → Adds c x [] r s
+adds_none c x r s t e = record {
+  told = t;
+  more = [];
+  joined = e ∙ sym (append-nil (copies_of r));
+  has = λ d h. absurd h;
+  only = λ y h. absurd h;
+  late = λ y h. absurd h;
+}
+
+-- a copy that makes a packet which is there
+adds_old : (c : Packet) (x : List Lit) (ds : List (List Lit)) (d : List Lit) (r s s' : Reach) → Adds c x ds r s → IsTold c s' → copies_of s' ≡ copies_of s → IsIn (outcomes (copies_of s) c) (apply d (apply x c)) → Adds c x (ds ++ d ∷ []) r s'
+adds_old c x ds d r s s' a t e h = record {
+  told = t;
+  more = a.more;
+  joined = e ∙ a.joined;
+  has = λ d' k. outcome_in _ _ c _ (sym e) (elim (in-either ds (d ∷ []) d' k) [
+    | inl i ↦ a.has d' i
+    | inr i ↦ elim i [ inl w ↦ subst (λ (z : List Lit). IsIn (outcomes (copies_of s) c) (apply z (apply x c))) w h | inr n ↦ absurd n ]
+  ]);
+  only = λ y k. let w = a.only y k in (w.0, in-left ds (d ∷ []) w.0 w.1, w.2);
+  late = a.late;
+}
+
+-- a copy that makes a new one
+adds_new : (c : Packet) (x : List Lit) (ds : List (List Lit)) (d y : List Lit) (r s s' : Reach) → Adds c x ds r s → IsTold c s' → copies_of s' ≡ copies_of s ++ y ∷ [] → y ≡ after x d → apply y c ≡ apply d (apply x c) → ¬ IsIn (outcomes (copies_of s) c) (apply d (apply x c)) → Adds c x (ds ++ d ∷ []) r s'
+adds_new c x ds d y r s s' a t e ey makes new = record {
+  told = t;
+  more = a.more ++ y ∷ [];
+  joined = e ∙ ap (λ (zs : List (List Lit)). zs ++ y ∷ []) a.joined ∙ append_assoc (copies_of r) a.more (y ∷ []);
+  has = λ d' k. outcome_in _ _ c _ (sym e) (elim (in-either ds (d ∷ []) d' k) [
+    | inl i ↦ outcome_left _ _ c _ (a.has d' i)
+    | inr i ↦ elim i [
+      | inl w ↦ subst (λ (z : List Lit). IsIn (outcomes (copies_of s ++ y ∷ []) c) (apply z (apply x c))) w (subst (IsIn (outcomes (copies_of s ++ y ∷ []) c)) makes (outcome (copies_of s ++ y ∷ []) y c (in-right (copies_of s) (y ∷ []) y (inl refl))))
+      | inr n ↦ absurd n
+    ]
+  ]);
+  only = λ z k. elim (in-either a.more (y ∷ []) z k) [
+    | inl i ↦ let w = a.only z i in (w.0, in-left ds (d ∷ []) w.0 w.1, w.2)
+    | inr i ↦ elim i [ inl w ↦ (d, in-right ds (d ∷ []) d (inl refl), sym w ∙ ey) | inr n ↦ absurd n ]
+  ];
+  late = λ z k h. elim (in-either a.more (y ∷ []) z k) [
+    | inl i ↦ a.late z i h
+    | inr i ↦ elim i [
+      | inl w ↦ new (outcome_in _ _ c _ (sym a.joined) (outcome_left (copies_of r) a.more c _ (subst (IsIn (outcomes (copies_of r) c)) (ap (λ (v : List Lit). apply v c) (sym w) ∙ makes) h)))
+      | inr n ↦ absurd n
+    ]
+  ];
+}
+
+outcomes_more : (xs : List (List Lit)) (y : List Lit) (c : Packet) → outcomes (xs ++ y ∷ []) c ≡ outcomes xs c ++ apply y c ∷ []
+outcomes_more [] y c = refl
+outcomes_more (x ∷ xs) y c = ap (λ (zs : List Packet). apply x c ∷ zs) (outcomes_more xs y c)
+
+-- a copy of the leaf more
+pub adds_more : (c : Packet) (x : List Lit) (ds : List (List Lit)) (d : List Lit) (q : Packet) (r s s' : Reach) → IsCopy x → q ≡ apply d (apply x c) → Adds c x ds r s → Notes q (after x d) s s' → Adds c x (ds ++ d ∷ []) r s'
+adds_more c x ds d q r s s' copy e a n =
+    let makes = after_apply x d c copy in
+    elim n.which [
+      | inl w ↦
+          let told : IsTold c s' = w.1 ∙ a.told ∙ ap (λ (zs : List (List Lit)). outcomes zs c) (sym w.2) in
+          let there = subst (IsIn (outcomes (copies_of s) c)) e (in_same _ _ q a.told w.0) in
+          adds_old c x ds d r s s' a told w.2 there
+      | inr w ↦
+          let keys = ap (λ (zs : List Packet). zs ++ q ∷ []) a.told ∙ ap (λ (z : Packet). outcomes (copies_of s) c ++ z ∷ []) (e ∙ sym makes) in
+          let told : IsTold c s' = w.1 ∙ keys ∙ sym (outcomes_more (copies_of s) (after x d) c) ∙ ap (λ (zs : List (List Lit)). outcomes zs c) (sym w.2) in
+          let new : ¬ IsIn (outcomes (copies_of s) c) (apply d (apply x c)) = λ k. w.0 (in_same _ _ q (sym a.told) (subst (IsIn (outcomes (copies_of s) c)) (sym e) k)) in
+          adds_new c x ds d (after x d) r s s' a told w.2 refl makes new
+    ]
+
+-- growing
+
+pub grows_none : (p : Tree) (c : Packet) (r : Reach) → IsTold c r → Grows p c [] r r
+grows_none p c r t = record {
+  told = t;
+  more = [];
+  joined = sym (append-nil (copies_of r));
+  has = λ x q h. absurd h;
+  only = λ y h. absurd h;
+  late = λ y h. absurd h;
+  kept = λ m h. h;
+  asks = λ x m h. absurd h;
+  asked = λ m h. inl h;
+}
+
+pub grows_more : (p : Tree) (c : Packet) (xs ys : List (List Lit)) (r s t : Reach) → Grows p c xs r s → Grows p c ys s t → Grows p c (xs ++ ys) r t
+grows_more p c xs ys r s t g h = record {
+  told = h.told;
+  more = g.more ++ h.more;
+  joined = h.joined ∙ ap (λ (zs : List (List Lit)). zs ++ h.more) g.joined ∙ append_assoc (copies_of r) g.more h.more;
+  has = λ x q k w. elim (in-either xs ys x k) [
+    | inl i ↦ outcome_in _ _ c q (sym h.joined) (outcome_left _ _ c q (g.has x q i w))
+    | inr i ↦ h.has x q i w
+  ];
+  only = λ y k. elim (in-either g.more h.more y k) [
+    | inl i ↦ let w = g.only y i in (w.0, in-left xs ys w.0 w.1, w.2)
+    | inr i ↦ let w = h.only y i in (w.0, in-right xs ys w.0 w.1, w.2)
+  ];
+  late = λ y k w. elim (in-either g.more h.more y k) [
+    | inl i ↦ g.late y i w
+    | inr i ↦ h.late y i (outcome_in _ _ c _ (sym g.joined) (outcome_left _ _ c _ w))
+  ];
+  kept = λ m k. h.kept m (g.kept m k);
+  asks = λ x m k w. elim (in-either xs ys x k) [
+    | inl i ↦ h.kept m (g.asks x m i w)
+    | inr i ↦ h.asks x m i w
+  ];
+  asked = λ m k. elim (h.asked m k) [
+    | inl i ↦ elim (g.asked m i) [ inl j ↦ inl j | inr j ↦ inr (j.0, in-left xs ys j.0 j.1, j.2) ]
+    | inr i ↦ inr (i.0, in-right xs ys i.0 i.1, i.2)
+  ];
+}
+
+-- the copies of the leaf where a copy comes to, and what its path asks
+pub grows_one : (p : Tree) (c : Packet) (x : List Lit) (r s : Reach) → IsCopy x → Adds c x (leaf_at p (apply x c)) r s → AsksMore p (apply x c) (asked_of r) (asked_of s) → Grows p c (x ∷ []) r s
+grows_one p c x r s copy a k = record {
+  told = a.told;
+  more = a.more;
+  joined = a.joined;
+  has = λ y q h w.
+      let o = source (leaf_at p (apply y c)) (apply y c) q w in
+      elim h [
+        | inl e ↦
+            let among = subst (λ (z : List Lit). IsIn (leaf_at p (apply z c)) o.copy) (sym e) o.among in
+            subst (IsIn (outcomes (copies_of s) c)) (ap (λ (z : List Lit). apply o.copy (apply z c)) e ∙ o.makes) (a.has o.copy among)
+        | inr n ↦ absurd n
+      ];
+  only = λ y h.
+      let w = a.only y h in (
+        x,
+        inl refl,
+        record {
+          made = subst (IsIn (answers p (apply x c))) (sym (after_apply x w.0 c copy) ∙ ap (λ (z : List Lit). apply z c) (sym w.2)) (outcome (leaf_at p (apply x c)) w.0 (apply x c) w.1);
+          named = λ m i. elim (after_among x w.0 m (in_same _ _ m w.2 i)) [
+            | inl v ↦ inl v
+            | inr v ↦ inr (leaf_assigns p (apply x c) m (among_lists (leaf_at p (apply x c)) w.0 m w.1 v))
+          ];
+        },
+      );
+  late = a.late;
+  kept = k.kept;
+  asks = λ y m h w. elim h [
+    | inl e ↦ k.has m (subst (λ (z : List Lit). Asks p (apply z c) m) (sym e) w)
+    | inr n ↦ absurd n
+  ];
+  asked = λ m h. elim (k.only m h) [ inl w ↦ inl w | inr w ↦ inr (x, inl refl, w) ];
+}
+
+-- from a place on, up to another
+
+pub none_yet : (n : ℕ) (xs : List (List Lit)) → take (n - n) (drop n xs) ≡ []
+none_yet n xs = let z : n - n ≡ 0 = omega arith in ap (λ (k : ℕ). take k (drop n xs)) z
+
+pub one_more : (n i : ℕ) (xs more : List (List Lit)) (d : List Lit) → n ≤ i → i < length xs → take (i + 1 - n) (drop n xs) ≡ take (i - n) (drop n xs) ++ get_or (xs ++ more) i d ∷ []
+one_more n i xs more d b h =
+    let z : i + 1 - n ≡ (i - n) + 1 = omega (arith, b) in
+    let k = ap (λ (j : ℕ). take j (drop n xs)) z in
+    let m = take_more (drop n xs) (i - n) d (let e = length-drop n xs in omega (arith, e, b, h)) in
+    let y : n + (i - n) ≡ i = omega (arith, b) in
+    let g = get_or-drop n xs (i - n) d ∙ ap (λ (j : ℕ). get_or xs j d) y ∙ sym (get_or_append_left xs more d i h) in
+    k ∙ m ∙ ap (λ (x : List Lit). take (i - n) (drop n xs) ++ x ∷ []) g
+
+pub all_done : (n i : ℕ) (xs : List (List Lit)) → length xs ≤ i → take (i - n) (drop n xs) ≡ drop n xs
+all_done n i xs h = take_all (i - n) (drop n xs) (let e = length-drop n xs in omega (arith, e, h))

@@ -1,0 +1,168 @@
+-- Turns, counted.
+use Rattle.std.proofs.Common.{◌≡◌, ℕ, zero, suc, ◌+◌, ◌<◌, ◌≤◌, ◌⊎◌, inl, inr, refl, ap, sym, ◌∙◌, subst, arith, List, [], ◌∷◌, ◌++◌, take, drop, length, get_or, add-one}
+use Rattle.std.proofs.lemmas.List.{take-append-drop, length-append}
+use Rattle.std.proofs.Math.Seq.{take-append_seam, drop-append_seam, take-length}
+use Rattle.nk_values.specs.declared.packet.Packet.{Packet}
+use Rattle.nk_values.specs.declared.lit.Lit.{Lit}
+use Rattle.nk_values.specs.Members.{IsIn}
+use Rattle.nk_values.proofs.MemberLaws.{in-left, in-right, in-either}
+use Rattle.fdd_nodes.specs.Trees.{Tree, apply, outcomes, answers}
+use Rattle.fdd_nodes.proofs.MakesLaws.{source, outcome}
+use Rattle.fdd_star.specs.declared.reach.Reach.{Reach}
+use Rattle.nk_values.specs.Lits.{lit_field}
+use Rattle.nk_values.specs.Packets.{IsInRange}
+use Rattle.fdd_nodes.specs.Cells.{IsFresh, IsValid, fill}
+use Rattle.fdd_nodes.specs.Names.{literals}
+use Rattle.fdd_nodes.proofs.CellLaws.{fill_in_range}
+use Rattle.fdd_nodes.proofs.NameLaws.{tests_literal, assigns_literal}
+use Rattle.fdd_differ.specs.Unnamed.{IsFreshOf}
+use Rattle.fdd_star.specs.Reaches.{copies_of, Starts, Grows, Fewer, Turned, IsClosed}
+use Rattle.fdd_star.specs.Stars.{Turns, IsDeep}
+use Rattle.fdd_star.proofs.FillLaws.{asks_free, asks_tests, turns_free, turns_filled, filled_turns, filled_once, fresh_escapes}
+
+-- a turn more at the end
+pub turn_more : (p : Tree) (n : ℕ) (q r s : Packet) → Turns p n q r → IsIn (answers p r) s → Turns p (suc n) q s
+turn_more p zero q r s h k = (s, subst (λ (x : Packet). IsIn (answers p x) s) (sym h) k, refl)
+turn_more p (suc n) q r s h k = (h.0, h.1, turn_more p n h.0 r s h.2 k)
+
+-- the last of some turns
+pub last_turn : (p : Tree) (n : ℕ) (q s : Packet) → Turns p (suc n) q s → (r : Packet) × Turns p n q r × IsIn (answers p r) s
+last_turn p zero q s h = (q, refl, subst (IsIn (answers p q)) h.2 h.1)
+last_turn p (suc n) q s h = let w = last_turn p n h.0 s h.2 in (w.0, (h.0, h.1, w.1), w.2)
+
+-- members of two lists, and of what they make
+
+pub outcome_left : (xs ys : List (List Lit)) (c q : Packet) → IsIn (outcomes xs c) q → IsIn (outcomes (xs ++ ys) c) q
+outcome_left xs ys c q h = let s = source xs c q h in subst (IsIn (outcomes (xs ++ ys) c)) s.makes (outcome (xs ++ ys) s.copy c (in-left xs ys s.copy s.among))
+
+pub outcome_in : (xs ys : List (List Lit)) (c q : Packet) → xs ≡ ys → IsIn (outcomes xs c) q → IsIn (outcomes ys c) q
+outcome_in xs ys c q e h = subst (λ (zs : List (List Lit)). IsIn (outcomes zs c) q) e h
+
+pub in_same : {X : Type 0} (xs ys : List X) (x : X) → xs ≡ ys → IsIn xs x → IsIn ys x
+in_same {X = X} xs ys x e h = subst (λ (zs : List X). IsIn zs x) e h
+
+-- an element is before a place, or from it on
+in_parts : {X : Type 0} (n : ℕ) (xs : List X) (x : X) → IsIn xs x → IsIn (take n xs) x ⊎ IsIn (drop n xs) x
+in_parts n xs x h = in-either (take n xs) (drop n xs) x (in_same xs _ x (sym (take-append-drop n xs)) h)
+
+fewer_more : (p : Tree) (n : ℕ) (c q : Packet) → Fewer p n c q → Fewer p (suc n) c q
+fewer_more p n c q h = (h.0, (let b = h.1 in omega (arith, b)), h.2)
+
+fewer_turn : (p : Tree) (n : ℕ) (c q r : Packet) → Fewer p n c q → IsIn (answers p q) r → Fewer p (suc n) c r
+fewer_turn p n c q r h k = (suc h.0, (let b = h.1 in omega (arith, b)), turn_more p h.0 c q r h.2 k)
+
+-- nothing more is reached by the next turn from what fewer than n turns reach
+pub turned_start : (p : Tree) (c : Packet) (r : Reach) → Starts c r → Turned p c 0 0 r
+turned_start p c r s = record {
+  told = s.told;
+  within = omega arith;
+  made = λ x h. elim (in_same _ _ x s.copies h) [ inl e ↦ (0, omega arith, ap (λ (y : List Lit). apply y c) e) | inr n ↦ absurd n ];
+  all = λ q h. outcome_in _ _ c q (sym s.copies) (inl (no_turn p h.0 c q (let b = h.1 in omega (arith, b)) h.2));
+  early = λ x h. absurd h;
+  late = λ x h k. (let b = k.1 in omega (arith, b));
+  named = λ x m h k. elim (in_same _ _ x s.copies h) [ inl e ↦ absurd (in_same _ _ m (sym e) k) | inr n ↦ absurd n ];
+  asks = λ x m h k. absurd h;
+  is_open = λ m h. absurd (in_same _ _ m s.asked h);
+  tests = λ m h. absurd (in_same _ _ m s.asked h);
+}
+  where
+    no_turn : (p : Tree) (k : ℕ) (c q : Packet) → k ≤ 0 → Turns p k c q → c ≡ q
+    no_turn p zero c q b h = h
+    no_turn p (suc k) c q b h = absurd (omega (arith, b))
+
+-- all that one turn more reaches is noted
+turned_all : (p : Tree) (c : Packet) (n place : ℕ) (r s : Reach) → Turned p c n place r → Grows p c (drop place (copies_of r)) r s → (k : ℕ) (q : Packet) → k < suc (suc n) → Turns p k c q → IsIn (outcomes (copies_of s) c) q
+turned_all p c n place r s t g zero q b h = outcome_in _ _ c q (sym g.joined) (outcome_left _ _ c q (t.all q (0, omega arith, h)))
+turned_all p c n place r s t g (suc k) q b h =
+    let w = last_turn p k c q h in
+    let o = source (copies_of r) c w.0 (t.all w.0 (k, omega (arith, b), w.1)) in
+    let step = subst (λ (y : Packet). IsIn (answers p y) q) (sym o.makes) w.2 in
+    elim (in_parts place (copies_of r) o.copy o.among) [
+      | inl i ↦ outcome_in _ _ c q (sym g.joined) (outcome_left _ _ c q (t.all q (fewer_turn p n c (apply o.copy c) q (t.early o.copy i) step)))
+      | inr i ↦ g.has o.copy q i step
+    ]
+
+pub turned_more : (p : Tree) (c : Packet) (n place : ℕ) (r s : Reach) → Turned p c n place r → Grows p c (drop place (copies_of r)) r s → Turned p c (suc n) (length (copies_of r)) s
+turned_more p c n place r s t g =
+    let front = ap (take (length (copies_of r))) g.joined ∙ take-append_seam (copies_of r) g.more in
+    let behind = ap (drop (length (copies_of r))) g.joined ∙ drop-append_seam (copies_of r) g.more in
+    let from_drop : (x : List Lit) → IsIn (drop place (copies_of r)) x → IsIn (copies_of r) x = λ x i. in_same _ _ x (take-append-drop place (copies_of r)) (in-right (take place (copies_of r)) (drop place (copies_of r)) x i) in
+    record {
+      told = g.told;
+      within = (let e = ap length g.joined ∙ length-append (copies_of r) g.more in omega (arith, e));
+      made = λ x h. elim (in-either (copies_of r) g.more x (in_same _ _ x g.joined h)) [
+        | inl i ↦ fewer_more p (suc n) c (apply x c) (t.made x i)
+        | inr i ↦ let w = g.only x i in fewer_turn p (suc n) c (apply w.0 c) (apply x c) (t.made w.0 (from_drop w.0 w.1)) w.2.made
+      ];
+      all = λ q h. turned_all p c n place r s t g h.0 q h.1 h.2;
+      early = λ x h. t.made x (in_same _ _ x front h);
+      late = λ x h k. g.late x (in_same _ _ x behind h) (t.all (apply x c) k);
+      named = λ x m h k. elim (in-either (copies_of r) g.more x (in_same _ _ x g.joined h)) [
+        | inl i ↦ t.named x m i k
+        | inr i ↦ let w = g.only x i in elim (w.2.named m k) [ inl v ↦ t.named w.0 m (from_drop w.0 w.1) v | inr v ↦ v ]
+      ];
+      asks = λ x m h k. elim (in_parts place (copies_of r) x (in_same _ _ x front h)) [
+        | inl i ↦ g.kept m (t.asks x m i k)
+        | inr i ↦ g.asks x m i k
+      ];
+      is_open = λ m h. elim (g.asked m h) [
+        | inl i ↦ t.is_open m i
+        | inr i ↦ let w = t.made i.0 (from_drop i.0 i.1) in turns_free p w.0 c (apply i.0 c) w.2 (lit_field m) (asks_free p (apply i.0 c) m i.2)
+      ];
+      tests = λ m h. elim (g.asked m h) [ inl i ↦ t.tests m i | inr i ↦ asks_tests p (apply i.0 c) m i.2 ];
+    }
+
+-- where the last turn added nothing, no number of turns does
+closed_all : (p : Tree) (c : Packet) (n : ℕ) (r : Reach) → Turned p c n (length (copies_of r)) r → (k : ℕ) (q : Packet) → Turns p k c q → IsIn (outcomes (copies_of r) c) q
+closed_all p c n r t zero q h = t.all q (0, omega arith, h)
+closed_all p c n r t (suc k) q h =
+    let w = last_turn p k c q h in
+    let o = source (copies_of r) c w.0 (closed_all p c n r t k w.0 w.1) in
+    t.all q (fewer_turn p n c (apply o.copy c) q (t.early o.copy (in_same _ _ o.copy (sym (take-length (copies_of r))) o.among)) (subst (λ (y : Packet). IsIn (answers p y) q) (sym o.makes) w.2))
+
+pub closed_of : (p : Tree) (c : Packet) (n place : ℕ) (r : Reach) → n ≤ 513 → place ≡ length (copies_of r) → Turned p c n place r → IsClosed p c r
+closed_of p c n place r b e t' =
+    let t = subst (λ (k : ℕ). Turned p c n k r) e t' in
+    let whole : (x : List Lit) → IsIn (copies_of r) x → IsIn (take (length (copies_of r)) (copies_of r)) x = λ x h. in_same _ _ x (sym (take-length (copies_of r))) h in
+    record {
+      made = λ x h. let w = t.early x (whole x h) in (w.0, (let k = w.1 in omega (arith, k, b)), w.2);
+      all = closed_all p c n r t;
+      named = t.named;
+      asks = λ x m h k. t.asks x m (whole x h) k;
+      is_open = t.is_open;
+      tests = t.tests;
+    }
+
+-- what a turn more than 512 adds is late, also for the packet that is filled with a fresh one
+pub deep_of : (p : Tree) (c : Packet) (place : ℕ) (r : Reach) (x : List Lit) (g : Packet) → IsValid c → IsInRange g → IsFresh g p → Turned p c 513 place r → IsIn (drop place (copies_of r)) x → IsDeep p (fill c g) (fill (apply x c) g)
+deep_of p c place r x g v range fresh t h =
+    let w = t.made x (in_same _ _ x (take-append-drop place (copies_of r)) (in-right (take place (copies_of r)) (drop place (copies_of r)) x h)) in
+    record {
+      in_range = fill_in_range c g v range;
+      made = (w.0, (let b = w.1 in omega (arith, b)), turns_filled p w.0 c (apply x c) g (fresh_escapes p c g fresh) w.2);
+      late = λ k.
+          let z = filled_turns p k.0 c (fill (apply x c) g) g (fresh_escapes p c g fresh) k.2 in
+          let same = filled_once p k.0 w.0 c z.0 (apply x c) g fresh z.1 w.2 z.2 in
+          t.late x h (k.0, (let b = k.1 in omega (arith, b)), subst (Turns p k.0 c) same z.1);
+    }
+
+-- the same, as a loop has it
+
+pub turned_next : (p : Tree) (c : Packet) (n place until : ℕ) (r s : Reach) → until ≡ length (copies_of r) → Turned p c n place r → Grows p c (drop place (copies_of r)) r s → Turned p c (n + 1) until s
+turned_next p c n place until r s e t g = subst (λ (k : ℕ). Turned p c k until s) (sym (add-one n)) (subst (λ (k : ℕ). Turned p c (suc n) k s) (sym e) (turned_more p c n place r s t g))
+
+in_drop : (n : ℕ) (xs : List (List Lit)) (x : List Lit) → n < length xs → x ≡ get_or xs n x → IsIn (drop n xs) x
+in_drop n [] x h e = absurd (omega (arith, h))
+in_drop zero (y ∷ ys) x h e = inl (sym e)
+in_drop (suc n) (y ∷ ys) x h e = in_drop n ys x (omega (arith, h)) e
+
+fresh_of : (p t : Tree) (g : Packet) → t ≡ p → IsFreshOf (literals t) g → IsFresh g p
+fresh_of p t g e f = subst (IsFresh g) e (record { tested = λ m k. f.missing m (tests_literal t m k); assigned = λ m k. f.missing m (assigns_literal t m k) })
+
+pub deep_named : (p t : Tree) (c q : Packet) (n place : ℕ) (r : Reach) (x : List Lit) (g pk out : Packet) → t ≡ p → pk ≡ fill c g → out ≡ fill q g → q ≡ apply x c → IsValid c → IsFreshOf (literals t) g
+    → n ≡ 513 → Turned p c n place r → place < length (copies_of r) → x ≡ get_or (copies_of r) place x → IsDeep p pk out
+deep_named p t c q n place r x g pk out et epk eout eq v f en turned b at =
+    let out' = eout ∙ ap (λ (z : Packet). fill z g) eq in
+    let turned' = subst (λ (k : ℕ). Turned p c k place r) en turned in
+    subst (λ (z : Packet). IsDeep p z out) (sym epk)
+    (subst (IsDeep p (fill c g)) (sym out') (deep_of p c place r x g v f.shaped.in_range (fresh_of p t g et f) turned' (in_drop place (copies_of r) x b at)))

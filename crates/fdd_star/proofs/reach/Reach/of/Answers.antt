@@ -1,0 +1,49 @@
+use Rattle.std.proofs.Common.{ap, ◌∙◌, arith, length, List, get_or, refl, subst, drop}
+use Rattle.nk_values.specs.declared.lit.Lit.{Lit}
+use Rattle.fdd_nodes.specs.Trees.{Tree}
+use Rattle.fdd_star.specs.Reaches.{copies_of, Grows}
+use Rattle.fdd_star.proofs.TurnLaws.{turned_start, turned_next, closed_of, deep_named}
+use Rattle.fdd_star.proofs.reach.Reach.of.Goals as goal
+
+pub loop-turn-init : goal.loop-turn-init
+loop-turn-init c = (turned_start _ _ _ c.in_ok-all.ensures, record { root = refl; right = c.requires.visits })
+
+pub turn-requires-clause-visits : goal.turn-requires-clause-visits
+turn-requires-clause-visits c = c.loop-turn.invariant.1.right
+
+pub returns-then-from-until : goal.returns-then-from-until
+returns-then-from-until c =
+    let b = c.loop-turn-test.true in
+    let e = c.if-from-until.true in
+    let f = c.len-until.ensures in
+    let k = c.loop-turn.all.copies.ok in
+    record { visits = c.loop-turn.invariant.1; reach = closed_of _ _ c.loop-turn.turn c.loop-turn.from _ (omega (arith, b)) (omega (arith, e, f, k)) c.loop-turn.invariant.0 }
+
+pub loop-turn-preserved : goal.loop-turn-preserved
+loop-turn-preserved c =
+    let f = c.len-until.ensures in
+    let k = c.loop-turn.all.copies.ok in
+    let here = c.loop-turn.invariant.1 in
+    let on = c.in_ok-turn.ensures.visits in
+    let grown = subst (λ (t : Tree). Grows t c.args.cell.now (drop c.loop-turn.from (copies_of c.loop-turn.all)) c.loop-turn.all c.turn.new.self) (here.root ∙ c.requires.root) c.in_ok-turn.ensures.grown in
+    (turned_next _ _ _ _ _ _ _ (omega (arith, f, k)) c.loop-turn.invariant.0 grown, record { root = on.root ∙ here.root; right = on.right })
+
+pub returns-in-None : goal.returns-in-None
+returns-in-None c =
+    let n = c.loop-turn.auto.turn-end in
+    let b = c.in-None.ensures.lookup.3 in
+    let w = c.loop-turn.invariant.0.within in
+    let e = ap length c.deref.ensures.value in
+    record { visits = c.loop-turn.invariant.1; reach = closed_of _ _ c.loop-turn.turn c.loop-turn.from _ (omega (arith, n)) (omega (arith, b, w, e)) c.loop-turn.invariant.0 }
+
+pub returns-in-Some : goal.returns-in-Some
+returns-in-Some c =
+    let n = c.loop-turn.auto.turn-end in
+    let m = c.loop-turn-test.false in
+    let e = ap length c.deref.ensures.value in
+    let b = c.in-Some.ensures.lookup.3.0 in
+    let at = c.in-Some.ensures.lookup.1 ∙ ap (λ (xs : List (List Lit)). get_or xs c.loop-turn.from c.in-Some.late.now) c.deref.ensures.value in
+    record {
+      visits = tt;
+      reach = deep_named _ _ _ _ c.loop-turn.turn c.loop-turn.from c.loop-turn.all _ _ _ _ c.root.ensures c.filled-packet.ensures c.filled-output.ensures c.after.ensures.made c.requires.valid c.unnamed-other.ensures (omega (arith, n, m)) c.loop-turn.invariant.0 (omega (arith, b, e)) at;
+    }

@@ -1,0 +1,103 @@
+-- What the repetition of a diagram reaches from the packet of a cell.
+use Rattle.std.specs.Prelude.{◌≡◌, ℕ, suc, ◌<◌, ◌≤◌, ◌⊎◌, List, [], ◌∷◌, ◌++◌, length, take, drop}
+use Rattle.nk_values.specs.declared.packet.Packet.{Packet}
+use Rattle.nk_values.specs.declared.lit.Lit.{Lit}
+use Rattle.nk_values.specs.Held.{Holds}
+use Rattle.nk_values.specs.Lits.{lit_field}
+use Rattle.nk_values.specs.Members.{IsIn}
+use Rattle.nk_values.specs.Packets.{get}
+use Rattle.fdd_nodes.specs.Trees.{Tree, apply, outcomes, answers, Tests, Assigns}
+use Rattle.fdd_nodes.specs.Cells.{free, Agrees}
+use Rattle.fdd_nodes.specs.Normals.{IsNormal}
+use Rattle.fdd_star.specs.declared.reach.Reach.{Reach}
+use Rattle.fdd_star.specs.Asks.{Asks}
+use Rattle.fdd_star.specs.Stars.{Turns, AtMost}
+
+abbrev pub copies_of : Reach → List (List Lit)
+copies_of r = r.copies.items
+
+abbrev pub asked_of : Reach → List Lit
+asked_of r = r.asked.keys
+
+-- the packets are those that the copies make of the cell's packet
+abbrev pub IsTold : Packet → Reach → Type 0
+IsTold c r = r.packets.keys ≡ outcomes (copies_of r) c
+
+-- the cell's packet alone, and nothing was asked
+pub record Starts (c : Packet) (r : Reach) : Type 0 where
+  pub told : IsTold c r
+  pub copies : copies_of r ≡ [] ∷ []
+  pub asked : asked_of r ≡ []
+
+-- new has the literals among what was asked, beside what old has
+pub record AsksAll (ls : List Lit) (old new : Reach) : Type 0 where
+  pub kept : (m : Lit) → IsIn (asked_of old) m → IsIn (asked_of new) m
+  pub has : (m : Lit) → IsIn ls m → IsIn (asked_of new) m
+  pub only : (m : Lit) → IsIn (asked_of new) m → IsIn (asked_of old) m ⊎ IsIn ls m
+
+-- the packet was there, or it is last now, and so is the copy x
+pub record Notes (q : Packet) (x : List Lit) (old new : Reach) : Type 0 where
+  pub asked : asked_of new ≡ asked_of old
+  pub which : (IsIn old.packets.keys q × (new.packets.keys ≡ old.packets.keys) × (copies_of new ≡ copies_of old))
+      ⊎ ((¬ IsIn old.packets.keys q) × (new.packets.keys ≡ old.packets.keys ++ q ∷ []) × (copies_of new ≡ copies_of old ++ x ∷ []))
+
+-- the copy y makes an answer to what the copy x makes, and has only literals of x and what is assigned
+pub record IsNext (p : Tree) (c : Packet) (x y : List Lit) : Type 0 where
+  pub made : IsIn (answers p (apply x c)) (apply y c)
+  pub named : (m : Lit) → IsIn y m → IsIn x m ⊎ Assigns p m
+
+-- Behind the copies of old, new has copies that make the answers to what the copies xs make; and what is asked of these.
+pub record Grows (p : Tree) (c : Packet) (xs : List (List Lit)) (old new : Reach) : Type 0 where
+  pub told : IsTold c new
+  pub more : List (List Lit)
+  pub joined : copies_of new ≡ copies_of old ++ more
+  pub has : (x : List Lit) (q : Packet) → IsIn xs x → IsIn (answers p (apply x c)) q → IsIn (outcomes (copies_of new) c) q
+  pub only : (y : List Lit) → IsIn more y → (x : List Lit) × IsIn xs x × IsNext p c x y
+  pub late : (y : List Lit) → IsIn more y → ¬ IsIn (outcomes (copies_of old) c) (apply y c)
+  pub kept : (m : Lit) → IsIn (asked_of old) m → IsIn (asked_of new) m
+  pub asks : (x : List Lit) (m : Lit) → IsIn xs x → Asks p (apply x c) m → IsIn (asked_of new) m
+  pub asked : (m : Lit) → IsIn (asked_of new) m → IsIn (asked_of old) m ⊎ ((x : List Lit) × IsIn xs x × Asks p (apply x c) m)
+
+-- what p makes of a packet in fewer than n turns
+abbrev pub Fewer : Tree → ℕ → Packet → Packet → Type 0
+Fewer p n pk out = (k : ℕ) × (k < n) × Turns p k pk out
+
+-- After n turns the copies make exactly what at most n turns reach from the cell's packet. Those before the place make what
+-- fewer do, and what they ask is noted; the others make nothing of that.
+pub record Turned (p : Tree) (c : Packet) (n place : ℕ) (r : Reach) : Type 0 where
+  pub told : IsTold c r
+  pub within : place ≤ length (copies_of r)
+  pub made : (x : List Lit) → IsIn (copies_of r) x → Fewer p (suc n) c (apply x c)
+  pub all : (q : Packet) → Fewer p (suc n) c q → IsIn (outcomes (copies_of r) c) q
+  pub early : (x : List Lit) → IsIn (take place (copies_of r)) x → Fewer p n c (apply x c)
+  pub late : (x : List Lit) → IsIn (drop place (copies_of r)) x → ¬ Fewer p n c (apply x c)
+  pub named : (x : List Lit) (m : Lit) → IsIn (copies_of r) x → IsIn x m → Assigns p m
+  pub asks : (x : List Lit) (m : Lit) → IsIn (take place (copies_of r)) x → Asks p (apply x c) m → IsIn (asked_of r) m
+  pub is_open : (m : Lit) → IsIn (asked_of r) m → get c (lit_field m) ≡ free
+  pub tests : (m : Lit) → IsIn (asked_of r) m → Tests p m
+
+-- All that any number of turns reach from the cell's packet is reached in 512; what was asked on the way is of fields that
+-- the cell leaves open.
+pub record IsClosed (p : Tree) (c : Packet) (r : Reach) : Type 0 where
+  pub made : (x : List Lit) → IsIn (copies_of r) x → AtMost p 512 c (apply x c)
+  pub all : (n : ℕ) (q : Packet) → Turns p n c q → IsIn (outcomes (copies_of r) c) q
+  pub named : (x : List Lit) (m : Lit) → IsIn (copies_of r) x → IsIn x m → Assigns p m
+  pub asks : (x : List Lit) (m : Lit) → IsIn (copies_of r) x → Asks p (apply x c) m → IsIn (asked_of r) m
+  pub is_open : (m : Lit) → IsIn (asked_of r) m → get c (lit_field m) ≡ free
+  pub tests : (m : Lit) → IsIn (asked_of r) m → Tests p m
+
+-- a names only what p names
+pub record IsNamedBy (p a : Tree) : Type 0 where
+  pub tests : (m : Lit) → Tests a m → Tests p m
+  pub assigns : (m : Lit) → Assigns a m → Assigns p m
+
+-- the packet holds none of the literals
+abbrev pub Misses : List Lit → Packet → Type 0
+Misses ls pk = (m : Lit) → IsIn ls m → ¬ Holds pk m
+
+-- on each packet of the cell that holds none of some literals, r answers as the star of p
+pub record StarBut (p : Tree) (c : Packet) (ls : List Lit) (r : Tree) : Type 0 where
+  pub made : (pk out : Packet) → Agrees c pk → Misses ls pk → IsIn (answers r pk) out → AtMost p 512 pk out
+  pub all : (n : ℕ) (pk out : Packet) → Agrees c pk → Misses ls pk → Turns p n pk out → IsIn (answers r pk) out
+  pub normal : IsNormal r
+  pub names : IsNamedBy p r

@@ -1,0 +1,168 @@
+// What the repetition of a diagram reaches from the packet of a cell.
+use crate::fault::{StarDeep, StarFault};
+use crate::visits::{Visit, Visits};
+use fdd_differ::unnamed;
+use fdd_nodes::{Assignments, Cell, Fdd};
+use indexmap::IndexSet;
+use nk_values::{Lit, Packet};
+use std::alloc::{AllocError, Global};
+use std::collections::BTreeSet;
+
+/// The packets that are reached, each once and in the order of turns, with a copy that makes each of the cell's packet;
+/// and the tests that were asked on the way at fields which nothing fixes.
+#[derive(Drop)]
+pub(crate) struct Reach {
+    packets: IndexSet<Packet>,
+    pub(crate) copies: Vec<Assignments>,
+    pub(crate) asked: BTreeSet<Lit>,
+}
+
+impl Reach {
+    ghost use Rattle.std.specs.Prelude.{◌≡◌, ◌≤◌, [], ◌∷◌, length, drop, MatchResult, IfOk, OnOk};
+    ghost use Rattle.fdd_nodes.specs.Cells.{IsValid};
+    ghost use Rattle.fdd_nodes.specs.Copies.{after};
+    ghost use Rattle.fdd_nodes.specs.Fdds.{tree_of};
+    ghost use Rattle.fdd_nodes.specs.Trees.{Tree, tree, apply};
+    ghost use Rattle.fdd_star.specs.Asks.{AreVisits, GoOn, IsVisitOf};
+    ghost use Rattle.fdd_star.specs.Reaches.{copies_of, Starts, IsTold, Notes, AsksAll, Grows, IsClosed};
+    ghost use Rattle.fdd_star.specs.Stars.{IsFaultOf};
+
+    /// What any number of turns reach, or an output that takes 513 turns.
+    pub(crate) fn of(
+        alloc: Global,
+        p: &Fdd,
+        visits: &mut Visits,
+        cell: &Cell,
+    ) -> Result<Reach, StarFault>
+        requires valid { IsValid cell.now }
+        requires visits { AreVisits visits.old }
+        requires root { tree visits.old.root.now ≡ tree_of p.now }
+        ensures visits { OnOk result (GoOn visits.old visits.new) }
+        ensures reach { MatchResult result (λ r. IsClosed (tree_of p.now) cell.now r) (λ e. IsFaultOf (tree_of p.now) e) }
+    {
+        let mut all = Reach::start(alloc, cell)?;
+        let mut from = 0;
+        for turn in 0..513u64 {
+            let until = all.copies.len();
+            if from == until {
+                return Ok(all);
+            }
+            all.turn(alloc, visits, cell, from)?;
+            from = until;
+        }
+        match all.copies.get(from) {
+            None => Ok(all),
+            Some(late) => {
+                let other = unnamed(p.root());
+                let packet = cell.filled(&other);
+                let output = cell.after(late).filled(&other);
+                Err(StarFault::Deep(StarDeep { packet, output }))
+            }
+        }
+    }
+
+    // The packet of the cell, before the first turn.
+    fn start(alloc: Global, cell: &Cell) -> Result<Reach, AllocError>
+        ensures { IfOk result (λ r. Starts cell.now r) }
+    {
+        let mut packets = IndexSet::new(alloc);
+        packets.insert(*cell.generic())?;
+        let mut copies = Vec::new(alloc);
+        copies.push(Assignments::none(alloc))?;
+        Ok(Reach {
+            packets,
+            copies,
+            asked: BTreeSet::new(alloc),
+        })
+    }
+
+    // One turn more for the copies from a place on.
+    fn turn(
+        &mut self,
+        alloc: Global,
+        visits: &mut Visits,
+        cell: &Cell,
+        from: usize,
+    ) -> Result<(), AllocError>
+        requires visits { AreVisits visits.old }
+        requires place { from ≤ length (copies_of self.old) }
+        requires told { IsTold cell.now self.old }
+        ensures visits { OnOk result (GoOn visits.old visits.new) }
+        ensures grown { OnOk result (Grows (tree visits.old.root.now) cell.now (drop from (copies_of self.old)) self.old self.new) }
+    {
+        for i in from..self.copies.len() {
+            let copy = self.copies[i].copy(alloc)?;
+            self.step(alloc, visits, cell, &copy)?;
+        }
+        Ok(())
+    }
+
+    // One turn more for a copy.
+    fn step(
+        &mut self,
+        alloc: Global,
+        visits: &mut Visits,
+        cell: &Cell,
+        copy: &Assignments,
+    ) -> Result<(), AllocError>
+        requires visits { AreVisits visits.old }
+        requires told { IsTold cell.now self.old }
+        ensures visits { OnOk result (GoOn visits.old visits.new) }
+        ensures grown { OnOk result (Grows (tree visits.old.root.now) cell.now (copy.now ∷ []) self.old self.new) }
+    {
+        let here = cell.after(copy);
+        if let Some(known) = visits.get(&here) {
+            return self.follow(alloc, cell, copy, known);
+        }
+        let made = visits.make(alloc, &here)?;
+        self.follow(alloc, cell, copy, &made)?;
+        visits.keep(&here, made)
+    }
+
+    // Adds what a visit's leaf makes of a copy's packet, and notes what was asked.
+    fn follow(
+        &mut self,
+        alloc: Global,
+        cell: &Cell,
+        copy: &Assignments,
+        visit: &Visit,
+    ) -> Result<(), AllocError>
+        requires told { IsTold cell.now self.old }
+        ensures { (t : Tree) → IsVisitOf t (apply copy.now cell.now) visit.now → OnOk result (Grows t cell.now (copy.now ∷ []) self.old self.new) }
+    {
+        let here = cell.after(copy);
+        self.note(&visit.asked)?;
+        for next in visit.leaf.copies() {
+            self.add(alloc, *here.after(next).generic(), copy, next)?;
+        }
+        Ok(())
+    }
+
+    // Notes tests that were asked.
+    fn note(&mut self, asked: &[Lit]) -> Result<(), AllocError>
+        ensures asked { OnOk result (AsksAll asked.now self.old self.new) }
+        ensures packets { self.new.packets ≡ self.old.packets }
+        ensures copies { self.new.copies ≡ self.old.copies }
+    {
+        for l in asked {
+            self.asked.insert(*l)?;
+        }
+        Ok(())
+    }
+
+    // Adds a packet that is made by one copy after another, where it is not there.
+    fn add(
+        &mut self,
+        alloc: Global,
+        packet: Packet,
+        copy: &Assignments,
+        next: &Assignments,
+    ) -> Result<(), AllocError>
+        ensures { OnOk result (Notes packet (after copy.now next.now) self.old self.new) }
+    {
+        if self.packets.insert(packet)? {
+            self.copies.push(copy.followed_by(alloc, next)?)?;
+        }
+        Ok(())
+    }
+}
