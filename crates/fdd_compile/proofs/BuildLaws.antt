@@ -1,5 +1,5 @@
 -- Policies, from what their parts give.
-use Rattle.std.proofs.Common.{◌≡◌, ℕ, zero, suc, ◌+◌, ◌<◌, inl, inr, ap, sym, ◌∙◌, subst, arith, true, List, [], ◌∷◌, length, map, drop, get_or, Box}
+use Rattle.std.proofs.Common.{◌≡◌, ℕ, zero, suc, ◌+◌, ◌<◌, inl, inr, ap, sym, ◌∙◌, subst, arith, List, [], ◌∷◌, length, map, drop, get_or, Box}
 use Rattle.std.proofs.lemmas.List.{drop_more}
 use Rattle.std.specs.declared.alloc.Global.{Global}
 use Rattle.nk_values.specs.declared.field.Field.{Field}
@@ -76,7 +76,7 @@ parts_small ps parts parts' e h few = subst (λ (x : List Fdd). AreSmall (map tr
 
 -- the forms
 
-pub built_filter : (p : Pol) (a : Pred) (r : Tree) → p ≡ pol.Filter a → FilterOf (guard_of a) true r → BuiltOf (term_of p) r
+pub built_filter : (p : Pol) (a : Pred) (r : Tree) → p ≡ pol.Filter a → FilterOf (guard_of a) r → BuiltOf (term_of p) r
 built_filter p a r e h = subst (λ (t : Term). BuiltOf t r) (sym (ap term_of e ∙ term_of-filter a)) (record { diagram = diagram_filter (guard_of a) r h; shallow = tt })
 
 pub built_assign : (p : Pol) (l : Lit) (r : Tree) → p ≡ pol.Assign l → AssignmentOf l r → BuiltOf (term_of p) r

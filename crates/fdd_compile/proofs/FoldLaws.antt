@@ -1,6 +1,6 @@
 -- Unions and sequences of lists of diagrams.
 use Rattle.std.specs.Prelude.{◌↔◌}
-use Rattle.std.proofs.Common.{◌≡◌, ℕ, ◌≤◌, ◌⊎◌, inl, inr, refl, sym, ◌∙◌, subst, arith, List, [], ◌∷◌, ◌++◌, length, map, take, drop, ap, ◌<◌, ◌/◌, length-drop}
+use Rattle.std.proofs.Common.{◌≡◌, ℕ, ◌≤◌, ◌⊎◌, inl, inr, refl, sym, ◌∙◌, subst, arith, List, [], ◌∷◌, ◌++◌, length, map, get_or, take, drop, ap, ◌<◌, ◌/◌, length-drop}
 use Rattle.std.proofs.lemmas.List.{map-append, take-append-drop, length-take}
 use Rattle.fdd_nodes.specs.declared.fdd.Fdd.{Fdd}
 use Rattle.fdd_nodes.specs.Fdds.{tree_of}
@@ -170,6 +170,30 @@ sequence_both xs ys a b r ha hb h = record {
   tests = λ m k. (tests_split xs ys m).1 (elim (h.tests m k) [ inl w ↦ inl (ha.tests m w) | inr w ↦ inr (hb.tests m w) ]);
   assigns = λ m k. (assigns_split xs ys m).1 (elim (h.assigns m k) [ inl w ↦ inl (ha.assigns m w) | inr w ↦ inr (hb.assigns m w) ]);
 }
+
+-- two diagrams
+
+pair_parts : (parts : List Fdd) (x y : Fdd) → length parts ≡ 2 → x ≡ get_or parts 0 x → y ≡ get_or parts 1 y → map tree_of parts ≡ tree_of x ∷ tree_of y ∷ []
+pair_parts [] x y h ex ey = absurd (omega (arith, h))
+pair_parts (a ∷ []) x y h ex ey = absurd (omega (arith, h))
+pair_parts (a ∷ b ∷ []) x y h ex ey = let e : x ≡ a = ex in let f : y ≡ b = ey in cc
+pair_parts (a ∷ b ∷ c ∷ cs) x y h ex ey = absurd (omega (arith, h))
+
+pub pair_few : (parts : List Fdd) (x y : Fdd) → length parts ≡ 2 → x ≡ get_or parts 0 x → y ≡ get_or parts 1 y → AreSmall (map tree_of parts) → AreFew (tree_of x) (tree_of y)
+pair_few parts x y h ex ey small =
+    few_of_parts (tree_of x ∷ []) (tree_of y ∷ []) (tree_of x) (tree_of y) (subst AreSmall (pair_parts parts x y h ex ey) small) (λ m k. inl k) (λ m k. inl k) (λ m k. inl k) (λ m k. inl k)
+
+pub union_pair : (parts : List Fdd) (x y : Fdd) (r : Tree) → length parts ≡ 2 → x ≡ get_or parts 0 x → y ≡ get_or parts 1 y → AreSmall (map tree_of parts) → UnionOf (tree_of x) (tree_of y) r → UnionOfAll (map tree_of parts) r
+union_pair parts x y r h ex ey small u =
+    let e = pair_parts parts x y h ex ey in
+    let n = (subst AreSmall e small).normal in
+    subst (λ (ts : List Tree). UnionOfAll ts r) (sym e) (union_both (tree_of x ∷ []) (tree_of y ∷ []) (tree_of x) (tree_of y) r (union_one (tree_of x) n.0) (union_one (tree_of y) n.1.0) u)
+
+pub sequence_pair : (parts : List Fdd) (x y : Fdd) (r : Tree) → length parts ≡ 2 → x ≡ get_or parts 0 x → y ≡ get_or parts 1 y → AreSmall (map tree_of parts) → SequenceOf (tree_of x) (tree_of y) r → SequenceOfAll (map tree_of parts) r
+sequence_pair parts x y r h ex ey small u =
+    let e = pair_parts parts x y h ex ey in
+    let n = (subst AreSmall e small).normal in
+    subst (λ (ts : List Tree). SequenceOfAll ts r) (sym e) (sequence_both (tree_of x ∷ []) (tree_of y ∷ []) (tree_of x) (tree_of y) r (sequence_one (tree_of x) n.0) (sequence_one (tree_of y) n.1.0) u)
 
 -- a list of diagrams in two parts, under names of their own
 pub cut : (parts front back : List Fdd) (n : ℕ) → front ≡ take n parts → back ≡ drop n parts → map tree_of front ++ map tree_of back ≡ map tree_of parts

@@ -81,7 +81,7 @@ filter_met : (b : Bool) (h t : Trail) → IsIn (cond b (h ∷ []) []) t → (b �
 filter_met true h t i = (refl, just h t i)
 filter_met false h t i = absurd i
 
-pub diagram_filter : (a : Guard) (r : Tree) → FilterOf a true r → DiagramOf (Filter a) r
+pub diagram_filter : (a : Guard) (r : Tree) → FilterOf a r → DiagramOf (Filter a) r
 diagram_filter a r h = record {
   made = λ pk q i. let w = (h.answer pk q).0 i in record {
     history = start pk;

@@ -24,7 +24,7 @@ pub fn build(alloc: Global, pol: &Pol) -> Result<Fdd, StarFault>
     ensures { MatchResult result (λ r. BuiltOf (term_of pol.now) (tree_of r)) (λ e. TellsDeep (term_of pol.now) e) }
 {
     match pol {
-        Pol::Filter(pred) => Ok(filter(alloc, pred, true)?),
+        Pol::Filter(pred) => Ok(filter(alloc, pred)?),
         Pol::Assign(l) => Ok(assign(alloc, *l)?),
         Pol::Sum(pols) => {
             let parts = builds(alloc, pols)?;

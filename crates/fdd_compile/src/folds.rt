@@ -15,6 +15,7 @@ pub fn union_of_all(alloc: Global, parts: &[Fdd]) -> Result<Fdd, AllocError>
     match parts {
         [] => Ok(zero(alloc)),
         [part] => part.copy(alloc),
+        [first, second] => union(alloc, first, second),
         _ => {
             let (front, back) = parts.split_at(parts.len() / 2);
             let left = union_of_all(alloc, front)?;
@@ -32,6 +33,7 @@ pub fn sequence_of_all(alloc: Global, parts: &[Fdd]) -> Result<Fdd, AllocError>
     match parts {
         [] => one(alloc),
         [part] => part.copy(alloc),
+        [first, second] => sequence(alloc, first, second),
         _ => {
             let (front, back) = parts.split_at(parts.len() / 2);
             let left = sequence_of_all(alloc, front)?;

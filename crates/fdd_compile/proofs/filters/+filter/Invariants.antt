@@ -6,7 +6,7 @@ use Rattle.fdd_compile.proofs.Weights.{weight, weights}
 use Rattle.fdd_compile.proofs.filters.+filter.Given as goal
 
 abbrev pub invariant-filters-loop-pred : goal.invariant-filters-loop-pred
-invariant-filters-loop-pred l = FiltersOf l.wanted (map guard_of (take l.pred-index l.pred-items)) (map tree_of l.all.items)
+invariant-filters-loop-pred l = FiltersOf (map guard_of (take l.pred-index l.pred-items)) (map tree_of l.all.items)
 
 abbrev pub decreases-filter : goal.decreases-filter
 decreases-filter l = weight (guard_of l.pred.now)

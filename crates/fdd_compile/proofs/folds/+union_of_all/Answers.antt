@@ -3,26 +3,32 @@ use Rattle.fdd_nodes.specs.Fdds.{tree_of}
 use Rattle.fdd_nodes.specs.Trees.{Tree}
 use Rattle.fdd_nodes.proofs.MakesLaws.{if_ok}
 use Rattle.fdd_compile.specs.Folds.{UnionOfAll}
-use Rattle.fdd_compile.proofs.FoldLaws.{small_front, small_back, small_cut, shorter, few_of_parts, union_both, cut}
+use Rattle.fdd_compile.proofs.FoldLaws.{small_front, small_back, small_cut, shorter, few_of_parts, pair_few, union_both, union_pair, cut}
 use Rattle.fdd_compile.proofs.folds.+union_of_all.Goals as goal
 
 pub union_of_all-requires : goal.union_of_all-requires
 union_of_all-requires t c =
-    let s = shorter _ _ _ _ c.in_default.len_at_least refl c.split_at.ensures.front c.split_at.ensures.back in
+    let s = shorter _ _ _ _ (omega (arith, c.in_default.len_at_least)) refl c.split_at.ensures.front c.split_at.ensures.back in
     (omega (arith, s.0), small_front _ _ _ _ c.split_at.ensures.front c.split_at.ensures.back c.requires)
 
 pub union_of_all-requires-in_default : goal.union_of_all-requires-in_default
 union_of_all-requires-in_default t c =
-    let s = shorter _ _ _ _ c.in_default.len_at_least refl c.split_at.ensures.front c.split_at.ensures.back in
+    let s = shorter _ _ _ _ (omega (arith, c.in_default.len_at_least)) refl c.split_at.ensures.front c.split_at.ensures.back in
     (omega (arith, s.1), small_back _ _ _ _ c.split_at.ensures.front c.split_at.ensures.back c.requires)
 
 pub union-requires : goal.union-requires
-union-requires t c =
+union-requires t c = pair_few _ _ _ (omega arith) c.first-item.is c.second-item.is c.requires
+
+pub returns-in-len2 : goal.returns-in-len2
+returns-in-len2 t c = if_ok c.union.result _ _ c.union.ensures (λ r h. union_pair _ _ _ _ (omega arith) c.first-item.is c.second-item.is c.requires h)
+
+pub union-requires-in_default : goal.union-requires-in_default
+union-requires-in_default t c =
     let a = c.in_ok-left-in_default.ensures in
     let b = c.in_ok-right-in_default.ensures in
     few_of_parts _ _ _ _ (small_cut _ _ _ _ c.split_at.ensures.front c.split_at.ensures.back c.requires) a.tests a.assigns b.tests b.assigns
 
 pub returns-in_ok-right-in_default : goal.returns-in_ok-right-in_default
 returns-in_ok-right-in_default t c =
-    if_ok c.union.result _ _ c.union.ensures (λ r h. subst (λ (x : List Tree). UnionOfAll x (tree_of r)) (cut _ _ _ _ c.split_at.ensures.front c.split_at.ensures.back)
+    if_ok c.union-in_default.result _ _ c.union-in_default.ensures (λ r h. subst (λ (x : List Tree). UnionOfAll x (tree_of r)) (cut _ _ _ _ c.split_at.ensures.front c.split_at.ensures.back)
     (union_both _ _ _ _ _ c.in_ok-left-in_default.ensures c.in_ok-right-in_default.ensures h))
