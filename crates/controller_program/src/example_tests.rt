@@ -1,5 +1,6 @@
 // The documents of examples/, with what is printed of them.
 use crate::Status;
+use crate::fat_tree::FOUR_PODS;
 use crate::tests::prints;
 use std::test::Fail;
 
@@ -59,4 +60,11 @@ fn refused_example(rt: HostRuntime) -> Result<(), Fail> {
     let line =
         "nkctl: policy 1 switch 1 port 1: 25 Unordered out 2 sets ethSrc, out 3 sets ethDst\n";
     prints(&rt, "rules", REFUSED, (Status::Refused, line))
+}
+
+#[test]
+fn fat_tree_example(rt: HostRuntime) -> Result<(), Fail> {
+    let trace =
+        "policy 1\npacket 1\ndone 13:1>13:4>12:1>12:4>4:1>4:4>42:4>42:2>44:4>44:2\npacket 2\ndone 13:1>13:3>11:1>11:2>14:3>14:1\npacket 3\ndone 44:2>44:1\n";
+    prints(&rt, "trace", FOUR_PODS, (Status::Done, trace))
 }

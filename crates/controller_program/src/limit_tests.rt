@@ -158,3 +158,28 @@ fn at_most_60000_bytes_of_actions(rt: HostRuntime) -> Result<(), Fail> {
         ),
     )
 }
+
+// A star that leads from one destination to the next in each turn, from 1 to 514.
+fn climb(alloc: Global) -> Result<String, AllocError> {
+    let mut text = String::from_str(alloc, "(")?;
+    for turn in 0..513u64 {
+        if turn > 0 {
+            text.push_str(" + ")?;
+        }
+        text.push_str(&format!(in alloc; "ethDst={}; ethDst:={}", turn + 1, turn + 2)?)?;
+    }
+    text.push_str(")*")?;
+    Ok(text)
+}
+
+#[test]
+fn refuses_513_turns(rt: HostRuntime) -> Result<(), Fail> {
+    let alloc = rt.alloc();
+    let deep = with_policy(alloc, &climb(alloc)?)?;
+    let front = "ethTyp=0x0801 ipProto=0 ethSrc=00:00:00:00:00:00 ethDst=00:00:00:00";
+    let back = "ip4Src=0.0.0.0 ip4Dst=0.0.0.0 tcpSrcPort=0 tcpDstPort=0";
+    let refusal = format!(in alloc;
+        "nkctl: policy 1: 23 StarDeep 1:1 {front}:00:01 {back} to 1:1 {front}:02:02 {back}\n"
+    )?;
+    prints(&rt, "rules", &deep, (Status::Refused, &refusal))
+}
