@@ -13,6 +13,10 @@ fn lit(field: Field, value: u64) -> Result<Lit, Fail> {
     Ok(Lit::new(field, value).ok_or("no literal")?)
 }
 
+fn one(alloc: Global, field: Field, value: u64) -> Result<Assignments, Fail> {
+    Ok(Assignments::one(alloc, lit(field, value)?)?)
+}
+
 fn packet(pt: u64, eth_dst: u64) -> Packet {
     Packet {
         sw: 1,
@@ -32,9 +36,9 @@ fn packet(pt: u64, eth_dst: u64) -> Packet {
 
 // The leaf that sets ethDst to 2 in one copy, and pt to 5 in another.
 fn two_copies(alloc: Global) -> Result<Leaf, Fail> {
-    let mut leaf = Leaf::of(alloc, Assignments::one(alloc, lit(Field::EthDst, 2)?)?)?;
-    leaf.put(Assignments::one(alloc, lit(Field::Pt, 5)?)?)?;
-    leaf.put(Assignments::one(alloc, lit(Field::EthDst, 2)?)?)?;
+    let mut leaf = Leaf::of(alloc, one(alloc, Field::EthDst, 2)?)?;
+    leaf.put(one(alloc, Field::Pt, 5)?)?;
+    leaf.put(one(alloc, Field::EthDst, 2)?)?;
     Ok(leaf)
 }
 
@@ -51,15 +55,31 @@ fn copies_rise_and_stand_once(rt: HostRuntime) -> Result<(), Fail> {
     Ok(())
 }
 
+// Some assignments and then one more.
+fn followed(alloc: Global, a: &Assignments, field: Field, value: u64) -> Result<Assignments, Fail> {
+    let last = one(alloc, field, value)?;
+    Ok(a.followed_by(alloc, &last)?)
+}
+
+// Whether a packet at port 1 with ethDst 9 goes to a port with another ethDst.
+fn sends(a: &Assignments, pt: u64, eth_dst: u64) -> bool {
+    a.apply(&packet(1, 9)) == packet(pt, eth_dst)
+}
+
+fn ethernet_twice(alloc: Global) -> Result<Assignments, Fail> {
+    let first = one(alloc, Field::EthDst, 2)?;
+    let both = followed(alloc, &first, Field::Pt, 5)?;
+    followed(alloc, &both, Field::EthDst, 3)
+}
+
 #[test]
 fn later_assignments_count(rt: HostRuntime) -> Result<(), Fail> {
     let alloc = rt.alloc();
-    let first = Assignments::one(alloc, lit(Field::EthDst, 2)?)?;
-    let both = first.followed_by(alloc, &Assignments::one(alloc, lit(Field::Pt, 5)?)?)?;
-    let last = both.followed_by(alloc, &Assignments::one(alloc, lit(Field::EthDst, 3)?)?)?;
-    assert!(rt; last.apply(&packet(1, 9)) == packet(5, 3));
+    let last = ethernet_twice(alloc)?;
+    assert!(rt; sends(&last, 5, 3));
     let fixed = Cell::of(&lit(Field::EthDst, 3)?);
-    assert!(rt; last.stripped(alloc, &fixed)?.apply(&packet(1, 9)) == packet(5, 9));
+    let stripped = last.stripped(alloc, &fixed)?;
+    assert!(rt; sends(&stripped, 5, 9));
     Ok(())
 }
 

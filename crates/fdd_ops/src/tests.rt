@@ -104,115 +104,177 @@ fn is_leaf(a: &Fdd) -> bool {
     matches!(a.root(), Node::Leaf(_))
 }
 
+fn at(pt: u64) -> Packet {
+    packet(pt, 2048, 0)
+}
+
+// Whether a diagram makes just these packets of one.
+fn gives(alloc: Global, a: &Fdd, from: &Packet, to: &[Packet]) -> Result<bool, Fail> {
+    let answer = a.answer(alloc, from)?;
+    Ok(answer.as_slice() == to)
+}
+
+// Whether a diagram sends what is at a port to just this other port.
+fn sends(alloc: Global, a: &Fdd, from: u64, to: u64) -> Result<bool, Fail> {
+    gives(alloc, a, &at(from), &[at(to)])
+}
+
+fn drops(alloc: Global, a: &Fdd, from: &Packet) -> Result<bool, Fail> {
+    gives(alloc, a, from, &[])
+}
+
+fn is(alloc: Global, field: Field, value: u64) -> Result<Fdd, Fail> {
+    Ok(test(alloc, lit(field, value)?)?)
+}
+
+fn is_not(alloc: Global, field: Field, value: u64) -> Result<Fdd, Fail> {
+    let is = test(alloc, lit(field, value)?)?;
+    Ok(negate(alloc, &is)?)
+}
+
+fn goes_to(alloc: Global, pt: u64) -> Result<Fdd, Fail> {
+    Ok(assign(alloc, lit(Field::Pt, pt)?)?)
+}
+
+// `pt=from; pt:=to`
+fn moves(alloc: Global, from: u64, to: u64) -> Result<Fdd, Fail> {
+    let here = is(alloc, Field::Pt, from)?;
+    let there = goes_to(alloc, to)?;
+    then(alloc, &here, &there)
+}
+
 #[test]
-fn literals_and_constants(rt: HostRuntime) -> Result<(), Fail> {
+fn literals(rt: HostRuntime) -> Result<(), Fail> {
     let alloc = rt.alloc();
-    let l = lit(Field::Pt, 1)?;
-    let (here, there) = (packet(1, 2048, 0), packet(2, 2048, 0));
-    assert!(rt; test(alloc, l)?.answer(alloc, &here)?.as_slice() == [here].as_slice());
-    assert_eq!(rt; test(alloc, l)?.answer(alloc, &there)?.len(), 0);
-    assert!(rt; assign(alloc, l)?.answer(alloc, &there)?.as_slice() == [here].as_slice());
-    assert!(rt; one(alloc)?.answer(alloc, &there)?.as_slice() == [there].as_slice());
-    assert_eq!(rt; zero(alloc).answer(alloc, &there)?.len(), 0);
+    let here = is(alloc, Field::Pt, 1)?;
+    assert!(rt; sends(alloc, &here, 1, 1)?);
+    assert!(rt; drops(alloc, &here, &at(2))?);
+    let there = goes_to(alloc, 1)?;
+    assert!(rt; sends(alloc, &there, 2, 1)?);
     Ok(())
 }
 
-// `pt=1; pt:=2 + pt=2; pt:=3`, and then `pt:=4` beside it
 #[test]
-fn sums_and_sequences(rt: HostRuntime) -> Result<(), Fail> {
+fn constants(rt: HostRuntime) -> Result<(), Fail> {
     let alloc = rt.alloc();
-    let first = then(
-        alloc,
-        &test(alloc, lit(Field::Pt, 1)?)?,
-        &assign(alloc, lit(Field::Pt, 2)?)?,
-    )?;
-    let second = then(
-        alloc,
-        &test(alloc, lit(Field::Pt, 2)?)?,
-        &assign(alloc, lit(Field::Pt, 3)?)?,
-    )?;
-    let step = plus(alloc, &first, &second)?;
+    let all = one(alloc)?;
+    assert!(rt; sends(alloc, &all, 2, 2)?);
+    let none = zero(alloc);
+    assert!(rt; drops(alloc, &none, &at(2))?);
+    Ok(())
+}
+
+// `pt=1; pt:=2 + pt=2; pt:=3`
+fn step(alloc: Global) -> Result<Fdd, Fail> {
+    let first = moves(alloc, 1, 2)?;
+    let second = moves(alloc, 2, 3)?;
+    plus(alloc, &first, &second)
+}
+
+#[test]
+fn sequences(rt: HostRuntime) -> Result<(), Fail> {
+    let alloc = rt.alloc();
+    let step = step(alloc)?;
+    assert!(rt; sends(alloc, &step, 1, 2)?);
+    assert!(rt; sends(alloc, &step, 2, 3)?);
     let twice = then(alloc, &step, &step)?;
-    let both = plus(alloc, &step, &assign(alloc, lit(Field::Pt, 4)?)?)?;
-    let at = |pt: u64| packet(pt, 2048, 0);
-    assert!(rt; step.answer(alloc, &at(1))?.as_slice() == [at(2)].as_slice());
-    assert!(rt; step.answer(alloc, &at(2))?.as_slice() == [at(3)].as_slice());
-    assert!(rt; twice.answer(alloc, &at(1))?.as_slice() == [at(3)].as_slice());
-    assert_eq!(rt; twice.answer(alloc, &at(2))?.len(), 0);
-    assert!(rt; both.answer(alloc, &at(1))?.as_slice() == [at(2), at(4)].as_slice());
-    assert!(rt; both.answer(alloc, &at(9))?.as_slice() == [at(4)].as_slice());
-    assert!(rt; both.normal() && twice.normal());
+    assert!(rt; sends(alloc, &twice, 1, 3)?);
+    assert!(rt; drops(alloc, &twice, &at(2))?);
+    assert!(rt; twice.normal());
     Ok(())
 }
 
-// `pt=1 + not pt=1; pt:=1` has no test; `ethTyp=2054; not ipProto=6` keeps its test of ipProto
 #[test]
-fn redundant_tests_go(rt: HostRuntime) -> Result<(), Fail> {
+fn sums(rt: HostRuntime) -> Result<(), Fail> {
     let alloc = rt.alloc();
-    let here = test(alloc, lit(Field::Pt, 1)?)?;
-    let elsewhere = then(
-        alloc,
-        &negate_of(alloc, lit(Field::Pt, 1)?)?,
-        &assign(alloc, lit(Field::Pt, 1)?)?,
-    )?;
-    let always = plus(alloc, &here, &elsewhere)?;
+    let step = step(alloc)?;
+    let away = goes_to(alloc, 4)?;
+    let both = plus(alloc, &step, &away)?;
+    assert!(rt; gives(alloc, &both, &at(1), &[at(2), at(4)])?);
+    assert!(rt; sends(alloc, &both, 9, 4)?);
+    assert!(rt; both.normal());
+    Ok(())
+}
+
+// `pt=1 + not pt=1; pt:=1` has no test.
+#[test]
+fn a_redundant_test_goes(rt: HostRuntime) -> Result<(), Fail> {
+    let alloc = rt.alloc();
+    let here = is(alloc, Field::Pt, 1)?;
+    let elsewhere = is_not(alloc, Field::Pt, 1)?;
+    let moved = then(alloc, &elsewhere, &goes_to(alloc, 1)?)?;
+    let always = plus(alloc, &here, &moved)?;
     assert!(rt; is_leaf(&always));
-    assert!(rt;
-        always.answer(alloc, &packet(3, 2048, 0))?.as_slice() == [packet(1, 2048, 0)].as_slice()
-    );
-    let arp = then(
-        alloc,
-        &test(alloc, lit(Field::EthTyp, 2054)?)?,
-        &negate_of(alloc, lit(Field::IpProto, 6)?)?,
-    )?;
-    assert_eq!(rt; arp.answer(alloc, &packet(1, 2054, 6))?.len(), 0);
-    assert_eq!(rt; arp.answer(alloc, &packet(1, 2054, 0))?.len(), 1);
-    assert_eq!(rt; arp.answer(alloc, &packet(1, 2048, 0))?.len(), 0);
+    assert!(rt; sends(alloc, &always, 3, 1)?);
+    Ok(())
+}
+
+// `ethTyp=2054; not ipProto=6` keeps its test of ipProto.
+#[test]
+fn a_test_that_counts_stays(rt: HostRuntime) -> Result<(), Fail> {
+    let alloc = rt.alloc();
+    let typed = is(alloc, Field::EthTyp, 2054)?;
+    let other = is_not(alloc, Field::IpProto, 6)?;
+    let arp = then(alloc, &typed, &other)?;
+    let kept = packet(1, 2054, 0);
+    assert!(rt; drops(alloc, &arp, &packet(1, 2054, 6))?);
+    assert!(rt; gives(alloc, &arp, &kept, &[kept])?);
+    assert!(rt; drops(alloc, &arp, &packet(1, 2048, 0))?);
     assert!(rt; arp.normal());
     Ok(())
 }
 
-fn negate_of(alloc: Global, l: Lit) -> Result<Fdd, Fail> {
-    Ok(negate(alloc, &test(alloc, l)?)?)
+// The first diagram at port 1, and else the second.
+fn chosen(alloc: Global, yes: &Fdd, no: Fdd) -> Result<Fdd, Fail> {
+    let here = lit(Field::Pt, 1)?;
+    if !fits(&here, yes, &no) || !no.normal() {
+        return Err("too many values".into());
+    }
+    Ok(choice(alloc, here, yes, no)?)
 }
 
-// port 1 goes to port 2, and every other to port 3; where both go to port 2 nothing is tested
+// Port 1 goes to port 2, and every other to port 3; where both go to port 2 nothing is tested.
 #[test]
 fn choices(rt: HostRuntime) -> Result<(), Fail> {
     let alloc = rt.alloc();
-    let (here, there) = (lit(Field::Pt, 1)?, lit(Field::Pt, 2)?);
-    let yes = assign(alloc, there)?;
-    let no = assign(alloc, lit(Field::Pt, 3)?)?;
-    let same = assign(alloc, there)?;
-    if !fits(&here, &yes, &no) || !fits(&here, &yes, &same) || !no.normal() || !same.normal() {
-        return Err("too many values".into());
-    }
-    let chosen = choice(alloc, here, &yes, no)?;
-    let alike = choice(alloc, here, &yes, same)?;
-    let at = |pt: u64| packet(pt, 2048, 0);
-    assert!(rt; chosen.answer(alloc, &at(1))?.as_slice() == [at(2)].as_slice());
-    assert!(rt; chosen.answer(alloc, &at(9))?.as_slice() == [at(3)].as_slice());
-    assert!(rt; chosen.normal() && is_leaf(&alike));
+    let yes = goes_to(alloc, 2)?;
+    let two = chosen(alloc, &yes, goes_to(alloc, 3)?)?;
+    assert!(rt; sends(alloc, &two, 1, 2)?);
+    assert!(rt; sends(alloc, &two, 9, 3)?);
+    let alike = chosen(alloc, &yes, goes_to(alloc, 2)?)?;
+    assert!(rt; two.normal() && is_leaf(&alike));
     Ok(())
 }
 
-// at port 1, `pt=1; ethTyp:=2048 + pt=2; skip` keeps what is behind the first test
+// `pt=1; ethTyp=2048 + pt=2`
+fn two_ports(alloc: Global) -> Result<Fdd, Fail> {
+    let here = is(alloc, Field::Pt, 1)?;
+    let typed = is(alloc, Field::EthTyp, 2048)?;
+    let ip = then(alloc, &here, &typed)?;
+    plus(alloc, &ip, &is(alloc, Field::Pt, 2)?)
+}
+
+// What stands behind a test of the port is kept as it stands.
 #[test]
-fn cofactors(rt: HostRuntime) -> Result<(), Fail> {
+fn cofactors_of_a_port(rt: HostRuntime) -> Result<(), Fail> {
     let alloc = rt.alloc();
-    let ip = then(
-        alloc,
-        &test(alloc, lit(Field::Pt, 1)?)?,
-        &test(alloc, lit(Field::EthTyp, 2048)?)?,
-    )?;
-    let all = plus(alloc, &ip, &test(alloc, lit(Field::Pt, 2)?)?)?;
+    let all = two_ports(alloc)?;
     let one = cofactor(alloc, &all, lit(Field::Pt, 1)?)?;
+    assert!(rt; sends(alloc, &one, 9, 9)?);
+    assert!(rt; drops(alloc, &one, &packet(9, 2054, 0))?);
     let two = cofactor(alloc, &all, lit(Field::Pt, 2)?)?;
-    let typed = cofactor(alloc, &all, lit(Field::EthTyp, 2048)?)?;
-    assert_eq!(rt; one.answer(alloc, &packet(9, 2048, 0))?.len(), 1);
-    assert_eq!(rt; one.answer(alloc, &packet(9, 2054, 0))?.len(), 0);
     assert!(rt; is_leaf(&two));
-    assert_eq!(rt; typed.answer(alloc, &packet(1, 2054, 0))?.len(), 1);
-    assert!(rt; one.normal() && two.normal() && typed.normal());
+    assert!(rt; one.normal() && two.normal());
+    Ok(())
+}
+
+#[test]
+fn cofactors_of_a_type(rt: HostRuntime) -> Result<(), Fail> {
+    let alloc = rt.alloc();
+    let all = two_ports(alloc)?;
+    let typed = cofactor(alloc, &all, lit(Field::EthTyp, 2048)?)?;
+    let other = packet(1, 2054, 0);
+    assert!(rt; gives(alloc, &typed, &other, &[other])?);
+    assert!(rt; typed.normal());
     Ok(())
 }

@@ -21,153 +21,59 @@ fn prefix(address: u32, length: u8) -> Option<Prefix> {
     Some(Prefix { address, length })
 }
 
+// Whether a pattern hits the packet of that header at port 3, without a tag.
+fn hit(pattern: Pattern) -> bool {
+    hits(&pattern, 3, &HEADER, Tag::none())
+}
+
 #[test]
-fn hits_by_each_field(rt: HostRuntime) {
+fn hits_by_port_and_tag(rt: HostRuntime) {
     let any = Pattern::any();
-    for (pattern, hit) in [
-        (any, true),
-        (
-            Pattern {
-                in_port: Some(3),
-                ..any
-            },
-            true,
-        ),
-        (
-            Pattern {
-                in_port: Some(4),
-                ..any
-            },
-            false,
-        ),
-        (
-            Pattern {
-                dl_src: Some(1),
-                ..any
-            },
-            true,
-        ),
-        (
-            Pattern {
-                dl_src: Some(2),
-                ..any
-            },
-            false,
-        ),
-        (
-            Pattern {
-                dl_dst: Some(2),
-                ..any
-            },
-            true,
-        ),
-        (
-            Pattern {
-                dl_dst: Some(1),
-                ..any
-            },
-            false,
-        ),
-        (
-            Pattern {
-                dl_vlan: Some(65535),
-                ..any
-            },
-            true,
-        ),
-        (
-            Pattern {
-                dl_vlan: Some(1),
-                ..any
-            },
-            false,
-        ),
-        (
-            Pattern {
-                dl_vlan_pcp: Some(0),
-                ..any
-            },
-            true,
-        ),
-        (
-            Pattern {
-                dl_vlan_pcp: Some(1),
-                ..any
-            },
-            false,
-        ),
-        (
-            Pattern {
-                dl_type: Some(2048),
-                ..any
-            },
-            true,
-        ),
-        (
-            Pattern {
-                dl_type: Some(2054),
-                ..any
-            },
-            false,
-        ),
-        (
-            Pattern {
-                nw_tos: Some(0),
-                ..any
-            },
-            true,
-        ),
-        (
-            Pattern {
-                nw_tos: Some(4),
-                ..any
-            },
-            false,
-        ),
-        (
-            Pattern {
-                nw_proto: Some(6),
-                ..any
-            },
-            true,
-        ),
-        (
-            Pattern {
-                nw_proto: Some(17),
-                ..any
-            },
-            false,
-        ),
-        (
-            Pattern {
-                tp_src: Some(80),
-                ..any
-            },
-            true,
-        ),
-        (
-            Pattern {
-                tp_src: Some(443),
-                ..any
-            },
-            false,
-        ),
-        (
-            Pattern {
-                tp_dst: Some(443),
-                ..any
-            },
-            true,
-        ),
-        (
-            Pattern {
-                tp_dst: Some(80),
-                ..any
-            },
-            false,
-        ),
-    ] {
-        assert_eq!(rt; hits(&pattern, 3, &HEADER, Tag::none()), hit, "{pattern:?}");
+    assert!(rt; hit(any));
+    for (in_port, wanted) in [(Some(3), true), (Some(4), false)] {
+        assert_eq!(rt; hit(Pattern { in_port, ..any }), wanted);
+    }
+    for (dl_vlan, wanted) in [(Some(65535), true), (Some(1), false)] {
+        assert_eq!(rt; hit(Pattern { dl_vlan, ..any }), wanted);
+    }
+    for (dl_vlan_pcp, wanted) in [(Some(0), true), (Some(1), false)] {
+        assert_eq!(rt; hit(Pattern { dl_vlan_pcp, ..any }), wanted);
+    }
+}
+
+#[test]
+fn hits_by_ethernet(rt: HostRuntime) {
+    let any = Pattern::any();
+    for (dl_src, wanted) in [(Some(1), true), (Some(2), false)] {
+        assert_eq!(rt; hit(Pattern { dl_src, ..any }), wanted);
+    }
+    for (dl_dst, wanted) in [(Some(2), true), (Some(1), false)] {
+        assert_eq!(rt; hit(Pattern { dl_dst, ..any }), wanted);
+    }
+    for (dl_type, wanted) in [(Some(2048), true), (Some(2054), false)] {
+        assert_eq!(rt; hit(Pattern { dl_type, ..any }), wanted);
+    }
+}
+
+#[test]
+fn hits_by_protocol(rt: HostRuntime) {
+    let any = Pattern::any();
+    for (nw_tos, wanted) in [(Some(0), true), (Some(4), false)] {
+        assert_eq!(rt; hit(Pattern { nw_tos, ..any }), wanted);
+    }
+    for (nw_proto, wanted) in [(Some(6), true), (Some(17), false)] {
+        assert_eq!(rt; hit(Pattern { nw_proto, ..any }), wanted);
+    }
+}
+
+#[test]
+fn hits_by_transport(rt: HostRuntime) {
+    let any = Pattern::any();
+    for (tp_src, wanted) in [(Some(80), true), (Some(443), false)] {
+        assert_eq!(rt; hit(Pattern { tp_src, ..any }), wanted);
+    }
+    for (tp_dst, wanted) in [(Some(443), true), (Some(80), false)] {
+        assert_eq!(rt; hit(Pattern { tp_dst, ..any }), wanted);
     }
 }
 
@@ -311,39 +217,54 @@ fn met(table: &Table) -> Option<Action> {
     row.actions.as_slice().first().copied()
 }
 
-#[test]
-fn adds_and_replaces(rt: HostRuntime) -> Result<(), Fail> {
-    let alloc = rt.alloc();
-    let at = Pattern {
+// Adds a row with one output.
+fn add(
+    alloc: Global,
+    table: &mut Table,
+    pattern: Pattern,
+    priority: u16,
+    out: u16,
+) -> Result<(), ChangeError> {
+    let change = added(alloc, pattern, priority, out)?;
+    table.change(alloc, &change)
+}
+
+// The pattern of packets that come in at port 1.
+fn at_one() -> Pattern {
+    Pattern {
         in_port: Some(1),
         ..Pattern::any()
-    };
-    let mut table = Table::new(alloc, 2);
+    }
+}
+
+#[test]
+fn adds(rt: HostRuntime) -> Result<(), Fail> {
+    let mut table = Table::new(rt.alloc(), 2);
     assert_eq!(rt; met(&table), None);
-    assert_eq!(rt; table.change(alloc, &added(alloc, at, 5, 2)?), Ok(()));
+    add(rt.alloc(), &mut table, at_one(), 5, 2)?;
     assert_eq!(rt; met(&table), Some(Action::Output(2)));
-    assert_eq!(rt;
-        table.change(alloc, &added(alloc, Pattern::any(), 6, 3)?),
-        Ok(())
-    );
+    add(rt.alloc(), &mut table, Pattern::any(), 6, 3)?;
     assert_eq!(rt; met(&table), Some(Action::Output(3)));
-    assert_eq!(rt;
-        table.change(alloc, &added(alloc, at, 7, 4)?),
-        Err(ChangeError::Full)
-    );
-    assert_eq!(rt; met(&table), Some(Action::Output(3)));
-    assert_eq!(rt;
-        table.change(alloc, &added(alloc, Pattern::any(), 6, 9)?),
-        Ok(())
-    );
-    assert_eq!(rt; met(&table), Some(Action::Output(9)));
     assert_eq!(rt; (table.rows().len(), table.capacity()), (2, 2));
     Ok(())
 }
 
 #[test]
-fn exact_rows_outrank(rt: HostRuntime) -> Result<(), Fail> {
-    let exact = Pattern {
+fn replaces_in_a_full_table(rt: HostRuntime) -> Result<(), Fail> {
+    let mut table = Table::new(rt.alloc(), 1);
+    add(rt.alloc(), &mut table, at_one(), 6, 3)?;
+    let full = add(rt.alloc(), &mut table, Pattern::any(), 7, 4);
+    assert_eq!(rt; full, Err(ChangeError::Full));
+    assert_eq!(rt; met(&table), Some(Action::Output(3)));
+    add(rt.alloc(), &mut table, at_one(), 6, 9)?;
+    assert_eq!(rt; met(&table), Some(Action::Output(9)));
+    assert_eq!(rt; table.rows().len(), 1);
+    Ok(())
+}
+
+// The pattern of just the packet of that header, without a tag at port 1.
+fn exact() -> Pattern {
+    Pattern {
         in_port: Some(1),
         dl_src: Some(1),
         dl_dst: Some(2),
@@ -356,12 +277,16 @@ fn exact_rows_outrank(rt: HostRuntime) -> Result<(), Fail> {
         nw_dst: prefix(0x0a01_0203, 32),
         tp_src: Some(80),
         tp_dst: Some(443),
-    };
+    }
+}
+
+#[test]
+fn exact_rows_outrank(rt: HostRuntime) -> Result<(), Fail> {
     let mut table = Table::new(rt.alloc(), 3);
-    table.change(rt.alloc(), &added(rt.alloc(), Pattern::any(), 65535, 2)?)?;
-    table.change(rt.alloc(), &added(rt.alloc(), exact, 1, 3)?)?;
+    add(rt.alloc(), &mut table, Pattern::any(), 65535, 2)?;
+    add(rt.alloc(), &mut table, exact(), 1, 3)?;
     assert_eq!(rt; met(&table), Some(Action::Output(3)));
-    table.change(rt.alloc(), &added(rt.alloc(), exact, 2, 4)?)?;
+    add(rt.alloc(), &mut table, exact(), 2, 4)?;
     assert_eq!(rt; met(&table), Some(Action::Output(4)));
     Ok(())
 }

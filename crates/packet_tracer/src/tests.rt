@@ -6,7 +6,7 @@ ghost use Rattle.nk_values.specs.Changes.{row_of};
 ghost use Rattle.nk_syntax.specs.Terms.{Filter, One};
 ghost use Rattle.packet_tracer.specs.Means.{RowsMean};
 
-use crate::flight::{Flight, Hopped};
+use crate::flight::{Flight, Hopped, Walk};
 use crate::hopping::hop;
 use crate::walking::{turns, walk};
 use flow_table::{ChangeError, Table};
@@ -106,14 +106,39 @@ fn entering(alloc: Global, tag: Tag) -> Flight
     }
 }
 
-// Compares the ports that a history went through, oldest first.
-fn went<R: Abort>(rt: &R, history: &History, ports: &[(u64, u64)]) {
-    let (last, older) = ports.split_last().unwrap_or((&(0, 0), &[]));
-    assert_eq!(rt; (history.newest().sw, history.newest().pt), *last);
-    assert_eq!(rt; history.older().len(), older.len());
-    for (packet, place) in history.older().iter().zip(older) {
-        assert_eq!(rt; (packet.sw, packet.pt), *place);
+// Whether a history went through these ports, oldest first.
+fn is_way(history: Option<&History>, ports: &[(u64, u64)]) -> bool {
+    let (Some(history), Some((last, older))) = (history, ports.split_last()) else {
+        return false;
+    };
+    if history.older().len() != older.len() {
+        return false;
     }
+    for (packet, place) in history.older().iter().zip(older) {
+        if (packet.sw, packet.pt) != *place {
+            return false;
+        }
+    }
+    (history.newest().sw, history.newest().pt) == *last
+}
+
+// How many histories are finished, and how many copies are in flight.
+fn counts(hopped: &Hopped) -> (usize, usize) {
+    (hopped.finished.len(), hopped.flights.len())
+}
+
+// The history of the first copy in flight.
+fn first_flight(hopped: &Hopped) -> Option<&History> {
+    Some(&hopped.flights.first()?.history)
+}
+
+// Ports with one row each, as for `port`.
+fn rows(alloc: Global, list: &[(End, u16, &[Action])]) -> Result<Vec<PortRows>, AllocError> {
+    let mut ports = Vec::new(alloc);
+    for (end, vlan, actions) in list {
+        ports.push(port(alloc, *end, *vlan, actions)?)?;
+    }
+    Ok(ports)
 }
 
 #[test]
@@ -121,58 +146,68 @@ fn one_switch(rt: HostRuntime) -> Result<(), Fail> {
     let alloc = rt.alloc();
     let one = topology(&rt, alloc, 1, &[])?;
     for (out, last) in [(2, 2), (65528, 1)] {
-        let ports = vec![in alloc;
-            port(alloc, (1, 1), 65535, &[Action::Output(out)])?,
-            port(alloc, (1, 2), 65535, &[])?,
-        ]?;
+        let sent = [Action::Output(out)];
+        let ports = rows(alloc, &[((1, 1), 65535, &sent), ((1, 2), 65535, &[])])?;
         let hopped = turns(alloc, &ports, &one, entering(alloc, Tag::none()), 64)?;
-        assert_eq!(rt; (hopped.finished.len(), hopped.flights.len()), (1, 0));
-        went(&rt, &hopped.finished[0], &[(1, 1), (1, last)]);
+        assert_eq!(rt; counts(&hopped), (1, 0));
+        assert!(rt; is_way(hopped.finished.first(), &[(1, 1), (1, last)]));
     }
     Ok(())
 }
 
+// Two switches with a link.
+fn two(rt: &impl Abort, alloc: Global) -> Result<Topology, TopoError> {
+    topology(rt, alloc, 2, &[((1, 2), (2, 1))])
+}
+
+// Rows that put the stamp on at switch 1, send back what comes over the link, and do this at switch 2.
+fn over_and(alloc: Global, actions: &[Action]) -> Result<Vec<PortRows>, AllocError> {
+    let stamped = [Action::SetVlanVid(1), Action::Output(2)];
+    let mut ports = Vec::new(alloc);
+    ports.push(port(alloc, (1, 1), 65535, &stamped)?)?;
+    ports.push(port(alloc, (1, 2), 1, &[Action::Output(65528)])?)?;
+    ports.push(port(alloc, (2, 1), 1, actions)?)?;
+    ports.push(port(alloc, (2, 2), 65535, &[])?)?;
+    Ok(ports)
+}
+
+// What is made of a packet at port 1 of switch 1 by such rows in so many hops.
+fn made(
+    rt: &impl Abort,
+    alloc: Global,
+    actions: &[Action],
+    tag: Tag,
+    hops: u64,
+) -> Result<Hopped, Fail> {
+    let two = two(rt, alloc)?;
+    let ports = over_and(alloc, actions)?;
+    Ok(turns(alloc, &ports, &two, entering(alloc, tag), hops)?)
+}
+
 #[test]
 fn over_a_link(rt: HostRuntime) -> Result<(), Fail> {
-    let alloc = rt.alloc();
-    let two = topology(&rt, alloc, 2, &[((1, 2), (2, 1))])?;
-    let ports = vec![in alloc;
-        port(
-            alloc,
-            (1, 1),
-            65535,
-            &[Action::SetVlanVid(1), Action::Output(2)]
-        )?,
-        port(alloc, (1, 2), 1, &[])?,
-        port(alloc, (2, 1), 1, &[Action::StripVlan, Action::Output(2)])?,
-        port(alloc, (2, 2), 65535, &[])?,
-    ]?;
-    let hopped = turns(alloc, &ports, &two, entering(alloc, Tag::none()), 64)?;
-    assert_eq!(rt; (hopped.finished.len(), hopped.flights.len()), (1, 0));
-    went(&rt, &hopped.finished[0], &[(1, 1), (1, 2), (2, 1), (2, 2)]);
-    let once = turns(alloc, &ports, &two, entering(alloc, Tag::none()), 1)?;
-    assert_eq!(rt; (once.finished.len(), once.flights.len()), (0, 1));
-    went(&rt, &once.flights[0].history, &[(1, 1), (1, 2), (2, 1)]);
+    let leaves = [Action::StripVlan, Action::Output(2)];
+    let hopped = made(&rt, rt.alloc(), &leaves, Tag::none(), 64)?;
+    assert_eq!(rt; counts(&hopped), (1, 0));
+    let way = [(1, 1), (1, 2), (2, 1), (2, 2)];
+    assert!(rt; is_way(hopped.finished.first(), &way));
+    Ok(())
+}
+
+#[test]
+fn one_hop_of_two(rt: HostRuntime) -> Result<(), Fail> {
+    let leaves = [Action::StripVlan, Action::Output(2)];
+    let once = made(&rt, rt.alloc(), &leaves, Tag::none(), 1)?;
+    assert_eq!(rt; counts(&once), (0, 1));
+    assert!(rt; is_way(first_flight(&once), &[(1, 1), (1, 2), (2, 1)]));
     Ok(())
 }
 
 #[test]
 fn back_and_forth(rt: HostRuntime) -> Result<(), Fail> {
-    let alloc = rt.alloc();
-    let two = topology(&rt, alloc, 2, &[((1, 2), (2, 1))])?;
-    let ports = vec![in alloc;
-        port(
-            alloc,
-            (1, 1),
-            65535,
-            &[Action::SetVlanVid(1), Action::Output(2)]
-        )?,
-        port(alloc, (1, 2), 1, &[Action::Output(65528)])?,
-        port(alloc, (2, 1), 1, &[Action::Output(65528)])?,
-        port(alloc, (2, 2), 65535, &[])?,
-    ]?;
-    let hopped = turns(alloc, &ports, &two, entering(alloc, Tag::none()), 4)?;
-    assert_eq!(rt; (hopped.finished.len(), hopped.flights.len()), (0, 1));
+    let back = [Action::Output(65528)];
+    let hopped = made(&rt, rt.alloc(), &back, Tag::none(), 4)?;
+    assert_eq!(rt; counts(&hopped), (0, 1));
     let way = [
         (1, 1),
         (1, 2),
@@ -184,28 +219,17 @@ fn back_and_forth(rt: HostRuntime) -> Result<(), Fail> {
         (2, 1),
         (1, 2),
     ];
-    went(&rt, &hopped.flights[0].history, &way);
-    assert_eq!(rt; hopped.flights[0].hops, 4);
-    assert_eq!(rt; hopped.flights[0].tag.id(), Some(1));
+    assert!(rt; is_way(first_flight(&hopped), &way));
+    let flight = hopped.flights.first().ok_or("a copy in flight")?;
+    assert_eq!(rt; (flight.hops, flight.tag.id()), (4, Some(1)));
     Ok(())
 }
 
 #[test]
 fn a_tagged_packet_meets_no_row(rt: HostRuntime) -> Result<(), Fail> {
-    let alloc = rt.alloc();
-    let two = topology(&rt, alloc, 2, &[((1, 2), (2, 1))])?;
-    let ports = vec![in alloc;
-        port(
-            alloc,
-            (1, 1),
-            65535,
-            &[Action::SetVlanVid(1), Action::Output(2)]
-        )?,
-        port(alloc, (1, 2), 1, &[Action::Output(65528)])?,
-    ]?;
     let tag = Tag::vlan(1).ok_or("no tag")?;
-    let hopped = turns(alloc, &ports, &two, entering(alloc, tag), 64)?;
-    assert_eq!(rt; (hopped.finished.len(), hopped.flights.len()), (0, 0));
+    let hopped = made(&rt, rt.alloc(), &[Action::Output(65528)], tag, 64)?;
+    assert_eq!(rt; counts(&hopped), (0, 0));
     Ok(())
 }
 
@@ -236,30 +260,42 @@ fn hopped<R: Abort>(
     Ok(hopped)
 }
 
-#[test]
-fn one_hop(rt: HostRuntime) -> Result<(), Fail> {
-    let alloc = rt.alloc();
-    let two = topology(&rt, alloc, 2, &[((1, 2), (2, 1))])?;
-    let flight = entering(alloc, Tag::none());
+// A row that sends a packet back as it is, and one with another destination over the link.
+fn two_ways(alloc: Global) -> Result<FlowMod, AllocError>
+    ensures { IfOk result (λ change. change.command ≡ Command.Add) }
+{
     let list = [
         Action::Output(65528),
         Action::SetVlanVid(1),
         Action::SetDlDst(5),
         Action::Output(2),
     ];
-    let change = FlowMod {
+    Ok(FlowMod {
         command: Command::Add,
         pattern: Pattern::any(),
         priority: 1,
         out_port: 65535,
         actions: actions(alloc, &list)?,
-    };
-    let hopped = hopped(&rt, alloc, &change, &two, &flight)?;
-    assert_eq!(rt; (hopped.finished.len(), hopped.flights.len()), (1, 1));
-    went(&rt, &hopped.finished[0], &[(1, 1), (1, 1)]);
-    went(&rt, &hopped.flights[0].history, &[(1, 1), (1, 2), (2, 1)]);
-    assert_eq!(rt; hopped.flights[0].history.newest().header.eth_dst, 5);
-    assert_eq!(rt; hopped.flights[0].hops, 1);
+    })
+}
+
+// What it makes of a packet at port 1 of switch 1.
+fn hopped_two_ways(rt: &impl Abort, alloc: Global) -> Result<Hopped, Fail> {
+    let two = two(rt, alloc)?;
+    let change = two_ways(alloc)?;
+    let flight = entering(alloc, Tag::none());
+    Ok(hopped(rt, alloc, &change, &two, &flight)?)
+}
+
+#[test]
+fn one_hop(rt: HostRuntime) -> Result<(), Fail> {
+    let hopped = hopped_two_ways(&rt, rt.alloc())?;
+    assert_eq!(rt; counts(&hopped), (1, 1));
+    assert!(rt; is_way(hopped.finished.first(), &[(1, 1), (1, 1)]));
+    assert!(rt; is_way(first_flight(&hopped), &[(1, 1), (1, 2), (2, 1)]));
+    let flight = hopped.flights.first().ok_or("a copy in flight")?;
+    let eth_dst = flight.history.newest().header.eth_dst;
+    assert_eq!(rt; (eth_dst, flight.hops), (5, 1));
     Ok(())
 }
 
@@ -309,10 +345,9 @@ fn returning(alloc: Global) -> Result<Rows, AllocError>
     })
 }
 
-#[test]
-fn walks_back(rt: HostRuntime) -> Result<(), Fail> {
-    let alloc = rt.alloc();
-    let alone = alone(&rt, alloc)?;
+// The walk of a packet that comes in with a tag at the one port.
+fn walked(rt: &impl Abort, alloc: Global, tag: Tag) -> Result<Walk, Fail> {
+    let alone = alone(rt, alloc)?;
     let rows = returning(alloc)?;
     let packet = Packet {
         sw: 1,
@@ -320,11 +355,21 @@ fn walks_back(rt: HostRuntime) -> Result<(), Fail> {
         header: HEADER,
     };
     assert!(rt; well_shaped(&packet));
-    let untagged = walk(alloc, &rows, &alone, &packet, Tag::none(), 64)?;
-    assert_eq!(rt; (untagged.finished.len(), untagged.in_flight.len()), (1, 0));
-    went(&rt, &untagged.finished[0], &[(1, 1), (1, 1)]);
+    Ok(walk(alloc, &rows, &alone, &packet, tag, 64)?)
+}
+
+#[test]
+fn walks_back(rt: HostRuntime) -> Result<(), Fail> {
+    let walk = walked(&rt, rt.alloc(), Tag::none())?;
+    assert_eq!(rt; (walk.finished.len(), walk.in_flight.len()), (1, 0));
+    assert!(rt; is_way(walk.finished.first(), &[(1, 1), (1, 1)]));
+    Ok(())
+}
+
+#[test]
+fn a_tagged_packet_has_no_history(rt: HostRuntime) -> Result<(), Fail> {
     let tag = Tag::vlan(1).ok_or("no tag")?;
-    let tagged = walk(alloc, &rows, &alone, &packet, tag, 64)?;
-    assert_eq!(rt; (tagged.finished.len(), tagged.in_flight.len()), (0, 0));
+    let walk = walked(&rt, rt.alloc(), tag)?;
+    assert_eq!(rt; (walk.finished.len(), walk.in_flight.len()), (0, 0));
     Ok(())
 }

@@ -44,15 +44,27 @@ fn history(alloc: Global, ports: &[(u64, u64)]) -> Result<History, AllocError> {
 #[test]
 fn histories(rt: HostRuntime) -> Result<(), Fail> {
     let alloc = rt.alloc();
-    let mut history = history(alloc, &[(1, 2), (2, 1)])?;
+    let history = history(alloc, &[(1, 2), (2, 1)])?;
     let text = history_text(alloc, &history)?;
     assert_eq!(rt; text.as_str(), "1:1>1:2>2:1");
+    Ok(())
+}
+
+// A packet with fields that differ from those of the packets of `history`.
+fn changed() -> Packet {
+    let mut packet = packet((2, 2), 0x0000_1234_5678_9abc);
+    packet.header.eth_typ = 0x86dd;
+    packet.header.ip4_dst = 0x0a00_01ff;
+    packet.header.tcp_dst_port = 80;
+    packet
+}
+
+#[test]
+fn fields_that_changed(rt: HostRuntime) -> Result<(), Fail> {
+    let alloc = rt.alloc();
+    let mut history = history(alloc, &[(1, 2), (2, 1)])?;
     history.double()?;
-    let mut last = packet((2, 2), 0x0000_1234_5678_9abc);
-    last.header.eth_typ = 0x86dd;
-    last.header.ip4_dst = 0x0a00_01ff;
-    last.header.tcp_dst_port = 80;
-    history.set_newest(last);
+    history.set_newest(changed());
     let text = history_text(alloc, &history)?;
     assert_eq!(rt;
         text.as_str(),
@@ -61,24 +73,42 @@ fn histories(rt: HostRuntime) -> Result<(), Fail> {
     Ok(())
 }
 
+// Histories from port 1 of switch 1, each through these ports.
+fn histories_of(alloc: Global, list: &[&[(u64, u64)]]) -> Result<Vec<History>, AllocError> {
+    let mut histories = Vec::new(alloc);
+    for ports in list {
+        histories.push(history(alloc, ports)?)?;
+    }
+    Ok(histories)
+}
+
+fn walk(
+    alloc: Global,
+    finished: &[&[(u64, u64)]],
+    in_flight: &[&[(u64, u64)]],
+) -> Result<Walk, AllocError> {
+    let finished = histories_of(alloc, finished)?;
+    Ok(Walk {
+        finished,
+        in_flight: histories_of(alloc, in_flight)?,
+    })
+}
+
+// Of one packet two histories, one of them twice, and a copy in flight; of another none.
+fn two_walks(alloc: Global) -> Result<Vec<Walk>, AllocError> {
+    let mut walks = Vec::new(alloc);
+    let finished: [&[(u64, u64)]; 3] = [&[(1, 2)], &[(1, 10)], &[(1, 2)]];
+    walks.push(walk(alloc, &finished, &[&[(1, 2), (2, 1)]])?)?;
+    walks.push(walk(alloc, &[], &[])?)?;
+    Ok(walks)
+}
+
 #[test]
 fn a_trace(rt: HostRuntime) -> Result<(), Fail> {
     let alloc = rt.alloc();
-    let finished = vec![in alloc;
-        history(alloc, &[(1, 2)])?,
-        history(alloc, &[(1, 10)])?,
-        history(alloc, &[(1, 2)])?,
-    ]?;
-    let in_flight = vec![in alloc; history(alloc, &[(1, 2), (2, 1)])?]?;
-    let first = Walk {
-        finished,
-        in_flight,
-    };
-    let second = Walk {
-        finished: Vec::new(alloc),
-        in_flight: Vec::new(alloc),
-    };
-    let walks = vec![in alloc; vec![in alloc; first, second]?, Vec::new(alloc)]?;
+    let mut walks = Vec::new(alloc);
+    walks.push(two_walks(alloc)?)?;
+    walks.push(Vec::new(alloc))?;
     let text = trace_text(alloc, &walks)?;
     assert_eq!(rt;
         text.as_str(),
@@ -109,41 +139,40 @@ fn topology(rt: &impl Abort, alloc: Global, switches: u16) -> Result<Topology, T
     Topology::build(alloc, &lines)
 }
 
-fn row(alloc: Global, pattern: Pattern, priority: u16, list: &[Action]) -> Result<Row, AllocError> {
+// One row for a port of a switch.
+fn add_port(
+    alloc: Global,
+    ports: &mut PortLists,
+    (sw, pt): End,
+    (pattern, priority): (Pattern, u16),
+    list: &[Action],
+) -> Result<(), AllocError> {
     let mut actions = Actions::new(alloc);
     for action in list {
         actions.push(*action)?;
     }
-    Ok(Row {
+    let mut rows = RowList::new(alloc);
+    rows.push(Row {
         pattern,
         priority,
         actions,
-    })
-}
-
-// A port of a switch with this row.
-fn port(alloc: Global, (sw, pt): End, row: Row) -> Result<PortRows, AllocError> {
-    let mut rows = RowList::new(alloc);
-    rows.push(row)?;
-    Ok(PortRows {
+    })?;
+    ports.push(PortRows {
         sw,
         pt,
         kind: PortKind::Edge,
         rows,
-    })
+    })?;
+    Ok(())
 }
 
-fn version(alloc: Global, band: Band, list: Vec<PortRows>) -> Result<Version, AllocError> {
-    let mut ports = PortLists::new(alloc);
-    for port in list {
-        ports.push(port)?;
-    }
+fn version(band: Band, ports: PortLists) -> Version {
     let rows = Rows {
         stamp: 1,
         band,
         ports,
     };
-    Ok(Version::new(Pol::Filter(Pred::One), rows))
+    Version::new(Pol::Filter(Pred::One), rows)
 }
 
 // The pattern of a port, for packets with this number as dl_vlan.
@@ -155,18 +184,20 @@ fn at(port: u16, vlan: u16) -> Pattern {
     }
 }
 
-#[test]
-fn rules(rt: HostRuntime) -> Result<(), Fail> {
-    let alloc = rt.alloc();
-    let two = topology(&rt, alloc, 2)?;
+// Rows at two switches that put a stamp on and take it off.
+fn stamped(alloc: Global) -> Result<Version, AllocError> {
+    let mut ports = PortLists::new(alloc);
     let sends = [Action::SetVlanVid(1), Action::Output(2)];
+    add_port(alloc, &mut ports, (1, 1), (at(1, 65535), 36000), &sends)?;
+    add_port(alloc, &mut ports, (1, 2), (at(2, 1), 56000), &[])?;
     let leaves = [Action::StripVlan, Action::Output(2)];
-    let high = vec![in alloc;
-        port(alloc, (1, 1), row(alloc, at(1, 65535), 36000, &sends)?)?,
-        port(alloc, (1, 2), row(alloc, at(2, 1), 56000, &[])?)?,
-        port(alloc, (2, 1), row(alloc, at(1, 1), 56000, &leaves)?)?,
-        port(alloc, (2, 2), row(alloc, at(2, 65535), 36000, &[])?)?,
-    ]?;
+    add_port(alloc, &mut ports, (2, 1), (at(1, 1), 56000), &leaves)?;
+    add_port(alloc, &mut ports, (2, 2), (at(2, 65535), 36000), &[])?;
+    Ok(version(Band::High, ports))
+}
+
+// One row that asks for web requests and changes them.
+fn web(alloc: Global) -> Result<Version, AllocError> {
     let sets = [
         Action::Output(2),
         Action::SetDlDst(5),
@@ -179,11 +210,23 @@ fn rules(rt: HostRuntime) -> Result<(), Fail> {
         tp_dst: Some(80),
         ..at(1, 65535)
     };
-    let low = vec![in alloc; port(alloc, (2, 1), row(alloc, tcp, 16000, &sets)?)?]?;
-    let versions = vec![in alloc;
-        version(alloc, Band::High, high)?,
-        version(alloc, Band::Low, low)?,
-    ]?;
+    let mut ports = PortLists::new(alloc);
+    add_port(alloc, &mut ports, (2, 1), (tcp, 16000), &sets)?;
+    Ok(version(Band::Low, ports))
+}
+
+fn versions(alloc: Global) -> Result<Vec<Version>, AllocError> {
+    let mut versions = Vec::new(alloc);
+    versions.push(stamped(alloc)?)?;
+    versions.push(web(alloc)?)?;
+    Ok(versions)
+}
+
+#[test]
+fn rules(rt: HostRuntime) -> Result<(), Fail> {
+    let alloc = rt.alloc();
+    let two = topology(&rt, alloc, 2)?;
+    let versions = versions(alloc)?;
     let text = rules_text(alloc, &versions, &two)?;
     assert_eq!(rt;
         text.as_str(),
@@ -227,9 +270,57 @@ fn faults_of_documents(rt: HostRuntime) -> Result<(), Fail> {
     Ok(())
 }
 
+// Whether a fault has this line.
+fn tells(alloc: Global, fault: &Fault, line: &str) -> Result<bool, Fail> {
+    let text = fault_text(alloc, fault)?;
+    Ok(text.as_str() == line)
+}
+
+fn of_compiler(fault: CompileFault) -> Fault {
+    Fault::Compile { policy: 1, fault }
+}
+
+fn of_rows(fault: EmitFault) -> Fault {
+    Fault::Emit { policy: 1, fault }
+}
+
 #[test]
-fn faults_of_policies(rt: HostRuntime) -> Result<(), Fail> {
-    let policy = 1;
+fn faults_of_the_compiler(rt: HostRuntime) -> Result<(), Fail> {
+    let alloc = rt.alloc();
+    let dup = of_compiler(CompileFault::Dup);
+    assert!(rt; tells(alloc, &dup, "nkctl: policy 1: 20 Dup\n")?);
+    let switch = of_compiler(CompileFault::SetsSwitch);
+    assert!(rt; tells(alloc, &switch, "nkctl: policy 1: 21 SetsSwitch\n")?);
+    let kind = of_compiler(CompileFault::SetsType);
+    assert!(rt; tells(alloc, &kind, "nkctl: policy 1: 22 SetsType\n")?);
+    Ok(())
+}
+
+#[test]
+fn a_star_too_deep(rt: HostRuntime) -> Result<(), Fail> {
+    let packet = packet((1, 2), 1);
+    let deep = of_compiler(CompileFault::StarDeep {
+        packet,
+        output: packet,
+    });
+    let line =
+        "nkctl: policy 1: 23 StarDeep 1:2 ethTyp=0x0800 ipProto=0 ethSrc=00:00:00:00:00:00 ethDst=00:00:00:00:00:01 ip4Src=0.0.0.0 ip4Dst=0.0.0.0 tcpSrcPort=0 tcpDstPort=0 to 1:2 ethTyp=0x0800 ipProto=0 ethSrc=00:00:00:00:00:00 ethDst=00:00:00:00:00:01 ip4Src=0.0.0.0 ip4Dst=0.0.0.0 tcpSrcPort=0 tcpDstPort=0\n";
+    assert!(rt; tells(rt.alloc(), &deep, line)?);
+    Ok(())
+}
+
+#[test]
+fn an_address_unguarded(rt: HostRuntime) -> Result<(), Fail> {
+    let packet = packet((1, 2), 1);
+    let unguarded = of_compiler(CompileFault::Unguarded { packet });
+    let line =
+        "nkctl: policy 1: 24 Unguarded 1:2 ethTyp=0x0800 ipProto=0 ethSrc=00:00:00:00:00:00 ethDst=00:00:00:00:00:01 ip4Src=0.0.0.0 ip4Dst=0.0.0.0 tcpSrcPort=0 tcpDstPort=0\n";
+    assert!(rt; tells(rt.alloc(), &unguarded, line)?);
+    Ok(())
+}
+
+#[test]
+fn copies_that_no_list_makes(rt: HostRuntime) -> Result<(), Fail> {
     let a = FieldSet {
         out: 2,
         field: Field::EthSrc,
@@ -238,85 +329,45 @@ fn faults_of_policies(rt: HostRuntime) -> Result<(), Fail> {
         out: 3,
         field: Field::EthDst,
     };
-    let packet = packet((1, 2), 1);
-    let deep = CompileFault::StarDeep {
-        packet,
-        output: packet,
-    };
-    for (fault, line) in [
-        (
-            Fault::Compile {
-                policy,
-                fault: CompileFault::Dup,
-            },
-            "nkctl: policy 1: 20 Dup\n",
-        ),
-        (
-            Fault::Compile {
-                policy,
-                fault: CompileFault::SetsSwitch,
-            },
-            "nkctl: policy 1: 21 SetsSwitch\n",
-        ),
-        (
-            Fault::Compile {
-                policy,
-                fault: CompileFault::SetsType,
-            },
-            "nkctl: policy 1: 22 SetsType\n",
-        ),
-        (
-            Fault::Compile {
-                policy,
-                fault: deep,
-            },
-            "nkctl: policy 1: 23 StarDeep 1:2 ethTyp=0x0800 ipProto=0 ethSrc=00:00:00:00:00:00 ethDst=00:00:00:00:00:01 ip4Src=0.0.0.0 ip4Dst=0.0.0.0 tcpSrcPort=0 tcpDstPort=0 to 1:2 ethTyp=0x0800 ipProto=0 ethSrc=00:00:00:00:00:00 ethDst=00:00:00:00:00:01 ip4Src=0.0.0.0 ip4Dst=0.0.0.0 tcpSrcPort=0 tcpDstPort=0\n",
-        ),
-        (
-            Fault::Compile {
-                policy,
-                fault: CompileFault::Unguarded { packet },
-            },
-            "nkctl: policy 1: 24 Unguarded 1:2 ethTyp=0x0800 ipProto=0 ethSrc=00:00:00:00:00:00 ethDst=00:00:00:00:00:01 ip4Src=0.0.0.0 ip4Dst=0.0.0.0 tcpSrcPort=0 tcpDstPort=0\n",
-        ),
-        (
-            Fault::Emit {
-                policy,
-                fault: EmitFault::Unordered { sw: 1, pt: 1, a, b },
-            },
-            "nkctl: policy 1 switch 1 port 1: 25 Unordered out 2 sets ethSrc, out 3 sets ethDst\n",
-        ),
-        (
-            Fault::Emit {
-                policy,
-                fault: EmitFault::TooManyRows { sw: 1, pt: 4 },
-            },
-            "nkctl: policy 1 switch 1 port 4: 26 TooManyRows\n",
-        ),
-        (
-            Fault::Emit {
-                policy,
-                fault: EmitFault::TooManySwitchRows { sw: 3 },
-            },
-            "nkctl: policy 1 switch 3: 26 TooManyRows\n",
-        ),
-        (
-            Fault::Emit {
-                policy,
-                fault: EmitFault::TooManyActions { sw: 1, pt: 4 },
-            },
-            "nkctl: policy 1 switch 1 port 4: 27 TooManyActions\n",
-        ),
-        (Fault::Read, "nkctl: read fault\n"),
-        (Fault::Net, "nkctl: net fault\n"),
-        (Fault::NoThread, "nkctl: no thread\n"),
-        (
-            Fault::Usage,
-            "usage: nkctl rules|trace|simulate|run|generate N\n",
-        ),
-    ] {
-        let text = fault_text(rt.alloc(), &fault)?;
-        assert_eq!(rt; text.as_str(), line);
-    }
+    let fault = of_rows(EmitFault::Unordered { sw: 1, pt: 1, a, b });
+    let line =
+        "nkctl: policy 1 switch 1 port 1: 25 Unordered out 2 sets ethSrc, out 3 sets ethDst\n";
+    assert!(rt; tells(rt.alloc(), &fault, line)?);
+    Ok(())
+}
+
+#[test]
+fn rows_beyond_limits(rt: HostRuntime) -> Result<(), Fail> {
+    let alloc = rt.alloc();
+    let (sw, pt) = (1, 4);
+    let port = of_rows(EmitFault::TooManyRows { sw, pt });
+    assert!(rt;
+        tells(
+            alloc,
+            &port,
+            "nkctl: policy 1 switch 1 port 4: 26 TooManyRows\n"
+        )?
+    );
+    let switch = of_rows(EmitFault::TooManySwitchRows { sw: 3 });
+    assert!(rt; tells(alloc, &switch, "nkctl: policy 1 switch 3: 26 TooManyRows\n")?);
+    let actions = of_rows(EmitFault::TooManyActions { sw, pt });
+    assert!(rt;
+        tells(
+            alloc,
+            &actions,
+            "nkctl: policy 1 switch 1 port 4: 27 TooManyActions\n"
+        )?
+    );
+    Ok(())
+}
+
+#[test]
+fn faults_of_the_program(rt: HostRuntime) -> Result<(), Fail> {
+    let alloc = rt.alloc();
+    assert!(rt; tells(alloc, &Fault::Read, "nkctl: read fault\n")?);
+    assert!(rt; tells(alloc, &Fault::Net, "nkctl: net fault\n")?);
+    assert!(rt; tells(alloc, &Fault::NoThread, "nkctl: no thread\n")?);
+    let usage = "usage: nkctl rules|trace|simulate|run|generate N\n";
+    assert!(rt; tells(alloc, &Fault::Usage, usage)?);
     Ok(())
 }
