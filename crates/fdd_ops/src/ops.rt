@@ -61,7 +61,10 @@ pub fn union(alloc: Global, a: &Fdd, b: &Fdd) -> Result<Fdd, AllocError>
     Ok(Fdd::new(root))
 }
 
-/// The first diagram where a literal holds, and else the second.
+/// The diagram that tests a literal (ICFP 2015, section 3): the first diagram where it holds, and else the second.
+///
+/// The second one is kept as it stands where it can be, so it has to be normal. The literal and the two diagrams name
+/// at most 4,000 literals together. The only error is want of memory.
 pub fn choice(alloc: Global, l: Lit, a: &Fdd, b: Fdd) -> Result<Fdd, AllocError>
     requires few { IsFew (trees.Node l (tree_of a.now) (tree_of b)) }
     requires normal { IsNormal (tree_of b) }
