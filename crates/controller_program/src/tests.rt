@@ -178,6 +178,28 @@ fn lists_rules(rt: HostRuntime) -> Result<(), Fail> {
 }
 
 #[test]
+fn lists_rules_of_three_ports(rt: HostRuntime) -> Result<(), Fail> {
+    let alloc = rt.alloc();
+    let front = "policy 1 stamp 1 band high\nswitch 1\n36000 in=1 vlan=none";
+    let back = "36000 in=2 vlan=none : drop\n36000 in=3 vlan=none : drop\n";
+    for (policy, lines) in [
+        (
+            "pt=1; (pt:=2 + ethDst:=5; pt:=3)",
+            " : output 2, set ethDst 00:00:00:00:00:05, output 3\n",
+        ),
+        (
+            "ethSrc=9; pt=1; (ethSrc:=1; pt:=2 + ethDst:=2; pt:=3)",
+            " ethSrc=00:00:00:00:00:09 : set ethSrc 00:00:00:00:00:01, output 2, set ethSrc 00:00:00:00:00:09, set ethDst 00:00:00:00:00:02, output 3\n35999 in=1 vlan=none : drop\n",
+        ),
+    ] {
+        let text = format!(in alloc; "{front}{lines}{back}")?;
+        let document = document(alloc, THREE, policy)?;
+        prints(&rt, "rules", &document, (Status::Done, &text))?;
+    }
+    Ok(())
+}
+
+#[test]
 fn stamps_go_round(rt: HostRuntime) -> Result<(), Fail> {
     prints(
         &rt,
