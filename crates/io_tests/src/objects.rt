@@ -1,5 +1,5 @@
 // Reading and writing through the traits, in memory and over a reader and a writer.
-use crate::{
+use outside_io::{
     Failed, MemorySink, MemorySource, ReadError, Sink, Source, StdSink, StdSource, read_up_to,
     write_all,
 };
