@@ -14,7 +14,7 @@ use Rattle.nk_values.specs.Trails.{Trail, start}
 use Rattle.nk_syntax.specs.Terms.{Term, Filter, One}
 use Rattle.history_meaning.specs.Plain.{HasResult, IsPlain}
 use Rattle.topology_model.specs.Layouts.{Layout, place_of, wiring}
-use Rattle.packet_tracer.specs.Means.{Answers, FixesPort, PortMeans, RowsMean, port_pattern, port_place, port_tag, sent_as, sent_packet, standing, top_of}
+use Rattle.policy_rows.specs.Means.{Answers, FixesPort, PortMeans, RowsMean, port_pattern, port_place, port_tag, sent_as, sent_packet, standing, top_of}
 
 abbrev pub keep : Term
 keep = Filter One

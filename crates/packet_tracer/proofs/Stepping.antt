@@ -17,7 +17,7 @@ use Rattle.topology_model.proofs.Ranges.{edge_test, test_edge}
 use Rattle.topology_model.proofs.Wires.{joins}
 use Rattle.packet_tracer.specs.declared.flight.Flight.{Flight}
 use Rattle.packet_tracer.specs.Hops.{arriving, ended, carried, next_flight, ends_of, flights_of, all_ends, all_flights}
-use Rattle.packet_tracer.specs.Means.{Answers, standing, sent_packet, sent_as}
+use Rattle.policy_rows.specs.Means.{Answers, standing, sent_packet, sent_as}
 use Rattle.packet_tracer.proofs.Bare.{from-filter, in-filter}
 use Rattle.packet_tracer.proofs.Links.{leave, from-leave, to-leave, from-hop, to-hop}
 

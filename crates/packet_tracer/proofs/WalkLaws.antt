@@ -18,7 +18,7 @@ use Rattle.topology_model.specs.Wired.{IsSound}
 use Rattle.topology_model.proofs.Ranges.{edges_apart}
 use Rattle.packet_tracer.specs.declared.flight.Flight.{Flight}
 use Rattle.packet_tracer.specs.Hops.{arriving, next_flight, flights_of, all_ends, all_flights}
-use Rattle.packet_tracer.specs.Means.{Answers, RowsMean, standing, sent_packet}
+use Rattle.policy_rows.specs.Means.{Answers, RowsMean, standing, sent_packet}
 use Rattle.packet_tracer.specs.Turns.{rows_at, sent_by, sent_on, ends_at, flights_at, flights_after, ends_after, entered}
 use Rattle.packet_tracer.specs.Walks.{IsWalk}
 use Rattle.packet_tracer.proofs.Links.{leave}

@@ -11,7 +11,7 @@ use Rattle.nk_values.specs.Trails.{Trail, doubled, renewed}
 use Rattle.history_meaning.specs.Network.{Place}
 use Rattle.topology_model.specs.Layouts.{Layout, far_end, is_edge}
 use Rattle.packet_tracer.specs.declared.flight.Flight.{Flight}
-use Rattle.packet_tracer.specs.Means.{standing, incoming, sent_packet}
+use Rattle.policy_rows.specs.Means.{standing, incoming, sent_packet}
 
 -- `dup; p`: the history when p has made q of its newest packet
 abbrev pub ended : Trail → Packet → Trail

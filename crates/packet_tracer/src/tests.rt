@@ -4,7 +4,7 @@ ghost use Rattle.nk_values.specs.declared.row.Row.{Row};
 ghost use Rattle.nk_values.specs.Members.{IsIn};
 ghost use Rattle.nk_values.specs.Changes.{row_of};
 ghost use Rattle.nk_syntax.specs.Terms.{Filter, One};
-ghost use Rattle.packet_tracer.specs.Means.{RowsMean};
+ghost use Rattle.policy_rows.specs.Means.{RowsMean};
 
 use crate::flight::{Flight, Hopped, Walk};
 use crate::hopping::hop;

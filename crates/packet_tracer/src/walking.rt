@@ -7,7 +7,7 @@ ghost use Rattle.nk_values.specs.Tables.{first};
 ghost use Rattle.nk_syntax.specs.Terms.{Term};
 ghost use Rattle.topology_model.specs.Layouts.{wiring};
 ghost use Rattle.packet_tracer.specs.declared.flight.Flight.{Flight};
-ghost use Rattle.packet_tracer.specs.Means.{RowsMean, standing, port_place};
+ghost use Rattle.policy_rows.specs.Means.{RowsMean, standing, port_place};
 ghost use Rattle.packet_tracer.specs.Turns.{rows_at, sent_by, ends_at, flights_at, ends_after, flights_after};
 ghost use Rattle.packet_tracer.specs.Walks.{IsWalk};
 

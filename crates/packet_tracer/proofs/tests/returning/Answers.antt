@@ -7,7 +7,7 @@ use Rattle.nk_values.specs.declared.rows.Band.TheVariants.{High}
 use Rattle.nk_values.specs.declared.rows.PortKind.TheVariants.{Edge}
 use Rattle.nk_values.specs.declared.rows.PortRows.{PortRows}
 use Rattle.nk_values.specs.Patterns.{any}
-use Rattle.packet_tracer.specs.Means.{RowsMean}
+use Rattle.policy_rows.specs.Means.{RowsMean}
 use Rattle.packet_tracer.proofs.Alone.{keep, alone, row, port, alone_means}
 use Rattle.packet_tracer.proofs.tests.returning.Goals as goal
 
