@@ -7,7 +7,7 @@ ghost use Rattle.flow_table.specs.Changed.{IsKept, HasOne, IsModified, AreModifi
 
 use crate::meant::{is_meant, is_other};
 use crate::table::ChangeError;
-use nk_values::{FlowMod, Pattern, Row};
+use nk_values::{Duplicate, FlowMod, Pattern, Row};
 use std::alloc::{AllocError, Global};
 
 // Puts a row in the place of the one with its pattern and priority, or adds it.

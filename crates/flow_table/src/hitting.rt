@@ -2,7 +2,7 @@
 ghost use Rattle.std.specs.Prelude.{◌≡◌};
 ghost use Rattle.nk_values.specs.Patterns.{fits, covers, hits, hits_frame, hits_network, vlan_number};
 
-use nk_values::{Header, Pattern, Prefix, Tag};
+use nk_values::{Header, Pattern, Prefix, Tag, UNTAGGED};
 
 /// Whether a packet that came in by this port, with this header and tag, hits the pattern
 /// (OpenFlow 1.0.0, 3.4). Its VLAN priority and type of service count as 0.
@@ -38,7 +38,7 @@ fn hits_network(pattern: &Pattern, header: &Header) -> bool
 fn vlan_number(tag: Tag) -> u16
     ensures { result ≡ vlan_number tag }
 {
-    tag.id().unwrap_or(65535)
+    tag.id().unwrap_or(UNTAGGED)
 }
 
 // Whether the number is the fixed one, if one is fixed.

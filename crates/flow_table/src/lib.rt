@@ -1,16 +1,12 @@
-// Flow tables: which row acts on a packet, what it sends, and how rows change.
+//! Flow tables: which row acts on a packet, what it sends, and how rows change (OpenFlow 1.0.0, 3.4 and 4.6).
 #![tactic(auto)]
 
-pub mod acting;
-#[cfg(test)]
-mod change_tests;
+mod acting;
 mod changing;
-pub mod hitting;
-pub mod meant;
-pub mod narrowing;
-pub mod table;
-#[cfg(test)]
-mod tests;
+mod hitting;
+mod meant;
+mod narrowing;
+mod table;
 
 pub use acting::act;
 pub use hitting::hits;

@@ -12,7 +12,7 @@ use std::marker::Model;
 
 /// Rows, no two of one pattern and priority, and how many there may be. Clauses see the rows as a
 /// list, of which they read what is in it and how long it is.
-#[derive(Debug, Drop)]
+#[derive(Drop)]
 pub struct Table {
     capacity: usize,
     rows: Vec<Row>,

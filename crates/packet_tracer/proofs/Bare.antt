@@ -13,7 +13,8 @@ use Rattle.history_meaning.specs.Laws.{IsFlat, AreFlat}
 use Rattle.history_meaning.specs.Meaning.{meets, den, union, chain, times, up_to, IsResult}
 use Rattle.history_meaning.specs.Plain.{HasResult, IsSettable, IsBare, AreBare}
 use Rattle.history_meaning.proofs.Local.{den-flat}
-use Rattle.packet_tracer.proofs.Runs.{only, in-map, from-map}
+use Rattle.policy_rows.proofs.Images.{in-map, from-map}
+use Rattle.packet_tracer.proofs.Runs.{only}
 
 mutual
   flat : (p : Term) → IsBare p → IsFlat p

@@ -1,4 +1,3 @@
-pub mod Alone
 pub mod Bare
 pub mod FutureLaws
 pub mod HopLaws

@@ -1,5 +1,4 @@
 pub mod Hops
 pub mod Laws
-pub mod Means
 pub mod Turns
 pub mod Walks

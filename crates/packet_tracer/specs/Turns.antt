@@ -1,5 +1,5 @@
 -- The way of a copy by the rows of each port, turn by turn.
-use Rattle.std.specs.Prelude.{ℕ, zero, suc, List, [], ◌∷◌, ◌++◌, Option, Some, None, if◌then◌else◌}
+use Rattle.std.specs.Prelude.{ℕ, zero, suc, List, [], ◌∷◌, ◌++◌, Option, Some, None}
 use Rattle.std.specs.List.{flat_map}
 use Rattle.nk_values.specs.declared.packet.Packet.{Packet}
 use Rattle.nk_values.specs.declared.row.Row.{Row}
@@ -9,16 +9,10 @@ use Rattle.nk_values.specs.Acts.{acted}
 use Rattle.nk_values.specs.Patterns.{Incoming}
 use Rattle.nk_values.specs.Tables.{first}
 use Rattle.nk_values.specs.Trails.{Trail, start}
-use Rattle.history_meaning.specs.Network.{Place}
-use Rattle.topology_model.specs.Layouts.{Layout, same_place}
+use Rattle.topology_model.specs.Layouts.{Layout}
 use Rattle.packet_tracer.specs.declared.flight.Flight.{Flight}
 use Rattle.packet_tracer.specs.Hops.{arriving, all_ends, all_flights}
-use Rattle.packet_tracer.specs.Means.{standing, port_place}
-
--- the rows of a port, none where it has no list
-abbrev pub rows_at : List PortRows → Place → List Row
-rows_at [] a = []
-rows_at (port ∷ ports) a = if same_place (port_place port) a then port.rows else rows_at ports a
+use Rattle.policy_rows.specs.Means.{standing, rows_at}
 
 -- what a row sends, if there is one
 abbrev pub sent_by : Option Row → Incoming → List Sent

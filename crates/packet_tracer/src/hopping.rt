@@ -1,5 +1,5 @@
 // One hop.
-ghost use Rattle.std.specs.Prelude.{◌≡◌, ◌++◌, ◌<◌, ◌^◌, ◌-◌, ◌+◌, List, IfOk, OnOk};
+ghost use Rattle.std.specs.Prelude.{◌≡◌, ◌++◌, IfOk, OnOk};
 ghost use Rattle.nk_values.specs.declared.sent.Sent.{Sent};
 ghost use Rattle.nk_values.specs.Packets.{IsInRange};
 ghost use Rattle.nk_values.specs.Tables.{Handles};
@@ -14,7 +14,8 @@ use topology_model::Topology;
 
 /// One hop of a copy through the switch at which it stands: the row that acts on it sends copies, of which
 /// those at edge ports are finished and those at linked ports stand at the far end, in the order in which
-/// they are sent. Each hop adds two packets to a history, as `dup; p; dup; t` does (POPL 2014, section 2).
+/// they are sent. Each hop adds two packets to a history, as `dup; p; dup; t` does (POPL 2014, section 2). The
+/// count of hops stops at 2^64 - 1.
 pub fn hop(
     alloc: Global,
     table: &Table,
@@ -23,7 +24,6 @@ pub fn hop(
 ) -> Result<Hopped, AllocError>
     requires in_range { IsInRange flight.now.history.newest }
     requires no_tie { NoTie table.now.rows (arriving flight.now) }
-    requires hops { flight.now.hops < 2 ^ 64 - 1 }
     ensures { IfOk result (λ h. IsHop table.now.rows topology.now flight.now h.finished.items h.flights.items) }
 {
     let packet = flight.history.newest();
@@ -57,8 +57,7 @@ pub fn outcomes(
     flight: &Flight,
     sent: &[Sent],
 ) -> Result<Hopped, AllocError>
-    requires sw { flight.now.history.newest.sw ≡ sw }
-    requires hops { flight.now.hops < 2 ^ 64 - 1 }
+    requires { flight.now.history.newest.sw ≡ sw }
     ensures finished { IfOk result (λ h. h.finished.items ≡ all_ends topology.now flight.now sent.now) }
     ensures flights { IfOk result (λ h. h.flights.items ≡ all_flights topology.now flight.now sent.now) }
 {
@@ -105,8 +104,7 @@ fn put_flight(
     one: Sent,
     flights: &mut Vec<Flight>,
 ) -> Result<(), AllocError>
-    requires sw { flight.now.history.newest.sw ≡ sw }
-    requires hops { flight.now.hops < 2 ^ 64 - 1 }
+    requires { flight.now.history.newest.sw ≡ sw }
     ensures { OnOk result (flights.new.items ≡ flights.old.items ++ flights_of topology.now flight.now one) }
 {
     if let Some(far) = topology.far_end(sw, one.port) {
@@ -118,7 +116,7 @@ fn put_flight(
         flights.push(Flight {
             history: carried(alloc, &flight.history, packet, far)?,
             tag: one.tag,
-            hops: flight.hops + 1,
+            hops: flight.hops.saturating_add(1),
             arrival: flight.arrival,
         })?;
     }

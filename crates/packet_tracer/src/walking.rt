@@ -1,14 +1,13 @@
 // The way of a packet through a network, by rows.
-ghost use Rattle.std.specs.Prelude.{◌≡◌, ◌++◌, ◌<◌, ◌^◌, ◌-◌, [], IfOk, MatchOption, map, option_map};
+ghost use Rattle.std.specs.Prelude.{◌≡◌, ◌++◌, ◌<◌, [], IfOk, MatchOption, map, option_map};
 ghost use Rattle.std.specs.List.{flat_map};
 ghost use Rattle.nk_values.specs.Members.{IsIn};
 ghost use Rattle.nk_values.specs.Packets.{IsWellShaped};
 ghost use Rattle.nk_values.specs.Tables.{first};
 ghost use Rattle.nk_syntax.specs.Terms.{Term};
 ghost use Rattle.topology_model.specs.Layouts.{wiring};
-ghost use Rattle.packet_tracer.specs.declared.flight.Flight.{Flight};
-ghost use Rattle.packet_tracer.specs.Means.{RowsMean, standing, port_place};
-ghost use Rattle.packet_tracer.specs.Turns.{rows_at, sent_by, ends_at, flights_at, ends_after, flights_after};
+ghost use Rattle.policy_rows.specs.Means.{RowsMean, standing, port_place, rows_at};
+ghost use Rattle.packet_tracer.specs.Turns.{sent_by, ends_at, flights_at, ends_after, flights_after};
 ghost use Rattle.packet_tracer.specs.Walks.{IsWalk};
 
 use crate::flight::{Flight, Hopped, Walk};
@@ -57,15 +56,14 @@ pub fn walk(
     })
 }
 
-// What so many hops make of a copy that took none. It stops where none is in flight.
-pub(crate) fn turns(
+// What so many hops make of a copy. It stops where none is in flight.
+fn turns(
     alloc: Global,
     ports: &[PortRows],
     topology: &Topology,
     flight: Flight,
     hops: u64,
 ) -> Result<Hopped, AllocError>
-    requires { flight.hops ≡ 0 }
     ensures finished { IfOk result (λ h. h.finished.items ≡ ends_after ports.now topology.now flight hops) }
     ensures flights { IfOk result (λ h. h.flights.items ≡ flights_after ports.now topology.now flight hops) }
 {
@@ -100,7 +98,6 @@ fn turn(
     flights: &[Flight],
     finished: &mut Vec<History>,
 ) -> Result<Vec<Flight>, AllocError>
-    requires { (f : Flight) → IsIn flights.now f → f.hops < 2 ^ 64 - 1 }
     ensures finished { IfOk result (λ _. finished.new.items ≡ finished.old.items ++ flat_map (ends_at ports.now topology.now) flights.now) }
     ensures flights { IfOk result (λ v. v.items ≡ flat_map (flights_at ports.now topology.now) flights.now) }
 {
@@ -120,7 +117,6 @@ fn step(
     topology: &Topology,
     flight: &Flight,
 ) -> Result<Hopped, AllocError>
-    requires { flight.now.hops < 2 ^ 64 - 1 }
     ensures finished { IfOk result (λ h. h.finished.items ≡ ends_at ports.now topology.now flight.now) }
     ensures flights { IfOk result (λ h. h.flights.items ≡ flights_at ports.now topology.now flight.now) }
 {

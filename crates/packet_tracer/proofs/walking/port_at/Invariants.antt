@@ -1,6 +1,5 @@
 use Rattle.std.proofs.Common.{◌≡◌, drop}
-use Rattle.packet_tracer.specs.Means.{standing}
-use Rattle.packet_tracer.specs.Turns.{rows_at}
+use Rattle.policy_rows.specs.Means.{standing, rows_at}
 use Rattle.packet_tracer.proofs.walking.port_at.Given as goal
 
 abbrev pub invariant-loop-port : goal.invariant-loop-port

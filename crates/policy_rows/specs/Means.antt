@@ -20,7 +20,7 @@ use Rattle.nk_values.specs.Tags.{IsVlanId}
 use Rattle.nk_syntax.specs.Terms.{Term}
 use Rattle.history_meaning.specs.Network.{Place, Wiring}
 use Rattle.history_meaning.specs.Plain.{HasResult, IsPlain}
-use Rattle.topology_model.specs.Layouts.{Layout, place_of, is_linked, places_at, wiring}
+use Rattle.topology_model.specs.Layouts.{Layout, place_of, same_place, is_linked, places_at, wiring}
 
 -- the port at which a packet stands
 abbrev pub standing : Packet → Place
@@ -102,6 +102,11 @@ port_place port = place_of (port.sw, port.pt)
 
 abbrev pub port_of : PortRows → Place × PortKind
 port_of port = (port_place port, port.kind)
+
+-- the rows of a port, none where it has no list
+abbrev pub rows_at : List PortRows → Place → List Row
+rows_at [] a = []
+rows_at (port ∷ ports) a = if same_place (port_place port) a then port.rows else rows_at ports a
 
 -- The rows stand for a plain policy in this topology: there is one list for each declared port, in their order, and each stands for the policy at its port.
 pub record RowsMean (rows : Rows) (p : Term) (t : Layout) : Type 0 where

@@ -1,6 +1,6 @@
 // Modifications and deletions, on a table of two rows.
-use crate::narrowing::narrows;
-use crate::table::{ChangeError, Table};
+use flow_table::narrows;
+use flow_table::{ChangeError, Table};
 use nk_values::{Action, Actions, Command, FlowMod, Pattern, Prefix};
 use std::alloc::{AllocError, Global};
 use std::test::Fail;

@@ -1,7 +1,7 @@
 // Hits, look-ups, what is sent and what is changed, on small examples.
-use crate::acting::act;
-use crate::hitting::hits;
-use crate::table::{ChangeError, Table};
+use flow_table::act;
+use flow_table::hits;
+use flow_table::{ChangeError, Table};
 use nk_values::{Action, Actions, Command, FlowMod, Header, Pattern, Prefix, Sent, Tag};
 use std::alloc::{AllocError, Global};
 use std::test::Fail;
