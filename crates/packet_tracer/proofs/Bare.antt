@@ -11,7 +11,8 @@ use Rattle.nk_values.proofs.MemberLaws.{in-either, from-flat_map}
 use Rattle.nk_syntax.specs.Terms.{Term, Terms, Filter, Assign, Sum, Seq, Star, Dup, no_terms, term}
 use Rattle.history_meaning.specs.Laws.{IsFlat, AreFlat}
 use Rattle.history_meaning.specs.Meaning.{meets, den, union, chain, times, up_to, IsResult}
-use Rattle.history_meaning.specs.Plain.{HasResult, IsSettable, IsBare, AreBare}
+use Rattle.history_meaning.specs.Plain.{HasResult, IsBare, AreBare}
+use Rattle.nk_values.specs.Acts.{IsSettable}
 use Rattle.history_meaning.proofs.Local.{den-flat}
 use Rattle.policy_rows.proofs.Images.{in-map, from-map}
 use Rattle.packet_tracer.proofs.Runs.{only}

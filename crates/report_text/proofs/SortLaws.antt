@@ -12,7 +12,7 @@ use Rattle.std.specs.String.{string_cmp, string_cmp_total, string_eq, string_eq_
 use Rattle.nk_values.specs.Members.{IsIn, SameMembers}
 use Rattle.nk_values.specs.Trails.{Trail}
 use Rattle.topology_model.proofs.Ranges.{in-get_or}
-use Rattle.packet_tracer.proofs.Runs.{in-map, from-map}
+use Rattle.policy_rows.proofs.Images.{in-map, from-map}
 use Rattle.report_text.specs.Histories.{history_text}
 use Rattle.report_text.specs.Traces.{Ascends, AreLinesOf}
 

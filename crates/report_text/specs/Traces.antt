@@ -11,6 +11,12 @@ use Rattle.packet_tracer.specs.declared.flight.Walk.{Walk}
 use Rattle.report_text.specs.Histories.{history_text}
 use Rattle.report_text.specs.Values.{line}
 
+-- new is old with such a text behind it
+pub record Adds (IsText : List ℕ → Type 0) (old new : List ℕ) : Type 0 where
+  pub text : List ℕ
+  pub is : IsText text
+  pub all : new ≡ old ++ text
+
 -- each is less than the next, in byte order
 abbrev pub Ascends : List (List ℕ) → Type 0
 Ascends [] = Unit {0}

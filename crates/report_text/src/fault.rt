@@ -1,30 +1,5 @@
 // What goes wrong.
-use fdd_compile::CompileFault;
-use nk_values::EmitFault;
-
-/// A fault of a document's text.
-#[derive(Clone, Copy, Debug, PartialEq, Eq, Hash)]
-pub enum TextFault {
-    BadChar,
-    Unexpected,
-    UnknownName,
-    ValueRange,
-    NotPredicate,
-    TooDeep,
-    TooManyValues,
-    BadLine,
-    NoPolicy,
-    Limit,
-    StampRange,
-    TooFewStamps,
-    NotEdge,
-    DupSwitch,
-    UnknownSwitch,
-    UnknownPort,
-    PortUsedTwice,
-    TooMany,
-    NoEdge,
-}
+use nk_values::{CompileFault, EmitFault, TextFault};
 
 /// Why nkctl does not do what it was asked.
 #[derive(Clone, Copy, Debug, PartialEq, Eq)]

@@ -3,7 +3,7 @@ ghost use Rattle.std.specs.Prelude.{◌≡◌, ◌++◌, OnOk, IfOk, string_byte
 ghost use Rattle.report_text.specs.Histories.{changed, more_fields, braced, step_text, steps_text, path_text, history_text};
 
 use crate::text::Text;
-use crate::values::{HEADER_FIELDS, put_field, put_place};
+use crate::values::{put_field, put_place};
 use nk_values::{Field, History, Packet};
 use std::alloc::{AllocError, Global};
 
@@ -78,7 +78,7 @@ fn put_step(
 fn changed(alloc: Global, before: &Packet, packet: &Packet) -> Result<Vec<Field>, AllocError>
     ensures { IfOk result (λ v. v.items ≡ changed before.now packet.now) }
 {
-    HEADER_FIELDS
+    Field::HEADER
         .iter()
         .copied()
         .filter(|field| !(before.get(*field) == packet.get(*field)))

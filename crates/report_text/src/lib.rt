@@ -1,17 +1,15 @@
-// What nkctl prints: rows, traces, histories and faults.
+//! What nkctl prints: rows, traces, histories and faults.
 #![tactic(auto)]
 
-pub mod fault;
+mod fault;
 mod faults;
 mod histories;
 mod rules;
-#[cfg(test)]
-mod tests;
-pub mod text;
+mod text;
 mod traces;
 mod values;
 
-pub use fault::{Fault, TextFault};
+pub use fault::Fault;
 pub use faults::fault_text;
 pub use histories::history_text;
 pub use rules::rules_text;

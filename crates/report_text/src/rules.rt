@@ -5,9 +5,8 @@ ghost use Rattle.report_text.specs.Rules.{in_text, vlan_text, fixed_text, addres
 
 use crate::text::Text;
 use crate::values::{put_field, put_number, put_value};
-use nk_syntax::field_name;
-use nk_values::{Action, Band, Field, Pattern, PortRows, Prefix, Row, Rows};
-use packet_tracer::Version;
+use nk_values::{Action, Band, Field, Pattern, PortRows, Prefix, Row, Rows, UNTAGGED};
+use policy_rows::Version;
 use std::alloc::{AllocError, Global};
 use topology_model::{Site, Topology};
 
@@ -146,7 +145,7 @@ fn put_vlan(alloc: Global, out: &mut String, vlan: Option<u16>) -> Result<(), Al
 {
     match vlan {
         None => Ok(()),
-        Some(65535) => out.push_str(" vlan=none"),
+        Some(UNTAGGED) => out.push_str(" vlan=none"),
         Some(id) => {
             out.push_str(" vlan=")?;
             put_number(alloc, out, u64::from(id))
@@ -261,7 +260,7 @@ fn put_set(alloc: Global, out: &mut String, field: Field, number: u64) -> Result
     ensures { OnOk result (string_bytes out.new ≡ string_bytes out.old ++ set_text field number) }
 {
     out.push_str("set ")?;
-    out.push_str(field_name(field))?;
+    out.push_str(field.name())?;
     out.push_str(" ")?;
     put_value(alloc, out, field, number)
 }

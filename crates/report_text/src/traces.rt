@@ -4,14 +4,14 @@ ghost use Rattle.std.specs.List.{flat_map};
 ghost use Rattle.nk_values.specs.Members.{SameMembers};
 ghost use Rattle.report_text.specs.Values.{line};
 ghost use Rattle.report_text.specs.Histories.{history_text};
-ghost use Rattle.report_text.specs.Traces.{Ascends, AreLinesOf, IsPacketText, AreTexts, IsPolicyText, IsTraceText};
+ghost use Rattle.report_text.specs.Traces.{Adds, Ascends, AreLinesOf, IsPacketText, AreTexts, IsPolicyText, IsTraceText};
 
 use crate::histories::put_history;
 use crate::text::Text;
-use crate::values::put_number;
 use nk_values::History;
 use packet_tracer::Walk;
 use std::alloc::{AllocError, Global};
+use std::fmt::Write;
 
 /// What becomes of packets under policies: for each policy the walks of the packets, in order. A packet has a
 /// line `done` for each finished history, and then a line `open` for each copy in flight, sorted by bytes,
@@ -21,48 +21,43 @@ pub fn trace_text(alloc: Global, walks: &[Vec<Walk>]) -> Result<Text, AllocError
 {
     let mut out = String::new(alloc);
     for (before, walks) in walks.iter().enumerate() {
-        let text = policy_text(alloc, before as u64 + 1, walks)?;
-        out.push_str(&text)?;
+        put_policy(alloc, &mut out, before as u64 + 1, walks)?;
     }
     Ok(Text::new(out))
 }
 
-// The lines of a policy.
-fn policy_text(alloc: Global, policy: u64, walks: &[Walk]) -> Result<String, AllocError>
-    ensures { IfOk result (λ s. IsPolicyText policy walks.now (string_bytes s)) }
+// Puts the lines of a policy at the end.
+fn put_policy(
+    alloc: Global,
+    out: &mut String,
+    policy: u64,
+    walks: &[Walk],
+) -> Result<(), AllocError>
+    ensures { OnOk result (Adds (IsPolicyText policy walks.now) (string_bytes out.old) (string_bytes out.new)) }
 {
-    let packets = packets_text(alloc, walks)?;
-    let mut out = String::from_str(alloc, "policy ")?;
-    put_number(alloc, &mut out, policy)?;
-    out.push_str("\n")?;
-    out.push_str(&packets)?;
-    Ok(out)
+    write!(out, "policy {policy}\n")?;
+    put_packets(alloc, out, walks)
 }
 
-// The lines of packets.
-fn packets_text(alloc: Global, walks: &[Walk]) -> Result<String, AllocError>
-    ensures { IfOk result (λ s. AreTexts IsPacketText 0 walks.now (string_bytes s)) }
+// Puts the lines of packets at the end.
+fn put_packets(alloc: Global, out: &mut String, walks: &[Walk]) -> Result<(), AllocError>
+    ensures { OnOk result (Adds (AreTexts IsPacketText 0 walks.now) (string_bytes out.old) (string_bytes out.new)) }
 {
-    let mut out = String::new(alloc);
     for (before, walk) in walks.iter().enumerate() {
-        let text = packet_text(alloc, before as u64 + 1, walk)?;
-        out.push_str(&text)?;
+        put_packet(alloc, out, before as u64 + 1, walk)?;
     }
-    Ok(out)
+    Ok(())
 }
 
-// The lines of a packet.
-fn packet_text(alloc: Global, packet: u64, walk: &Walk) -> Result<String, AllocError>
-    ensures { IfOk result (λ s. IsPacketText packet walk.now (string_bytes s)) }
+// Puts the lines of a packet at the end.
+fn put_packet(alloc: Global, out: &mut String, packet: u64, walk: &Walk) -> Result<(), AllocError>
+    ensures { OnOk result (Adds (IsPacketText packet walk.now) (string_bytes out.old) (string_bytes out.new)) }
 {
     let done = lines(alloc, "done ", &walk.finished)?;
     let open = lines(alloc, "open ", &walk.in_flight)?;
-    let mut out = String::from_str(alloc, "packet ")?;
-    put_number(alloc, &mut out, packet)?;
-    out.push_str("\n")?;
-    put_lines(&mut out, &done)?;
-    put_lines(&mut out, &open)?;
-    Ok(out)
+    write!(out, "packet {packet}\n")?;
+    put_lines(out, &done)?;
+    put_lines(out, &open)
 }
 
 // The lines of histories, each once, in byte order.

@@ -1,22 +1,9 @@
 // The texts of numbers and fields.
 ghost use Rattle.std.specs.Prelude.{◌≡◌, ◌++◌, ◌<◌, ◌∷◌, [], OnOk, string_bytes, decimal};
-ghost use Rattle.report_text.specs.Values.{hex_digit, hex_byte, hex_half, colon_triple, mac_text, dotted_pair, ip_text, value_text, field_text, fields_text, packet_text, place_text, header_fields};
+ghost use Rattle.report_text.specs.Values.{hex_digit, hex_byte, hex_half, colon_triple, mac_text, dotted_pair, ip_text, value_text, field_text, fields_text, packet_text, place_text};
 
-use nk_syntax::field_name;
 use nk_values::{Field, Packet};
 use std::alloc::{AllocError, Global};
-
-/// The fields of a header, in field order.
-pub const HEADER_FIELDS: [Field; 8] = [
-    Field::EthTyp,
-    Field::IpProto,
-    Field::EthSrc,
-    Field::EthDst,
-    Field::Ip4Src,
-    Field::Ip4Dst,
-    Field::TcpSrcPort,
-    Field::TcpDstPort,
-];
 
 /// Puts a number in decimal at the end.
 pub fn put_number(alloc: Global, out: &mut String, number: u64) -> Result<(), AllocError>
@@ -117,7 +104,7 @@ pub fn put_field(
 ) -> Result<(), AllocError>
     ensures { OnOk result (string_bytes out.new ≡ string_bytes out.old ++ field_text field number) }
 {
-    out.push_str(field_name(field))?;
+    out.push_str(field.name())?;
     out.push_str("=")?;
     put_value(alloc, out, field, number)
 }
@@ -136,7 +123,7 @@ pub fn put_packet(alloc: Global, out: &mut String, packet: &Packet) -> Result<()
     ensures { OnOk result (string_bytes out.new ≡ string_bytes out.old ++ packet_text packet.now) }
 {
     put_place(alloc, out, packet.sw, packet.pt)?;
-    put_fields(alloc, out, packet, &HEADER_FIELDS)
+    put_fields(alloc, out, packet, &Field::HEADER)
 }
 
 // Puts fields with their numbers at the end, each behind a blank.

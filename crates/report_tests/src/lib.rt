@@ -1,0 +1,11 @@
+//! Tests of printed texts, whole.
+#![tactic(auto)]
+
+#[cfg(test)]
+mod faults;
+#[cfg(test)]
+mod histories;
+#[cfg(test)]
+mod rules;
+#[cfg(test)]
+mod traces;
