@@ -1,99 +1,119 @@
-#[cfg(test)]
-mod tests {
-    use super::*;
-    use openflow_wire::{Octets, spells, wire_len};
-    use std::test::Fail;
+// Sessions, message by message.
+use openflow_wire::{Message, Octets, wire_len};
+use session_core::{Move, Session, SessionFault, SessionState, echo_reply};
+use std::alloc::{AllocError, Global};
+use std::test::Fail;
 
-    fn features(rt: HostRuntime, datapath: u64) -> Result<Message, Fail> {
-        Ok(Message::FeaturesReply {
-            xid: 2,
-            datapath,
-            buffers: 0,
-            tables: 1,
-            capabilities: 1,
-            actions: 0x6fb,
-            ports: Octets::from_slice(rt.alloc(), &[])?,
-        })
-    }
+// What a session answers to the greeting with this version.
+fn greet(session: &mut Session, version: u8) -> Move {
+    session.take(&Message::Hello { version, xid: 1 })
+}
 
-    #[test]
-    fn comes_up(rt: HostRuntime) -> Result<(), Fail> {
-        let mut session = Session::new(2);
-        let reply = features(rt, 2)?;
-        let barrier = Message::BarrierReply { xid: 4 };
-        assert_eq!(rt; session.take(&reply), Move::Ignored);
-        assert_eq!(rt; session.take(&barrier), Move::Ignored);
-        assert_eq!(rt;
-            session.take(&Message::Hello { version: 4, xid: 1 }),
-            Move::Greeted
-        );
-        assert_eq!(rt;
-            session.take(&Message::Hello { version: 0, xid: 1 }),
-            Move::Ignored
-        );
-        assert_eq!(rt; session.take(&barrier), Move::Ignored);
-        assert_eq!(rt; session.take(&reply), Move::Up);
-        assert_eq!(rt; session.take(&features(rt, 3)?), Move::Ignored);
-        assert_eq!(rt; session.take(&barrier), Move::Barrier(4));
-        assert_eq!(rt;
-            session.take(&Message::BarrierRequest { xid: 4 }),
-            Move::Ignored
-        );
-        assert_eq!(rt; session.state(), SessionState::Up);
-        Ok(())
-    }
+// What a session answers to a features reply with this id.
+fn identify(alloc: Global, session: &mut Session, datapath: u64) -> Result<Move, AllocError> {
+    let reply = Message::FeaturesReply {
+        xid: 2,
+        datapath,
+        buffers: 0,
+        tables: 1,
+        capabilities: 1,
+        actions: 0x6fb,
+        ports: Octets::from_slice(alloc, &[])?,
+    };
+    Ok(session.take(&reply))
+}
 
-    #[test]
-    fn fails_for_ever(rt: HostRuntime) -> Result<(), Fail> {
-        let hello = Message::Hello { version: 1, xid: 1 };
-        let error = Message::Error {
-            xid: 5,
-            form: 3,
-            code: 0,
-            payload: Octets::from_slice(rt.alloc(), &[])?,
-        };
-        let mut session = Session::new(2);
-        let incompatible = Move::Failed(SessionFault::Incompatible);
-        assert_eq!(rt;
-            session.take(&Message::Hello { version: 0, xid: 1 }),
-            incompatible
-        );
-        assert_eq!(rt; session.take(&hello), incompatible);
-        assert_eq!(rt; session.take(&error), incompatible);
+// What a session answers to an error of type 3 and code 0.
+fn refuse(alloc: Global, session: &mut Session) -> Result<Move, AllocError> {
+    let error = Message::Error {
+        xid: 5,
+        form: 3,
+        code: 0,
+        payload: Octets::from_slice(alloc, &[])?,
+    };
+    Ok(session.take(&error))
+}
 
-        let mut session = Session::new(2);
-        let wrong = Move::Failed(SessionFault::WrongSwitch {
-            expected: 2,
-            got: 3,
-        });
-        assert_eq!(rt; session.take(&hello), Move::Greeted);
-        assert_eq!(rt; session.take(&features(rt, 3)?), wrong);
-        assert_eq!(rt; session.take(&features(rt, 2)?), wrong);
+// What a session answers to a barrier reply.
+fn bar(session: &mut Session) -> Move {
+    session.take(&Message::BarrierReply { xid: 4 })
+}
 
-        let mut session = Session::new(2);
-        let refused = Move::Failed(SessionFault::SwitchError { form: 3, code: 0 });
-        assert_eq!(rt; session.take(&hello), Move::Greeted);
-        assert_eq!(rt; session.take(&features(rt, 2)?), Move::Up);
-        assert_eq!(rt; session.take(&error), refused);
-        assert_eq!(rt; session.take(&Message::BarrierReply { xid: 4 }), refused);
-        Ok(())
-    }
+#[test]
+fn greets_before_it_is_known(rt: HostRuntime) -> Result<(), Fail> {
+    let mut session = Session::new(2);
+    assert_eq!(rt; identify(rt.alloc(), &mut session, 2)?, Move::Ignored);
+    assert_eq!(rt; bar(&mut session), Move::Ignored);
+    assert_eq!(rt; greet(&mut session, 4), Move::Greeted);
+    assert_eq!(rt; greet(&mut session, 0), Move::Ignored);
+    assert_eq!(rt; bar(&mut session), Move::Ignored);
+    assert_eq!(rt; session.state(), SessionState::Greeted);
+    Ok(())
+}
 
-    #[test]
-    fn answers_an_echo(rt: HostRuntime) -> Result<(), Fail> {
-        let request = Message::EchoRequest {
-            xid: 9,
-            payload: Octets::from_slice(rt.alloc(), &[0x61, 0x62])?,
-        };
-        let mut session = Session::new(2);
-        assert_eq!(rt; session.take(&request), Move::Echo);
-        assert_eq!(rt; session.state(), SessionState::Fresh);
-        let Some(reply) = echo_reply(rt.alloc(), &request)? else {
-            return Err("no reply".into());
-        };
-        assert_eq!(rt; wire_len(&reply), 10);
-        assert!(rt; spells(&[1, 3, 0, 0x0a, 0, 0, 0, 9, 0x61, 0x62], &reply));
-        assert!(rt; echo_reply(rt.alloc(), &reply)?.is_none());
-        Ok(())
-    }
+#[test]
+fn comes_up(rt: HostRuntime) -> Result<(), Fail> {
+    let mut session = Session::new(2);
+    assert_eq!(rt; greet(&mut session, 1), Move::Greeted);
+    assert_eq!(rt; identify(rt.alloc(), &mut session, 2)?, Move::Up);
+    assert_eq!(rt; identify(rt.alloc(), &mut session, 3)?, Move::Ignored);
+    assert_eq!(rt; bar(&mut session), Move::Barrier(4));
+    assert_eq!(rt;
+        session.take(&Message::BarrierRequest { xid: 4 }),
+        Move::Ignored
+    );
+    assert_eq!(rt; session.state(), SessionState::Up);
+    Ok(())
+}
+
+#[test]
+fn incompatible_for_ever(rt: HostRuntime) -> Result<(), Fail> {
+    let incompatible = Move::Failed(SessionFault::Incompatible);
+    let mut session = Session::new(2);
+    assert_eq!(rt; greet(&mut session, 0), incompatible);
+    assert_eq!(rt; greet(&mut session, 1), incompatible);
+    assert_eq!(rt; refuse(rt.alloc(), &mut session)?, incompatible);
+    Ok(())
+}
+
+#[test]
+fn wrong_for_ever(rt: HostRuntime) -> Result<(), Fail> {
+    let wrong = Move::Failed(SessionFault::WrongSwitch {
+        expected: 2,
+        got: 3,
+    });
+    let mut session = Session::new(2);
+    assert_eq!(rt; greet(&mut session, 1), Move::Greeted);
+    assert_eq!(rt; identify(rt.alloc(), &mut session, 3)?, wrong);
+    assert_eq!(rt; identify(rt.alloc(), &mut session, 2)?, wrong);
+    Ok(())
+}
+
+#[test]
+fn refused_for_ever(rt: HostRuntime) -> Result<(), Fail> {
+    let refused = Move::Failed(SessionFault::SwitchError { form: 3, code: 0 });
+    let mut session = Session::new(2);
+    assert_eq!(rt; greet(&mut session, 1), Move::Greeted);
+    assert_eq!(rt; identify(rt.alloc(), &mut session, 2)?, Move::Up);
+    assert_eq!(rt; refuse(rt.alloc(), &mut session)?, refused);
+    assert_eq!(rt; bar(&mut session), refused);
+    Ok(())
+}
+
+// What a fresh session answers to an echo request, and how long the reply is that is owed to it.
+fn echoed(alloc: Global) -> Result<(Move, Option<usize>), AllocError> {
+    let request = Message::EchoRequest {
+        xid: 9,
+        payload: Octets::from_slice(alloc, &[0x61, 0x62])?,
+    };
+    let answer = Session::new(2).take(&request);
+    let reply = echo_reply(alloc, &request)?;
+    Ok((answer, reply.as_ref().map(|reply| wire_len(reply))))
+}
+
+#[test]
+fn answers_an_echo(rt: HostRuntime) -> Result<(), Fail> {
+    assert_eq!(rt; echoed(rt.alloc())?, (Move::Echo, Some(10)));
+    assert!(rt; echo_reply(rt.alloc(), &Message::BarrierReply { xid: 4 })?.is_none());
+    Ok(())
 }
