@@ -1,7 +1,6 @@
 -- The outputs of a policy, and policies that flow tables can carry out.
 use Rattle.std.specs.Prelude.{◌≡◌}
-use Rattle.nk_values.specs.declared.field.Field.{Field}
-use Rattle.nk_values.specs.declared.field.Field.TheVariants.{Sw, EthTyp, IpProto}
+use Rattle.nk_values.specs.Acts.{IsSettable}
 use Rattle.nk_values.specs.declared.packet.Packet.{Packet}
 use Rattle.nk_values.specs.Packets.{IsWellShaped}
 use Rattle.nk_values.specs.Trails.{Trail, start}
@@ -13,13 +12,6 @@ pub record HasResult (p : Term) (pk q : Packet) : Type 0 where
   pub history : Trail
   pub is_result : IsResult p (start pk) history
   pub newest : history.newest ≡ q
-
--- a switch can set the field
-abbrev pub IsSettable : Field → Type 0
-IsSettable Sw = ⊥
-IsSettable EthTyp = ⊥
-IsSettable IpProto = ⊥
-IsSettable f = Unit {0}
 
 -- no `dup`, and only assignments that a switch can make
 abbrev mutual

@@ -2,21 +2,8 @@
 use Rattle.std.specs.Prelude.{ℕ, List, [], ◌++◌, codes}
 use Rattle.std.specs.Fmt.{decimal}
 use Rattle.nk_values.specs.declared.field.Field.{Field}
-use Rattle.nk_values.specs.declared.field.Field.TheVariants.{Sw, Pt, EthTyp, IpProto, EthSrc, EthDst, Ip4Src, Ip4Dst, TcpSrcPort, TcpDstPort}
+use Rattle.nk_values.specs.Names.{name_of}
 use Rattle.nk_syntax.specs.Terms.{Guard, Guards, One, Zero, Test, Or, And, Not, no_guards, guard, Term, Terms, Filter, Assign, Sum, Seq, Star, Dup, no_terms, term}
-
--- the name of a field
-abbrev pub name_of : Field → List ℕ
-name_of Sw = codes "sw"
-name_of Pt = codes "pt"
-name_of EthTyp = codes "ethTyp"
-name_of IpProto = codes "ipProto"
-name_of EthSrc = codes "ethSrc"
-name_of EthDst = codes "ethDst"
-name_of Ip4Src = codes "ip4Src"
-name_of Ip4Dst = codes "ip4Dst"
-name_of TcpSrcPort = codes "tcpSrcPort"
-name_of TcpDstPort = codes "tcpDstPort"
 
 -- in brackets
 abbrev pub bracketed : List ℕ → List ℕ

@@ -2,11 +2,11 @@
 ghost use Rattle.std.specs.Prelude.{◌≡◌, ◌++◌, OnOk, IfOk, map, string_bytes, decimal};
 ghost use Rattle.nk_syntax.specs.Views.{guard_of, guard_row, term_of, term_row};
 ghost use Rattle.nk_values.specs.Lits.{lit_field, lit_value};
-ghost use Rattle.nk_syntax.specs.Prints.{name_of, pair_text, guard_text, guards_text, term_text, terms_text};
+ghost use Rattle.nk_syntax.specs.Prints.{pair_text, guard_text, guards_text, term_text, terms_text};
 
 use crate::pol::Pol;
 use crate::pred::Pred;
-use nk_values::{Field, Lit};
+use nk_values::Lit;
 use std::alloc::{AllocError, Global};
 
 impl Pred {
@@ -30,24 +30,6 @@ impl Pol {
         let mut out = String::new(alloc);
         print_pol(alloc, &mut out, self)?;
         Ok(out)
-    }
-}
-
-/// The name of a field in policies and documents.
-pub fn field_name(field: Field) -> &'static str
-    ensures { result.now ≡ name_of field }
-{
-    match field {
-        Field::Sw => "sw",
-        Field::Pt => "pt",
-        Field::EthTyp => "ethTyp",
-        Field::IpProto => "ipProto",
-        Field::EthSrc => "ethSrc",
-        Field::EthDst => "ethDst",
-        Field::Ip4Src => "ip4Src",
-        Field::Ip4Dst => "ip4Dst",
-        Field::TcpSrcPort => "tcpSrcPort",
-        Field::TcpDstPort => "tcpDstPort",
     }
 }
 
@@ -151,7 +133,7 @@ fn print_pols(
 fn print_pair(alloc: Global, out: &mut String, lit: &Lit, sign: &str) -> Result<(), AllocError>
     ensures { OnOk result (string_bytes out.new ≡ string_bytes out.old ++ pair_text (lit_field lit.now) sign.now (lit_value lit.now)) }
 {
-    out.push_str(field_name(lit.field()))?;
+    out.push_str(lit.field().name())?;
     out.push_str(sign)?;
     out.push_str(&lit.value().to_string(alloc)?)
 }
