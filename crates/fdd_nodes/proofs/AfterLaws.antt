@@ -154,3 +154,8 @@ after_among c (l ∷ d) n h = elim (after_among (set_lit l c) d n h) [
   | inl k ↦ elim (among_set l c n k) [ inl w ↦ inl w | inr e ↦ inr (inl e) ]
   | inr k ↦ inr (inr k)
 ]
+
+-- the last assignment is made last
+pub apply-push : (c : List Lit) (l : Lit) (p : Packet) → apply (c ++ l ∷ []) p ≡ put l (apply c p)
+apply-push [] l p = refl
+apply-push (m ∷ c) l p = apply-push c l (put m p)

@@ -1,5 +1,5 @@
 -- Cells, and where diagrams part in them.
-use Rattle.std.proofs.Common.{◌≡◌, ◌≢◌, ◌+◌, inl, inr, refl, ap, sym, ◌∙◌, subst, arith, cond, List}
+use Rattle.std.proofs.Common.{◌≡◌, ◌≢◌, ◌+◌, ◌⊎◌, inl, inr, refl, ap, sym, ◌∙◌, subst, arith, true, false, cond, List}
 use Rattle.std.proofs.lemmas.Bool.{eq-eqb, ne_eqb}
 use Rattle.std.proofs.lemmas.Bool.Decides.{eqb_tells}
 use Rattle.nk_values.specs.declared.field.Field.{Field}
@@ -16,17 +16,21 @@ use Rattle.nk_values.proofs.LitLaws.{lit_small, lit_is_value}
 use Rattle.nk_values.proofs.PacketLaws.{get-with_same, get-with_other, field_cases}
 use Rattle.fdd_nodes.specs.Trees.{Tree, Leaf, Node, leaf_at, outcomes, answers, SameAnswers, IsOrderedFrom}
 use Rattle.fdd_nodes.specs.Roots.{IsLeaf, IsFirst}
-use Rattle.fdd_nodes.specs.Cells.{free, open_cell, cell_of, Agrees, Alike, IsFresh, pick, fill, IsValid, Parts}
+use Rattle.fdd_nodes.specs.Cells.{free, open_cell, cell_of, Agrees, Alike, IsFresh, pick, fill, IsValid, Parts, IsOpen, CanFix, is_open}
 use Rattle.fdd_nodes.specs.Known.{Bars}
 use Rattle.fdd_nodes.specs.Normals.{IsRedundant}
 use Rattle.fdd_nodes.proofs.MakesLaws.{same_outcomes_at, among_lists}
 use Rattle.fdd_nodes.proofs.SplitLaws.{Splits, first_from, first_tested}
 
-pub lit_not_free : (l : Lit) → lit_value l ≢ free
-lit_not_free l h = omega (arith, lit_small l, h)
+pub lit_not_free : (l : Lit) → CanFix (lit_value l)
+lit_not_free l h = let k : lit_value l ≡ free = h in omega (arith, lit_small l, k)
+
+-- a cell fixes a field or leaves it open
+pub tells_open : (c : Packet) (f : Field) → ((is_open c f ≡ true) × IsOpen c f) ⊎ ((is_open c f ≡ false) × (¬ IsOpen c f))
+tells_open c f = eqb_tells (get c f) free
 
 -- what a cell holds it fixes
-pub holds_fixed : (c : Packet) (l : Lit) → Holds c l → get c (lit_field l) ≢ free
+pub holds_fixed : (c : Packet) (l : Lit) → Holds c l → ¬ IsOpen c (lit_field l)
 holds_fixed c l h k = lit_not_free l (sym h ∙ k)
 
 -- what a cell is at a field once a literal is fixed
@@ -38,7 +42,8 @@ agrees_with c p l h a = record {
   ];
 }
 
-get-fill : (q g : Packet) (f : Field) → get (fill q g) f ≡ pick (get q f) (get g f)
+-- a cell filled up by a packet, field by field
+pub get-fill : (q g : Packet) (f : Field) → get (fill q g) f ≡ pick (get q f) (get g f)
 get-fill q g Sw = refl
 get-fill q g Pt = refl
 get-fill q g EthTyp = refl
@@ -50,11 +55,11 @@ get-fill q g Ip4Dst = refl
 get-fill q g TcpSrcPort = refl
 get-fill q g TcpDstPort = refl
 
-pub fill_fixed : (q g : Packet) (f : Field) → get q f ≢ free → get (fill q g) f ≡ get q f
+pub fill_fixed : (q g : Packet) (f : Field) → ¬ IsOpen q f → get (fill q g) f ≡ get q f
 fill_fixed q g f h = get-fill q g f ∙ ap (λ b. cond b (get g f) (get q f)) (ne_eqb _ _ h)
 
-pub fill_free : (q g : Packet) (f : Field) → get q f ≡ free → get (fill q g) f ≡ get g f
-fill_free q g f h = get-fill q g f ∙ ap (λ b. cond b (get g f) (get q f)) (eq-eqb _ _ h)
+pub fill_open : (q g : Packet) (f : Field) → IsOpen q f → get (fill q g) f ≡ get g f
+fill_open q g f h = get-fill q g f ∙ ap (λ b. cond b (get g f) (get q f)) (eq-eqb _ _ h)
 
 pub same_via : (a a' b b' : Tree) (p : Packet) → leaf_at a p ≡ leaf_at a' p → leaf_at b p ≡ leaf_at b' p → SameAnswers (answers a' p) (answers b' p) → SameAnswers (answers a p) (answers b p)
 same_via a a' b b' p ea eb h =
@@ -90,9 +95,9 @@ fresh_else : (g : Packet) (l : Lit) (a a1 a0 : Tree) → Splits l a a1 a0 → Is
 fresh_else g l a a1 a0 s h = record { tested = λ m k. h.tested m (s.else_tests m k); assigned = λ m k. h.assigned m (s.else_assigns m k) }
 
 -- what a cell with one literal more keeps
-keeps_with : (c q : Packet) (l : Lit) → get c (lit_field l) ≡ free → ((f : Field) → get (put l c) f ≢ free → get q f ≡ get (put l c) f) → (f : Field) → get c f ≢ free → get q f ≡ get c f
+keeps_with : (c q : Packet) (l : Lit) → IsOpen c (lit_field l) → ((f : Field) → ¬ IsOpen (put l c) f → get q f ≡ get (put l c) f) → (f : Field) → ¬ IsOpen c f → get q f ≡ get c f
 keeps_with c q l o h f n = elim (field_cases (lit_field l) f) [
-  | inl e ↦ absurd (n (subst (λ (g : Field). get c g ≡ free) e o))
+  | inl e ↦ absurd (n (subst (λ (g : Field). IsOpen c g) e o))
   | inr d ↦ let e = get-with_other c (lit_field l) f (lit_value l) d in h f (λ k. n (sym e ∙ k)) ∙ e
 ]
 
@@ -104,7 +109,7 @@ valid_with c l v = record {
   ];
 }
 
-pub parts_then : (c : Packet) (l : Lit) (a a1 a0 b b1 b0 : Tree) (q : Packet) → Splits l a a1 a0 → Splits l b b1 b0 → IsFirst l a b → get c (lit_field l) ≡ free → Parts (put l c) a1 b1 q → Parts c a b q
+pub parts_then : (c : Packet) (l : Lit) (a a1 a0 b b1 b0 : Tree) (q : Packet) → Splits l a a1 a0 → Splits l b b1 b0 → IsFirst l a b → IsOpen c (lit_field l) → Parts (put l c) a1 b1 q → Parts c a b q
 parts_then c l a a1 a0 b b1 b0 q sa sb first o h =
     let same = get-with_same c (lit_field l) (lit_value l) in
     let at_l : Holds q l = h.keeps (lit_field l) (λ k. lit_not_free l (sym same ∙ k)) ∙ same in
@@ -131,7 +136,7 @@ parts_then c l a a1 a0 b b1 b0 q sa sb first o h =
 fresh_first : (g : Packet) (l : Lit) (a b : Tree) → IsFirst l a b → IsFresh g a → IsFresh g b → ¬ Holds g l
 fresh_first g l a b first fa fb = elim (first_tested l a b first) [ inl h ↦ fa.tested l h | inr h ↦ fb.tested l h ]
 
-pub parts_else : (c : Packet) (l : Lit) (a a1 a0 b b1 b0 : Tree) (q : Packet) → Splits l a a1 a0 → Splits l b b1 b0 → IsFirst l a b → get c (lit_field l) ≡ free → Parts c a0 b0 q → Parts c a b q
+pub parts_else : (c : Packet) (l : Lit) (a a1 a0 b b1 b0 : Tree) (q : Packet) → Splits l a a1 a0 → Splits l b b1 b0 → IsFirst l a b → IsOpen c (lit_field l) → Parts c a0 b0 q → Parts c a b q
 parts_else c l a a1 a0 b b1 b0 q sa sb first o h =
     record {
       keeps = h.keeps;
@@ -141,8 +146,8 @@ parts_else c l a a1 a0 b b1 b0 q sa sb first o h =
           let below = h.beyond (rank l + 1) (sa.else_ordered k oa) (sb.else_ordered k ob) m om e in
           omega (arith, least, below);
       differs = λ k oa ob g fa fb s.
-          let n : ¬ Holds (fill q g) l = λ z. elim (eqb_tells (get q (lit_field l)) free) [
-            | inl y ↦ fresh_first g l a b first fa fb (sym (fill_free q g (lit_field l) y.1) ∙ z)
+          let n : ¬ Holds (fill q g) l = λ z. elim (tells_open q (lit_field l)) [
+            | inl y ↦ fresh_first g l a b first fa fb (sym (fill_open q g (lit_field l) y.1) ∙ z)
             | inr y ↦
                 let below = h.beyond (rank l + 1) (sa.else_ordered k oa) (sb.else_ordered k ob) l o (sym (fill_fixed q g (lit_field l) y.1) ∙ z) in
                 omega (arith, below)
@@ -191,7 +196,7 @@ parts_fixed_else c l a a1 a0 b b1 b0 q sa sb first bars h =
 pub leaf_alike : (c : Packet) (a b : Tree) → IsLeaf a → IsLeaf b → SameAnswers (outcomes (leaf_at a c) c) (outcomes (leaf_at b c) c) → Alike c a b
 leaf_alike c (Leaf cs) (Leaf ds) ha hb s = record {
   same = λ p g. same_outcomes_at cs ds c p
-      (λ x d mx md f. elim (eqb_tells (get c f) free) [
+      (λ x d mx md f. elim (tells_open c f) [
         | inl y ↦ inr (λ m k e z. lit_not_free m (z ∙ y.1), λ m k e z. lit_not_free m (z ∙ y.1))
         | inr n ↦ inl (sym (g.at f n.1))
       ]) s;
@@ -199,9 +204,9 @@ leaf_alike c (Leaf cs) (Leaf ds) ha hb s = record {
 leaf_alike c (Node l t e) b ha hb s = absurd ha
 leaf_alike c (Leaf cs) (Node l t e) ha hb s = absurd hb
 
-misses_fill : (c g : Packet) (cs : List (List Lit)) (x : List Lit) (f : Field) → IsFresh g (Leaf cs) → IsIn cs x → get c f ≡ free → (m : Lit) → IsIn x m → lit_field m ≡ f → lit_value m ≢ get (fill c g) f
+misses_fill : (c g : Packet) (cs : List (List Lit)) (x : List Lit) (f : Field) → IsFresh g (Leaf cs) → IsIn cs x → IsOpen c f → (m : Lit) → IsIn x m → lit_field m ≡ f → lit_value m ≢ get (fill c g) f
 misses_fill c g cs x f h k y m km e z =
-    h.assigned m (among_lists cs x m k km) (ap (λ f'. get g f') e ∙ sym (fill_free c g f y) ∙ sym z)
+    h.assigned m (among_lists cs x m k km) (ap (λ f'. get g f') e ∙ sym (fill_open c g f y) ∙ sym z)
 
 pub leaf_parts : (c : Packet) (a b : Tree) → IsLeaf a → IsLeaf b → (SameAnswers (outcomes (leaf_at a c) c) (outcomes (leaf_at b c) c) → ⊥) → Parts c a b c
 leaf_parts c (Leaf cs) (Leaf ds) ha hb s = record {
@@ -209,7 +214,7 @@ leaf_parts c (Leaf cs) (Leaf ds) ha hb s = record {
   valid = λ v. v;
   beyond = λ k oa ob m om e. absurd (lit_not_free m (sym e ∙ om));
   differs = λ k oa ob g fa fb h. s (same_outcomes_at cs ds (fill c g) c
-      (λ x d mx md f. elim (eqb_tells (get c f) free) [
+      (λ x d mx md f. elim (tells_open c f) [
         | inl y ↦ inr (misses_fill c g cs x f fa mx y.1, misses_fill c g ds d f fb md y.1)
         | inr n ↦ inl (fill_fixed c g f n.1)
       ]) h);
@@ -217,7 +222,7 @@ leaf_parts c (Leaf cs) (Leaf ds) ha hb s = record {
 leaf_parts c (Node l t e) b ha hb s = absurd ha
 leaf_parts c (Leaf cs) (Node l t e) ha hb s = absurd hb
 
-pub get-open : (f : Field) → get open_cell f ≡ free
+pub get-open : (f : Field) → IsOpen open_cell f
 get-open Sw = refl
 get-open Pt = refl
 get-open EthTyp = refl
@@ -239,8 +244,8 @@ pub cell_agrees : (l : Lit) (p : Packet) → Holds p l → Agrees (cell_of l) p
 cell_agrees l p h = agrees_with open_cell p l h (open_agrees p)
 
 pub fill_in_range : (q g : Packet) → IsValid q → IsInRange g → IsInRange (fill q g)
-fill_in_range q g v r = λ f. elim (eqb_tells (get q f) free) [
-  | inl y ↦ subst (IsValue f) (sym (fill_free q g f y.1)) (r f)
+fill_in_range q g v r = λ f. elim (tells_open q f) [
+  | inl y ↦ subst (IsValue f) (sym (fill_open q g f y.1)) (r f)
   | inr n ↦ subst (IsValue f) (sym (fill_fixed q g f n.1)) (v.at f n.1)
 ]
 

@@ -3,6 +3,7 @@ pub mod CellLaws
 pub mod MakesLaws
 pub mod NameLaws
 pub mod NormalLaws
+pub mod OpenLaws
 pub mod OrderLaws
 pub mod PathLaws
 pub mod SplitLaws

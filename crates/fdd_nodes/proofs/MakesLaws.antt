@@ -1,5 +1,5 @@
 -- What copies make of packets.
-use Rattle.std.specs.Prelude.{IfOk}
+use Rattle.std.specs.Prelude.{IfOk, OnOk}
 use Rattle.std.proofs.Common.{Result, Ok, Err, ◌≡◌, ◌≢◌, ℕ, ◌⊎◌, inl, inr, refl, ap, sym, ◌∙◌, subst, List, [], ◌∷◌}
 use Rattle.nk_values.specs.declared.field.Field.{Field}
 use Rattle.nk_values.specs.declared.packet.Packet.{Packet}
@@ -122,3 +122,7 @@ makes_of_same cs ds p h = (makes_of cs ds p h.front, makes_of ds cs p h.back)
 pub if_ok : {X E : Type 0} (r : Result X E) (P Q : X → Type 0) → IfOk r P → ((x : X) → P x → Q x) → IfOk r Q
 if_ok (Ok x) P Q h f = f x h
 if_ok (Err e) P Q h f = tt
+
+pub on_ok : {X E : Type 0} (r : Result X E) (P Q : Type 0) → OnOk r P → (P → Q) → OnOk r Q
+on_ok (Ok x) P Q h f = f h
+on_ok (Err e) P Q h f = tt

@@ -1,5 +1,5 @@
 -- Values that diagrams leave unnamed, and how many they name.
-use Rattle.std.proofs.Common.{◌≡◌, ◌≢◌, ℕ, zero, suc, ◌+◌, ◌<◌, ◌≤◌, ◌⊎◌, inl, inr, refl, ap, sym, ◌∙◌, subst, arith, Bool, true, false, cond, eqb, ◌||◌, List, [], ◌∷◌, ◌++◌, length}
+use Rattle.std.proofs.Common.{◌≡◌, ◌≢◌, ℕ, zero, suc, ◌+◌, ◌<◌, ◌≤◌, ◌⊎◌, inl, inr, refl, ap, sym, ◌∙◌, subst, arith, Bool, true, false, cond, eqb, ◌||◌, List, [], ◌∷◌, ◌++◌, length, append-nil, append_assoc}
 use Rattle.std.proofs.lemmas.Bool.Decides.{eqb_tells}
 use Rattle.nk_values.specs.declared.field.Field.{Field}
 use Rattle.nk_values.specs.declared.field.Field.TheVariants.{Sw, Pt, EthTyp, IpProto, EthSrc, EthDst, Ip4Src, Ip4Dst, TcpSrcPort, TcpDstPort}
@@ -15,7 +15,7 @@ use Rattle.nk_values.proofs.LitLaws.{lit_eq-Decides}
 use Rattle.nk_values.proofs.MemberLaws.{in-left, in-right, in-either}
 use Rattle.fdd_nodes.specs.Trees.{Tree, Leaf, Node, Tests, IsSetBy, Assigns}
 use Rattle.fdd_nodes.specs.Cells.{IsFresh}
-use Rattle.fdd_nodes.specs.Names.{literals_of, literals, has_lit, distinct, AreFew, IsFreshFor}
+use Rattle.fdd_nodes.specs.Names.{literals_of, literals, has_lit, distinct, EachOnce, Gathers, AreFew, IsFreshFor}
 
 -- a list without a number
 abbrev without : ℕ → List ℕ → List ℕ
@@ -267,11 +267,6 @@ among_has l (m ∷ ms) h = elim (told (lit_eq l m)) [
   ]
 ]
 
--- no literal twice
-abbrev pub EachOnce : List Lit → Type 0
-EachOnce [] = Unit {0}
-EachOnce (l ∷ ls) = (IsIn ls l → ⊥) × EachOnce ls
-
 distinct_once : (ls : List Lit) → EachOnce (distinct ls)
 distinct_once [] = tt
 distinct_once (l ∷ ls) = elim (told (has_lit l ls)) [
@@ -341,3 +336,69 @@ few_of_both a b r ht ha h =
       | inr x ↦ elim (ha m x) [ inl y ↦ in-left _ _ m (assigns_literal a m y) | inr y ↦ in-right (literals a) _ m (assigns_literal b m y) ]
     ]) in
     omega (arith, k, h.bound)
+
+-- literals gathered one list after another
+
+pub gathers_none : (ls : List Lit) → Gathers [] ls ls
+gathers_none ls = record { kept = λ m k. k; has = λ m k. absurd k; only = λ m k. inl k; once = λ o. o }
+
+pub gathers_there : (l : Lit) (ls : List Lit) → IsIn ls l → Gathers (l ∷ []) ls ls
+gathers_there l ls h = record {
+  kept = λ m k. k;
+  has = λ m k. elim k [ inl e ↦ subst (λ (z : Lit). IsIn ls z) e h | inr n ↦ absurd n ];
+  only = λ m k. inl k;
+  once = λ o. o;
+}
+
+once_more : (ls : List Lit) (l : Lit) → EachOnce ls → (¬ IsIn ls l) → EachOnce (ls ++ l ∷ [])
+once_more [] l o n = ((λ k. k), tt)
+once_more (x ∷ ls) l o n = (
+  (λ k. elim (in-either ls (l ∷ []) x k) [ inl h ↦ o.0 h | inr h ↦ elim h [ inl e ↦ n (inl (sym e)) | inr z ↦ z ] ]),
+  once_more ls l o.1 (λ k. n (inr k)),
+)
+
+pub gathers_one : (l : Lit) (ls : List Lit) → (¬ IsIn ls l) → Gathers (l ∷ []) ls (ls ++ l ∷ [])
+gathers_one l ls n = record {
+  kept = λ m k. in-left ls (l ∷ []) m k;
+  has = λ m k. in-right ls (l ∷ []) m k;
+  only = λ m k. in-either ls (l ∷ []) m k;
+  once = λ o. once_more ls l o n;
+}
+
+pub gathers_both : (xs ys us vs ws : List Lit) → Gathers xs us vs → Gathers ys vs ws → Gathers (xs ++ ys) us ws
+gathers_both xs ys us vs ws g h = record {
+  kept = λ m k. h.kept m (g.kept m k);
+  has = λ m k. elim (in-either xs ys m k) [ inl x ↦ h.kept m (g.has m x) | inr y ↦ h.has m y ];
+  only = λ m k. elim (h.only m k) [
+    | inl b ↦ elim (g.only m b) [ inl a ↦ inl a | inr x ↦ inr (in-left xs ys m x) ]
+    | inr y ↦ inr (in-right xs ys m y)
+  ];
+  once = λ o. h.once (g.once o);
+}
+
+-- what is gathered from nothing is as long as the distinct literals
+pub gathered_length : (ls ns : List Lit) → Gathers ls [] ns → length ns ≡ length (distinct ls)
+gathered_length ls ns g =
+    let a = once_shorter ns (distinct ls) (g.once tt) (λ m k. elim (g.only m k) [ inl z ↦ absurd z | inr h ↦ among_distinct ls m h ]) in
+    let b = once_shorter (distinct ls) ns (distinct_once ls) (λ m k. g.has m (distinct_among ls m k)) in
+    omega (arith, a, b)
+
+pub literals_of-push : (cs : List (List Lit)) (c : List Lit) → literals_of (cs ++ c ∷ []) ≡ literals_of cs ++ c
+literals_of-push [] c = append-nil c
+literals_of-push (d ∷ cs) c = ap (λ (x : List Lit). d ++ x) (literals_of-push cs c) ∙ sym (append_assoc d (literals_of cs) c)
+
+-- where a list is gathered and one more after it, in the forms in which walks meet them
+pub gathers_next : (xs rest : List Lit) (l : Lit) (us vs ws : List Lit) → rest ≡ xs ++ l ∷ [] → Gathers xs us vs → Gathers (l ∷ []) vs ws → Gathers rest us ws
+gathers_next xs rest l us vs ws e g h = subst (λ (ls : List Lit). Gathers ls us ws) (sym e) (gathers_both xs (l ∷ []) us vs ws g h)
+
+pub gathers_next_copy : (cs rest : List (List Lit)) (c : List Lit) (us vs ws : List Lit) → rest ≡ cs ++ c ∷ [] → Gathers (literals_of cs) us vs → Gathers c vs ws → Gathers (literals_of rest) us ws
+gathers_next_copy cs rest c us vs ws e g h =
+    subst (λ (ls : List Lit). Gathers ls us ws) (sym (ap literals_of e ∙ literals_of-push cs c)) (gathers_both (literals_of cs) c us vs ws g h)
+
+pub gathers_test : (l : Lit) (t e : Tree) (us vs ws xs : List Lit) → Gathers (l ∷ []) us vs → Gathers (literals t) vs ws → Gathers (literals e) ws xs → Gathers (literals (Node l t e)) us xs
+gathers_test l t e us vs ws xs g h k = gathers_both (l ∷ []) (literals t ++ literals e) us vs xs g (gathers_both (literals t) (literals e) vs ws xs h k)
+
+-- the literals of two diagrams, gathered
+pub gathers_pair : (a b x y : Tree) (us vs ws : List Lit) → x ≡ a → y ≡ b → Gathers (literals x) us vs → Gathers (literals y) vs ws → Gathers (literals a ++ literals b) us ws
+gathers_pair a b x y us vs ws ea eb g h =
+    gathers_both (literals a) (literals b) us vs ws (subst (λ (t : Tree). Gathers (literals t) us vs) ea g) (subst (λ (t : Tree). Gathers (literals t) vs ws) eb h)

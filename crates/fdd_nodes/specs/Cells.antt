@@ -1,5 +1,5 @@
--- Cells: what a path fixes, as a packet that holds `free` where nothing is fixed.
-use Rattle.std.specs.Prelude.{◌≡◌, ◌≢◌, ℕ, ◌≤◌, if◌then◌else◌, ◌==◌}
+-- Cells: what a path fixes, as a packet that holds a number of no field where nothing is fixed.
+use Rattle.std.specs.Prelude.{◌≡◌, ◌≢◌, ℕ, ◌≤◌, Bool, Option, Some, None, if◌then◌else◌, ◌==◌}
 use Rattle.nk_values.specs.declared.field.Field.{Field}
 use Rattle.nk_values.specs.declared.packet.Packet.{Packet}
 use Rattle.nk_values.specs.declared.lit.Lit.{Lit}
@@ -10,9 +10,24 @@ use Rattle.nk_values.specs.Ranges.{IsValue}
 use Rattle.nk_values.specs.Ranks.{rank}
 use Rattle.fdd_nodes.specs.Trees.{Tree, Leaf, Node, answers, SameAnswers, IsOrderedFrom, Tests, IsSetBy, Assigns}
 
--- the number of a field that nothing fixes; no literal has it
+-- the number of a field that nothing fixes; no literal has it. It is named where cells are made and asked, and nowhere else.
 abbrev pub free : ℕ
 free = 18446744073709551615
+
+-- a number that a cell can fix
+abbrev pub CanFix : ℕ → Type 0
+CanFix n = n ≢ free
+
+-- the cell fixes nothing at the field
+abbrev pub IsOpen : Packet → Field → Type 0
+IsOpen c f = get c f ≡ free
+
+abbrev pub is_open : Packet → Field → Bool
+is_open c f = get c f == free
+
+-- the number that the cell fixes at the field, or none
+abbrev pub fixed_at : Packet → Field → Option ℕ
+fixed_at c f = if is_open c f then None else Some (get c f)
 
 -- the cell that fixes nothing, and the one that fixes a literal
 abbrev pub open_cell : Packet
@@ -36,7 +51,7 @@ cell_of l = put l open_cell
 
 -- the packet is in the cell
 pub record Agrees (c p : Packet) : Type 0 where
-  pub at : (f : Field) → get c f ≢ free → get p f ≡ get c f
+  pub at : (f : Field) → ¬ IsOpen c f → get p f ≡ get c f
 
 -- on each packet of the cell the diagrams answer alike
 pub record Alike (c : Packet) (a b : Tree) : Type 0 where
@@ -69,14 +84,14 @@ fill q g = record {
 
 -- what is fixed is in range
 pub record IsValid (c : Packet) : Type 0 where
-  pub at : (f : Field) → get c f ≢ free → IsValue f (get c f)
+  pub at : (f : Field) → ¬ IsOpen c f → IsValue f (get c f)
 
 -- Within the cell c, q is a cell in which the diagrams answer apart: on each packet of q that has no other number which
 -- they name. What q fixes beside c comes from their tests.
 pub record Parts (c : Packet) (a b : Tree) (q : Packet) : Type 0 where
-  pub keeps : (f : Field) → get c f ≢ free → get q f ≡ get c f
+  pub keeps : (f : Field) → ¬ IsOpen c f → get q f ≡ get c f
   pub valid : IsValid c → IsValid q
-  pub beyond : (k : ℕ) → IsOrderedFrom k a → IsOrderedFrom k b → (m : Lit) → get c (lit_field m) ≡ free → Holds q m → k ≤ rank m
+  pub beyond : (k : ℕ) → IsOrderedFrom k a → IsOrderedFrom k b → (m : Lit) → IsOpen c (lit_field m) → Holds q m → k ≤ rank m
   pub differs : (k : ℕ) → IsOrderedFrom k a → IsOrderedFrom k b → (g : Packet) → IsFresh g a → IsFresh g b → ¬ SameAnswers (answers a (fill q g)) (answers b (fill q g))
 
 -- no leaf assigns what the cell or its path in it fixes

@@ -1,20 +1,18 @@
 -- What a cell knows of a literal.
-use Rattle.std.specs.Prelude.{◌≡◌, ◌≢◌}
 use Rattle.nk_values.specs.declared.packet.Packet.{Packet}
 use Rattle.nk_values.specs.declared.lit.Lit.{Lit}
 use Rattle.nk_values.specs.Held.{Holds}
 use Rattle.nk_values.specs.Lits.{lit_field}
-use Rattle.nk_values.specs.Packets.{get}
 use Rattle.fdd_nodes.specs.declared.cell.Known.{Known}
 use Rattle.fdd_nodes.specs.declared.cell.Known.TheVariants.{Open, Yes, No}
-use Rattle.fdd_nodes.specs.Cells.{free}
+use Rattle.fdd_nodes.specs.Cells.{IsOpen}
 
 -- the cell fixes another number in the literal's field
 pub record Bars (c : Packet) (l : Lit) : Type 0 where
-  pub fixed : get c (lit_field l) ≢ free
+  pub fixed : ¬ IsOpen c (lit_field l)
   pub other : ¬ Holds c l
 
 abbrev pub Knows : Packet → Lit → Known → Type 0
-Knows c l Open = get c (lit_field l) ≡ free
+Knows c l Open = IsOpen c (lit_field l)
 Knows c l Yes = Holds c l
 Knows c l No = Bars c l

@@ -4,7 +4,9 @@ use Rattle.nk_values.specs.declared.packet.Packet.{Packet}
 use Rattle.nk_values.specs.declared.lit.Lit.{Lit}
 use Rattle.nk_values.specs.Held.{Holds}
 use Rattle.nk_values.specs.Members.{IsIn}
+use Rattle.fdd_nodes.specs.Cells.{open_cell}
 use Rattle.fdd_nodes.specs.Names.{distinct}
+use Rattle.fdd_nodes.specs.Trees.{apply}
 
 -- the tests on a path that hold, and those that don't, each in the order of the path
 pub record Way : Type 0 where
@@ -21,6 +23,10 @@ with_true w l = record { trues = w.trues ++ l ∷ []; falses = w.falses }
 
 abbrev pub with_false : Way → Lit → Way
 with_false w l = record { trues = w.trues; falses = w.falses ++ l ∷ [] }
+
+-- the cell that the true tests fix
+abbrev pub cell_on : Way → Packet
+cell_on w = apply w.trues open_cell
 
 -- the packet has each true test of the path and none of the false ones
 pub record IsOnPath (w : Way) (p : Packet) : Type 0 where

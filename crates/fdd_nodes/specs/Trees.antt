@@ -38,7 +38,8 @@ outcomes cs p = map (λ c. apply c p) cs
 abbrev pub answers : Tree → Packet → List Packet
 answers t p = outcomes (leaf_at t p) p
 
--- Answers are read as sets. This is the one place that says so.
+-- Answers are read as sets: where two are compared, by their members. What is said of one answer alone, as that a packet
+-- is in it, asks for no order either.
 abbrev pub SameAnswers : List Packet → List Packet → Type 0
 SameAnswers xs ys = SameMembers xs ys
 

@@ -3,13 +3,15 @@ ghost use Rattle.std.specs.Prelude.{◌≡◌};
 ghost use Rattle.fdd_nodes.specs.Cells.{pick as the_pick};
 
 use crate::assignments::{Assignments, applied};
-use nk_values::{Header, Lit, Packet};
+use nk_values::{Field, Header, Lit, Packet};
 use std::marker::Model;
 
-// The number of a field that nothing fixes. No packet in range holds it.
+// The number of a field that nothing fixes. No packet in range holds it, and no literal has it.
 const FREE: u64 = u64::MAX;
 
-/// The packets that hold some numbers in some fields. Clauses see it as a packet that holds `free` elsewhere.
+/// The packets that hold some numbers in some fields: what the true tests of a path leave (ICFP 2015, section 3).
+///
+/// Clauses see it as a packet of these numbers, and ask by `fixed_at` and `IsOpen` which fields it fixes.
 #[derive(Clone, Copy)]
 pub struct Cell {
     fixed: Packet,
@@ -35,7 +37,7 @@ pub enum Known {
 
 impl Cell {
     ghost use Rattle.nk_values.specs.Held.{put};
-    ghost use Rattle.fdd_nodes.specs.Cells.{open_cell, cell_of, fill};
+    ghost use Rattle.fdd_nodes.specs.Cells.{open_cell, cell_of, fill, fixed_at, is_open};
     ghost use Rattle.fdd_nodes.specs.Copies.{IsCopy};
     ghost use Rattle.fdd_nodes.specs.Known.{Knows};
     ghost use Rattle.fdd_nodes.specs.Trees.{apply};
@@ -86,6 +88,24 @@ impl Cell {
         Cell {
             fixed: applied(copy.lits(), &self.fixed),
         }
+    }
+
+    /// The number that the cell fixes at a field, or none where it leaves the field open.
+    pub fn get(&self, f: Field) -> Option<u64>
+        ensures { result ≡ fixed_at self.now f }
+    {
+        if self.is_open(f) {
+            None
+        } else {
+            Some(self.fixed.get(f))
+        }
+    }
+
+    /// Whether the cell leaves a field open.
+    pub fn is_open(&self, f: Field) -> bool
+        ensures { result ≡ is_open self.now f }
+    {
+        self.fixed.get(f) == FREE
     }
 
     /// What is known of a literal.

@@ -1,17 +1,21 @@
 // Paths of diagrams.
 ghost use Rattle.std.specs.Prelude.{◌≡◌, ◌↔◌, IsTrue};
+ghost use Rattle.fdd_nodes.specs.Cells.{open_cell};
+ghost use Rattle.fdd_nodes.specs.Makes.{made};
 ghost use Rattle.fdd_nodes.specs.Paths.{HasAll, HasNone};
 
+use crate::cell::Cell;
 use nk_values::{Lit, Packet};
 use std::alloc::{AllocError, Global};
 use std::marker::Model;
 
-/// A path of a diagram: the tests on it that hold, and those that don't, each in the order of the path. Clauses see
-/// the two lists.
+/// A path of a diagram: the tests on it that hold, and those that don't, each in the order of the path, and the cell
+/// that those that hold fix. Clauses see the two lists.
 #[derive(Drop)]
 pub struct Path {
     trues: Vec<Lit>,
     falses: Vec<Lit>,
+    cell: Cell,
 }
 
 impl Model for Path {
@@ -19,12 +23,18 @@ impl Model for Path {
 
     ghost Value = { Way };
 
+    ghost use Rattle.std.specs.Prelude.{◌≡◌};
+    ghost use Rattle.fdd_nodes.specs.Cells.{open_cell};
+    ghost use Rattle.fdd_nodes.specs.Trees.{apply};
+
     ghost view = { λ p. record { trues = p.trues.items; falses = p.falses.items } };
+
+    ghost invariant = { λ p. p.cell ≡ apply p.trues.items open_cell };
 }
 
 impl Path {
     ghost use Rattle.std.specs.Prelude.{[], OnOk, OnErr, IfSome, IfNone};
-    ghost use Rattle.fdd_nodes.specs.Paths.{no_tests, with_true, with_false, IsOnPath};
+    ghost use Rattle.fdd_nodes.specs.Paths.{no_tests, with_true, with_false, cell_on, IsOnPath};
 
     /// The path on which nothing is tested yet.
     pub fn new(alloc: Global) -> Path
@@ -33,6 +43,7 @@ impl Path {
         Path {
             trues: Vec::new(alloc),
             falses: Vec::new(alloc),
+            cell: Cell::open(),
         }
     }
 
@@ -42,6 +53,7 @@ impl Path {
         ensures err { OnErr result (self.new ≡ self.old) }
     {
         self.trues.push(*l)?;
+        self.cell = self.cell.with(l);
         Ok(())
     }
 
@@ -60,7 +72,9 @@ impl Path {
         ensures none { IfNone result (self.old.trues ≡ []) }
         ensures same { IfNone result (self.new ≡ self.old) }
     {
-        self.trues.pop()
+        let last = self.trues.pop()?;
+        self.cell = cell_of(&self.trues);
+        Some(last)
     }
 
     /// Goes back over the last test that doesn't hold, if there is one.
@@ -86,6 +100,13 @@ impl Path {
         &self.falses
     }
 
+    /// The cell of the packets that have each test that holds.
+    pub fn cell(&self) -> &Cell
+        ensures { result.now ≡ cell_on self.now }
+    {
+        &self.cell
+    }
+
     /// Whether a packet has each test that holds, and none of the others.
     pub fn has(&self, packet: &Packet) -> bool
         ensures { IsTrue result ↔ IsOnPath self.now packet.now }
@@ -95,6 +116,16 @@ impl Path {
         }
         has_none(self.falses(), packet)
     }
+}
+
+fn cell_of(trues: &[Lit]) -> Cell
+    ensures { result ≡ made trues.now open_cell }
+{
+    let mut cell = Cell::open();
+    for l in trues {
+        cell = cell.with(l);
+    }
+    cell
 }
 
 fn has_all(lits: &[Lit], packet: &Packet) -> bool
