@@ -1,10 +1,9 @@
 -- What is named by appended lists, by copies and by diagrams.
 use Rattle.std.specs.Prelude.{◌↔◌}
-use Rattle.std.proofs.Common.{ℕ, ◌≤◌, ◌⊎◌, inl, inr, arith, Bool, true, false, cond, List, [], ◌∷◌, ◌++◌, length, length-append}
+use Rattle.std.proofs.Common.{ℕ, ◌⊎◌, inl, inr, List, [], ◌∷◌, ◌++◌}
 use Rattle.nk_values.specs.declared.field.Field.{Field}
 use Rattle.nk_values.specs.declared.lit.Lit.{Lit}
-use Rattle.fdd_nodes.specs.Names.{literals_of, literals, has_lit, distinct}
-use Rattle.fdd_nodes.specs.Paths.{Way, IsFewOn}
+use Rattle.fdd_nodes.specs.Names.{literals_of, literals}
 use Rattle.fdd_nodes.specs.Trees.{Tree, Leaf, Node}
 use Rattle.fdd_differ.specs.Unnamed.{NamesAt, CopiesName, TreeNames}
 
@@ -42,14 +41,3 @@ tree_names (Node l t e) f n = let x = tree_names t f n in let y = tree_names e f
     | inr k ↦ inr (elim (names_either (literals t) (literals e) f n k) [ inl w ↦ inl (x.1 w) | inr w ↦ inr (y.1 w) ])
   ],
 )
-
--- lists that are short name few values
-distinct_length : (ls : List Lit) → length (distinct ls) ≤ length ls
-distinct_length [] = omega arith
-distinct_length (l ∷ ls) = shorter (has_lit l ls) (distinct_length ls) where
-  shorter : (b : Bool) → length (distinct ls) ≤ length ls → length (cond b (distinct ls) (l ∷ distinct ls)) ≤ length (l ∷ ls)
-  shorter true h = omega (arith, h)
-  shorter false h = omega (arith, h)
-
-pub few_on : (w : Way) → length w.trues ≤ 10 → length w.falses ≤ 10 → IsFewOn w
-few_on w h k = record { bound = omega (arith, h, k, distinct_length (w.trues ++ w.falses), length-append w.trues w.falses) }

@@ -5,11 +5,11 @@ ghost use Rattle.nk_values.specs.Ranges.{IsLiteralOf};
 ghost use Rattle.fdd_differ.specs.Frames.{IsFrame, frame_cell, Lacks, Leaves};
 
 use fdd_nodes::Cell;
-use nk_values::{Field, Lit, Packet};
+use nk_values::{Field, IPV4_TYPE, Lit, Packet, TCP, UDP};
 
 /// What kind of frame a well-shaped packet is: without IPv4 (ethTyp is not 2048), TCP or UDP over IPv4 (ipProto is 6 or
-/// 17), or other IPv4. It tells which fields hold 0, as OpenFlow 1.0.0 (section 3.3) has no value to match there.
-#[derive(Clone, Copy, Debug, PartialEq, Eq)]
+/// 17), or other IPv4. It tells which fields hold 0, as OpenFlow 1.0.0 (section 3.1) has no value to match there.
+#[derive(Clone, Copy, PartialEq, Eq)]
 pub enum Frame {
     NoIp,
     OtherIp,
@@ -22,13 +22,13 @@ impl Frame {
     pub fn includes(self, packet: &Packet) -> bool
         ensures { IsTrue result ↔ IsFrame self packet.now }
     {
-        let ip = packet.header.eth_typ == 2048;
+        let ip = packet.header.eth_typ == IPV4_TYPE;
         let protocol = packet.header.ip_proto;
         match self {
             Frame::NoIp => !ip,
-            Frame::OtherIp => ip && protocol != 6 && protocol != 17,
-            Frame::Tcp => ip && protocol == 6,
-            Frame::Udp => ip && protocol == 17,
+            Frame::OtherIp => ip && protocol != TCP && protocol != UDP,
+            Frame::Tcp => ip && protocol == TCP,
+            Frame::Udp => ip && protocol == UDP,
         }
     }
 
@@ -37,11 +37,12 @@ impl Frame {
         ensures { result ≡ frame_cell self }
     {
         let open = Cell::open();
+        let ip = with_value(&open, Field::EthTyp, IPV4_TYPE);
         match self {
             Frame::NoIp => open,
-            Frame::OtherIp => with_value(&open, Field::EthTyp, 2048),
-            Frame::Tcp => with_value(&with_value(&open, Field::EthTyp, 2048), Field::IpProto, 6),
-            Frame::Udp => with_value(&with_value(&open, Field::EthTyp, 2048), Field::IpProto, 17),
+            Frame::OtherIp => ip,
+            Frame::Tcp => with_value(&ip, Field::IpProto, TCP),
+            Frame::Udp => with_value(&ip, Field::IpProto, UDP),
         }
     }
 
@@ -61,12 +62,12 @@ impl Frame {
         ensures { IsTrue result ↔ Leaves self f value }
     {
         match f {
-            Field::EthTyp => (value == 2048) != (self == Frame::NoIp),
+            Field::EthTyp => (value == IPV4_TYPE) != (self == Frame::NoIp),
             Field::IpProto => match self {
                 Frame::NoIp => value == 0,
-                Frame::OtherIp => value != 6 && value != 17,
-                Frame::Tcp => value == 6,
-                Frame::Udp => value == 17,
+                Frame::OtherIp => value != TCP && value != UDP,
+                Frame::Tcp => value == TCP,
+                Frame::Udp => value == UDP,
             },
             _ => value == 0 || !self.lacks(f),
         }

@@ -28,7 +28,7 @@ impl Model for Cell {
 }
 
 /// What a cell knows of a literal: nothing, that each packet of it holds the number, or that none does.
-#[derive(Clone, Copy, Debug, PartialEq, Eq)]
+#[derive(Clone, Copy)]
 pub enum Known {
     Open,
     Yes,

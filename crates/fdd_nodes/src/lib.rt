@@ -16,6 +16,6 @@ pub use assignments::Assignments;
 pub use cell::{Cell, Known};
 pub use fdd::Fdd;
 pub use leaf::Leaf;
-pub use names::{are_few, are_few_behind};
+pub use names::{are_few, are_few_behind, is_few_on};
 pub use node::Node;
 pub use path::Path;

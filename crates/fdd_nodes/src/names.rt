@@ -3,12 +3,14 @@ ghost use Rattle.std.specs.Prelude.{◌≡◌, ◌↔◌, [], ◌∷◌, IsTrue,
 ghost use Rattle.nk_values.specs.Members.{IsIn};
 ghost use Rattle.fdd_nodes.specs.Fdds.{tree_of};
 ghost use Rattle.fdd_nodes.specs.Names.{literals, literals_of, AreFew, IsFew, Gathers};
+ghost use Rattle.fdd_nodes.specs.Paths.{IsFewOn};
 ghost use Rattle.fdd_nodes.specs.Trees as trees;
 ghost use Rattle.fdd_nodes.specs.Trees.{tree};
 
 use crate::assignments::Assignments;
 use crate::fdd::Fdd;
 use crate::node::Node;
+use crate::path::Path;
 use nk_values::Lit;
 use std::alloc::{AllocError, Global};
 
@@ -34,6 +36,16 @@ pub fn are_few_behind(alloc: Global, l: &Lit, yes: &Fdd, no: &Fdd) -> Result<boo
     gather_one(l, &mut names)?;
     gather(yes.root(), &mut names)?;
     gather(no.root(), &mut names)?;
+    Ok(names.len() <= MOST_LITERALS)
+}
+
+/// Whether the tests of a path are at most 4,000 literals: what is asked of a path by those that look for its packets.
+pub fn is_few_on(alloc: Global, path: &Path) -> Result<bool, AllocError>
+    ensures { IfOk result (λ few. IsTrue few ↔ IsFewOn path.now) }
+{
+    let mut names = Vec::new(alloc);
+    gather_all(path.trues(), &mut names)?;
+    gather_all(path.falses(), &mut names)?;
     Ok(names.len() <= MOST_LITERALS)
 }
 

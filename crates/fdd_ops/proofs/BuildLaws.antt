@@ -12,7 +12,7 @@ use Rattle.nk_values.specs.Ranks.{step, rank}
 use Rattle.nk_values.proofs.LitLaws.{lit_small}
 use Rattle.nk_values.proofs.PacketLaws.{get-with_same, same_field}
 use Rattle.fdd_nodes.specs.Trees.{Tree, Leaf, Node, leaf_at, outcomes, answers, SameAnswers, IsOrderedFrom, IsSetBy}
-use Rattle.fdd_nodes.specs.Cells.{free, IsFresh}
+use Rattle.fdd_nodes.specs.Cells.{IsFresh, IsOpen}
 use Rattle.fdd_ops.specs.Builds.{NodeOf, IsOpenAt, Sound}
 use Rattle.fdd_nodes.proofs.SplitLaws.{ordered_weaken, leaf_at-then, leaf_at-else}
 use Rattle.fdd_nodes.proofs.CellLaws.{lit_not_free, cell_agrees, not_redundant}
@@ -60,7 +60,7 @@ node_ordered c l t e r k n h o ot oe = elim n [
 fresh_of : (c : Packet) (T A : Lit → Type 0) (r : Tree) (g : Packet) → Sound c T A r → ((m : Lit) → T m → ¬ Holds g m) → ((m : Lit) → A m → ¬ Holds g m) → IsFresh g r
 fresh_of c T A r g s ft fa = record { tested = λ m k. ft m (s.tests m k); assigned = λ m k. fa m (s.assigns m k) }
 
-pub sound_node : (c : Packet) (T A : Lit → Type 0) (l : Lit) (t e r : Tree) → get c (lit_field l) ≡ free → T l → Sound (put l c) T A t → Sound c T A e → NodeOf l t e r → Sound c T A r
+pub sound_node : (c : Packet) (T A : Lit → Type 0) (l : Lit) (t e r : Tree) → IsOpen c (lit_field l) → T l → Sound (put l c) T A t → Sound c T A e → NodeOf l t e r → Sound c T A r
 sound_node c T A l t e r o tl st se n = elim n [
   | inl d ↦ subst (λ (x : Tree). Sound c T A x) (sym d.0) se
   | inr d ↦ subst (λ (x : Tree). Sound c T A x) (sym d.0) (record {

@@ -12,7 +12,7 @@ use Rattle.nk_values.specs.Ranks.{rank}
 use Rattle.nk_values.proofs.LitLaws.{rank_field, rank_value, same_lit}
 use Rattle.fdd_nodes.specs.Trees.{Tree, Leaf, Node, answers, SameAnswers, IsOrderedFrom, Tests, Assigns}
 use Rattle.fdd_nodes.specs.Roots.{HasRoot, IsAfter}
-use Rattle.fdd_nodes.specs.Cells.{free, open_cell, cell_of}
+use Rattle.fdd_nodes.specs.Cells.{open_cell, cell_of, IsOpen}
 use Rattle.fdd_nodes.specs.Known.{Bars}
 use Rattle.fdd_ops.specs.Builds.{NodeOf, Sound}
 use Rattle.fdd_ops.specs.Unions.{Settles}
@@ -23,7 +23,7 @@ use Rattle.fdd_ops.proofs.BuildLaws.{same_leaf, same_trans, same_sym, node_then,
 
 -- choices
 
-pub here_split : (c : Packet) (l : Lit) (x y t e r : Tree) → get c (lit_field l) ≡ free → Settles (put l c) x t → Settles c y e → NodeOf l t e r → ChoosesHere c l x y r
+pub here_split : (c : Packet) (l : Lit) (x y t e r : Tree) → IsOpen c (lit_field l) → Settles (put l c) x t → Settles c y e → NodeOf l t e r → ChoosesHere c l x y r
 here_split c l x y t e r o ht he w = record {
   yes = λ p g h. same_trans _ _ _ (node_then l t e r w p h) (ht.same p (agrees_with c p l h g));
   no = λ p g h. same_trans _ _ _ (node_else l t e r w p h) (he.same p g);
@@ -80,7 +80,7 @@ first_seen : (m l : Lit) (x y : Tree) → HasRoot m x ⊎ HasRoot m y → (l ≡
 first_seen m l x y h = inr (elim h [ inl w ↦ inl (root_tested' m x w) | inr w ↦ inr (root_tested' m y w) ])
 
 -- m comes before l
-pub chooses_split : (c : Packet) (m l : Lit) (x x1 x0 y y1 y0 t e r : Tree) → Splits m x x1 x0 → Splits m y y1 y0 → HasRoot m x ⊎ HasRoot m y → rank m < rank l → get c (lit_field m) ≡ free
+pub chooses_split : (c : Packet) (m l : Lit) (x x1 x0 y y1 y0 t e r : Tree) → Splits m x x1 x0 → Splits m y y1 y0 → HasRoot m x ⊎ HasRoot m y → rank m < rank l → IsOpen c (lit_field m)
     → Chooses (put m c) l x1 y1 t → Chooses c l x0 y0 e → NodeOf m t e r → Chooses c l x y r
 chooses_split c m l x x1 x0 y y1 y0 t e r sx sy first b o ht he w = record {
   yes = λ p g k. elim (eqb_tells (get p (lit_field m)) (lit_value m)) [

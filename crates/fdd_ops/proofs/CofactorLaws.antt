@@ -13,7 +13,7 @@ use Rattle.nk_values.specs.Ranks.{rank}
 use Rattle.nk_values.proofs.LitLaws.{lit_small}
 use Rattle.nk_values.proofs.PacketLaws.{get-with_same, get-with_other, same_field, field_cases}
 use Rattle.fdd_nodes.specs.Trees.{Tree, Leaf, Node, IsOrderedFrom, Tests, Assigns}
-use Rattle.fdd_nodes.specs.Cells.{free, IsFresh, Respects}
+use Rattle.fdd_nodes.specs.Cells.{IsFresh, Respects, IsOpen}
 use Rattle.fdd_nodes.specs.Normals.{IsTight}
 use Rattle.fdd_ops.specs.Builds.{NodeOf}
 use Rattle.fdd_ops.specs.Cofactors.{IsFieldFrom, part_at, Cofactors}
@@ -23,7 +23,7 @@ use Rattle.fdd_ops.proofs.BuildLaws.{same_leaf, same_trans, same_sym, node_then,
 
 -- a cell that fixes less asks less
 abbrev Less : Packet → Packet → Type 0
-Less c c' = (f : Field) → (get c' f ≡ free) ⊎ (get c' f ≡ get c f)
+Less c c' = (f : Field) → (IsOpen c' f) ⊎ (get c' f ≡ get c f)
 
 less_with : (c c' : Packet) (l : Lit) → Less c c' → Less (put l c) (put l c')
 less_with c c' l h f = elim (field_cases (lit_field l) f) [
@@ -38,9 +38,9 @@ respects_less : (t : Tree) (c c' : Packet) → Less c c' → Respects c t → Re
 respects_less (Leaf cs) c c' h r = λ m k z. elim (h (lit_field m)) [ inl w ↦ lit_not_free m (sym z ∙ w) | inr w ↦ r m k (sym w ∙ z) ]
 respects_less (Node l t e) c c' h r = (respects_less t _ _ (less_with c c' l h) r.0, respects_less e c c' h r.1)
 
-less_one : (c : Packet) (l : Lit) → get c (lit_field l) ≡ free → Less (put l c) c
+less_one : (c : Packet) (l : Lit) → IsOpen c (lit_field l) → Less (put l c) c
 less_one c l o f = elim (field_cases (lit_field l) f) [
-  | inl e ↦ inl (subst (λ (g : Field). get c g ≡ free) e o)
+  | inl e ↦ inl (subst (λ (g : Field). IsOpen c g) e o)
   | inr n ↦ inr (sym (get-with_other c (lit_field l) f (lit_value l) n))
 ]
 
@@ -96,7 +96,7 @@ cofactors_else l m t e r f v h = record {
   tight = λ w o g q z. h.tight w.2 o g q (record { tested = λ n k. z.tested n (inr (inr k)); assigned = λ n k. z.assigned n (inr k) });
 }
 
-node_inner : (c : Packet) (l m : Lit) → place (lit_field m) < place (lit_field l) → ((f : Field) → place (lit_field l) ≤ place f → get c f ≡ free) → (f : Field) → place (lit_field l) ≤ place f → get (put m c) f ≡ free
+node_inner : (c : Packet) (l m : Lit) → place (lit_field m) < place (lit_field l) → ((f : Field) → place (lit_field l) ≤ place f → IsOpen c f) → (f : Field) → place (lit_field l) ≤ place f → IsOpen (put m c) f
 node_inner c l m b h f k = get-with_other c (lit_field m) f (lit_value m) (λ e. let e' : place (lit_field m) ≡ place f = ap place e in omega (arith, e', b, k)) ∙ h f k
 
 pub cofactors_node : (l m : Lit) (t e x y r : Tree) → place (lit_field m) < place (lit_field l) → Cofactors l t x → Cofactors l e y → NodeOf m x y r → Cofactors l (Node m t e) r

@@ -9,7 +9,7 @@ use Rattle.nk_values.specs.Members.{IsIn}
 use Rattle.nk_values.specs.Packets.{get}
 use Rattle.nk_values.proofs.LitLaws.{lit_small}
 use Rattle.fdd_nodes.specs.Trees.{Tree, Leaf, Node, leaf_at, outcomes, answers, SameAnswers, Tests, Assigns}
-use Rattle.fdd_nodes.specs.Cells.{free, Agrees}
+use Rattle.fdd_nodes.specs.Cells.{Agrees, IsOpen}
 use Rattle.fdd_nodes.specs.Known.{Bars}
 use Rattle.fdd_ops.specs.Builds.{NodeOf}
 use Rattle.fdd_ops.specs.Negations.{IsPredicate, AssignsNone, IsOther, Negates}
@@ -74,7 +74,7 @@ negates_else c l t e r b h = record {
     fails : (p : Packet) → Agrees c p → ¬ Holds p l
     fails p g z = b.other (sym (g.at (lit_field l) b.fixed) ∙ z)
 
-pub negates_split : (c : Packet) (l : Lit) (t e rt re r : Tree) → get c (lit_field l) ≡ free → Negates (put l c) t rt → Negates c e re → NodeOf l rt re r → Negates c (Node l t e) r
+pub negates_split : (c : Packet) (l : Lit) (t e rt re r : Tree) → IsOpen c (lit_field l) → Negates (put l c) t rt → Negates c e re → NodeOf l rt re r → Negates c (Node l t e) r
 negates_split c l t e rt re r o ht he w = record {
   keeps = λ p g. elim (eqb_tells (get p (lit_field l)) (lit_value l)) [
     | inl y ↦ negates_at (Node l t e) t r rt p (leaf_at-then l t e p y.1) (node_then l rt re r w p y.1) (ht.keeps p (agrees_with c p l y.1 g))

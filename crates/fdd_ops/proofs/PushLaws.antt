@@ -14,7 +14,7 @@ use Rattle.nk_values.proofs.MemberLaws.{in-left, in-right, in-either}
 use Rattle.nk_values.proofs.PacketLaws.{get-with_same, get-with_other, same_field}
 use Rattle.fdd_nodes.specs.Trees.{Tree, Leaf, Node, apply, outcomes, answers, SameAnswers, Tests, IsSetBy, Assigns}
 use Rattle.fdd_nodes.specs.Copies.{IsCopyFrom, IsCopy, assigned, strip, after, Puts}
-use Rattle.fdd_nodes.specs.Cells.{free, Agrees}
+use Rattle.fdd_nodes.specs.Cells.{Agrees, CanFix, IsOpen}
 use Rattle.fdd_nodes.specs.Known.{Bars}
 use Rattle.fdd_ops.specs.Builds.{NodeOf, Sound}
 use Rattle.fdd_ops.specs.Unions.{Settles, Adds}
@@ -83,7 +83,7 @@ apply_other (l ∷ c) k f p h n =
     apply_other c (place (lit_field l) + 1) f (put l p) h.1 (omega (arith, n, h.0))
     ∙ get-with_other p (lit_field l) f (lit_value l) (λ e. let e' : place (lit_field l) ≡ place f = ap place e in omega (arith, e', n, h.0))
 
-assigned_some : (c : List Lit) (k : ℕ) (f : Field) (n : ℕ) (p : Packet) → IsCopyFrom k c → assigned c f ≡ Some n → (get (apply c p) f ≡ n) × (n ≢ free)
+assigned_some : (c : List Lit) (k : ℕ) (f : Field) (n : ℕ) (p : Packet) → IsCopyFrom k c → assigned c f ≡ Some n → (get (apply c p) f ≡ n) × CanFix n
 assigned_some [] k f n p h e = absurd (let e' : None ≡ Some n = e in cc)
 assigned_some (l ∷ c) k f n p h e = elim (eqb_tells (place (lit_field l)) (place f)) [
   | inl y ↦
@@ -182,7 +182,7 @@ settles_then c l t e r f h = settled c (Node l t e) r (pushes_then c [] l t e r 
 pub settles_else : (c : Packet) (l : Lit) (t e r : Tree) → Bars c l → Settles c e r → Settles c (Node l t e) r
 settles_else c l t e r f h = settled c (Node l t e) r (pushes_else c [] l t e r (λ p g z. f.other (sym (g.at (lit_field l) f.fixed) ∙ z)) (pushed c e r h))
 
-pub settles_split : (c : Packet) (l : Lit) (t e rt re r : Tree) → get c (lit_field l) ≡ free → Settles (put l c) t rt → Settles c e re → NodeOf l rt re r → Settles c (Node l t e) r
+pub settles_split : (c : Packet) (l : Lit) (t e rt re r : Tree) → IsOpen c (lit_field l) → Settles (put l c) t rt → Settles c e re → NodeOf l rt re r → Settles c (Node l t e) r
 settles_split c l t e rt re r f ht he w =
     settled c (Node l t e) r (pushes_split c [] l t e rt re r (record { own = λ p. refl; is_open = f }) (pushed (put l c) t rt ht) (pushed c e re he) w)
 

@@ -1,5 +1,5 @@
 -- Sequences.
-use Rattle.std.proofs.Common.{◌≡◌, ◌≢◌, ◌⊎◌, inl, inr, refl, sym, ◌∙◌, subst, arith, Bool, true, false, cond, eqb, List, [], ◌∷◌, ◌++◌}
+use Rattle.std.proofs.Common.{◌≡◌, ◌⊎◌, inl, inr, refl, sym, ◌∙◌, subst, arith, Bool, true, false, cond, eqb, List, [], ◌∷◌, ◌++◌}
 use Rattle.std.proofs.lemmas.Bool.{eqb-true}
 use Rattle.std.proofs.lemmas.Bool.Decides.{eqb_tells}
 use Rattle.nk_values.specs.declared.field.Field.{Field}
@@ -15,7 +15,7 @@ use Rattle.nk_values.proofs.MemberLaws.{in-left, in-right, in-either}
 use Rattle.nk_values.proofs.PacketLaws.{get-with_other}
 use Rattle.fdd_nodes.specs.Trees.{Tree, Leaf, Node, leaf_at, apply, outcomes, answers, SameAnswers, IsOrdered, Tests, IsSetBy, Assigns}
 use Rattle.fdd_nodes.specs.Roots.{IsLeaf, HasRoot, then_part, else_part}
-use Rattle.fdd_nodes.specs.Cells.{free, Agrees, open_cell}
+use Rattle.fdd_nodes.specs.Cells.{Agrees, open_cell, IsOpen}
 use Rattle.fdd_nodes.specs.Known.{Bars}
 use Rattle.fdd_ops.specs.Builds.{IsOpenAt, Sound}
 use Rattle.fdd_ops.specs.Unions.{Joins}
@@ -41,10 +41,10 @@ set_right (c ∷ cs) ds m h = inr (set_right cs ds m h)
 
 -- what a copy leaves
 
-spared : (s : Packet) (x : List Lit) → Spares s x → (p : Packet) (f : Field) → get s f ≢ free → get (apply x p) f ≡ get p f
+spared : (s : Packet) (x : List Lit) → Spares s x → (p : Packet) (f : Field) → ¬ IsOpen s f → get (apply x p) f ≡ get p f
 spared s [] h p f n = refl
 spared s (l ∷ x) h p f n =
-    spared s x h.1 (put l p) f n ∙ get-with_other p (lit_field l) f (lit_value l) (λ e. n (subst (λ (g : Field). get s g ≡ free) e h.0))
+    spared s x h.1 (put l p) f n ∙ get-with_other p (lit_field l) f (lit_value l) (λ e. n (subst (λ (g : Field). IsOpen s g) e h.0))
 
 -- gathers
 
@@ -200,7 +200,7 @@ joined_ordered : (c : Packet) (l : Lit) (x y r : Tree) → IsOpenAt (put l c) x 
 joined_ordered c l x y r o (inl n) ox oy = node_ordered c l x y r 0 n.node (omega arith) o (after_ordered l x n.after_x ox) (after_ordered l y n.after_y oy)
 joined_ordered c l x y r o (inr n) ox oy = n.ordered 0 (omega arith) ox oy
 
-joined_sound : (c : Packet) (T A : Lit → Type 0) (l : Lit) (x y r : Tree) → get c (lit_field l) ≡ free → T l → Sound (put l c) T A x → Sound c T A y → JoinedAt c l x y r → Sound c T A r
+joined_sound : (c : Packet) (T A : Lit → Type 0) (l : Lit) (x y r : Tree) → IsOpen c (lit_field l) → T l → Sound (put l c) T A x → Sound c T A y → JoinedAt c l x y r → Sound c T A r
 joined_sound c T A l x y r o tl sx sy (inl n) = sound_node c T A l x y r o tl sx sy n.node
 joined_sound c T A l x y r o tl sx sy (inr n) =
     sound_weaken c _ _ T A r
@@ -230,7 +230,7 @@ sound_else : (c : Packet) (l : Lit) (a a1 a0 h h1 h0 b r : Tree) → Cuts l a a1
 sound_else c l a a1 a0 h h1 h0 b r ua uh k =
     sound_weaken c _ _ _ _ r (among _ _ _ _ (Tests b) ua.else_tests uh.else_tests) (among _ _ _ _ (Assigns b) ua.else_assigns uh.else_assigns) k
 
-pub sequences_split : (c s s' : Packet) (l : Lit) (a a1 a0 h h1 h0 b x y r : Tree) → Cuts l a a1 a0 → Cuts l h h1 h0 → IsNext l a h → Asks s h l s' → get c (lit_field l) ≡ free
+pub sequences_split : (c s s' : Packet) (l : Lit) (a a1 a0 h h1 h0 b x y r : Tree) → Cuts l a a1 a0 → Cuts l h h1 h0 → IsNext l a h → Asks s h l s' → IsOpen c (lit_field l)
     → SequencesIn (put l c) s' a1 h1 b x → SequencesIn c s' a0 h0 b y → JoinedAt c l x y r → SequencesIn c s a h b r
 sequences_split c s s' l a a1 a0 h h1 h0 b x y r ua uh n k o kx ky j = record {
   has = λ p z g w v. elim (eqb_tells (get p (lit_field l)) (lit_value l)) [

@@ -11,7 +11,7 @@ use Rattle.nk_values.proofs.MemberLaws.{in-left, in-right, in-either}
 use Rattle.fdd_nodes.specs.Trees.{Tree, Leaf, Node, leaf_at, apply, outcomes, answers, SameAnswers, Tests, IsSetBy, Assigns}
 use Rattle.fdd_nodes.specs.Roots.{IsLeaf, IsFirst}
 use Rattle.fdd_nodes.specs.Copies.{IsCopy, strip, Puts}
-use Rattle.fdd_nodes.specs.Cells.{free}
+use Rattle.fdd_nodes.specs.Cells.{IsOpen}
 use Rattle.fdd_nodes.specs.Known.{Bars}
 use Rattle.fdd_ops.specs.Builds.{NodeOf, Sound}
 use Rattle.fdd_ops.specs.Skips.{Skips}
@@ -70,7 +70,7 @@ sound_then c l a a1 a0 b b1 b0 r sa sb s = sound_weaken c _ _ _ _ r (both _ _ _ 
 sound_else : (c : Packet) (l : Lit) (a a1 a0 b b1 b0 r : Tree) → Splits l a a1 a0 → Splits l b b1 b0 → Sound c (Either (Tests a0) (Tests b0)) (Either (Assigns a0) (Assigns b0)) r → Sound c (Either (Tests a) (Tests b)) (Either (Assigns a) (Assigns b)) r
 sound_else c l a a1 a0 b b1 b0 r sa sb s = sound_weaken c _ _ _ _ r (both _ _ _ _ sa.else_tests sb.else_tests) (both _ _ _ _ sa.else_assigns sb.else_assigns) s
 
-pub joins_split : (c : Packet) (l : Lit) (a a1 a0 b b1 b0 t e r : Tree) → Splits l a a1 a0 → Splits l b b1 b0 → IsFirst l a b → get c (lit_field l) ≡ free → Joins (put l c) a1 b1 t → Joins c a0 b0 e → NodeOf l t e r → Joins c a b r
+pub joins_split : (c : Packet) (l : Lit) (a a1 a0 b b1 b0 t e r : Tree) → Splits l a a1 a0 → Splits l b b1 b0 → IsFirst l a b → IsOpen c (lit_field l) → Joins (put l c) a1 b1 t → Joins c a0 b0 e → NodeOf l t e r → Joins c a b r
 joins_split c l a a1 a0 b b1 b0 t e r sa sb f o ht he n = record {
   union = λ p g. elim (eqb_tells (get p (lit_field l)) (lit_value l)) [
     | inl y ↦ union_via a a1 b b1 r t p (sa.then_leaf p y.1) (sb.then_leaf p y.1) (node_then l t e r n p y.1) (ht.union p (agrees_with c p l y.1 g))

@@ -5,10 +5,10 @@ use Rattle.nk_values.specs.declared.packet.Packet.{Packet}
 use Rattle.nk_values.specs.declared.lit.Lit.{Lit}
 use Rattle.nk_values.specs.Held.{Holds}
 use Rattle.nk_values.specs.Lits.{lit_field, lit_value}
-use Rattle.nk_values.specs.Packets.{get, IsInRange}
+use Rattle.nk_values.specs.Packets.{IsInRange}
 use Rattle.nk_values.specs.Ranges.{place}
 use Rattle.fdd_nodes.specs.Trees.{Tree, Leaf, Node, answers, SameAnswers, IsOrderedFrom, IsOrdered, Tests, Assigns}
-use Rattle.fdd_nodes.specs.Cells.{free, IsFresh, Respects}
+use Rattle.fdd_nodes.specs.Cells.{IsFresh, Respects, IsOpen}
 use Rattle.fdd_nodes.specs.Normals.{IsTight}
 
 -- no field before the literal's is tested first
@@ -27,7 +27,7 @@ pub record Cofactors (l : Lit) (a r : Tree) : Type 0 where
   pub same : (p : Packet) → Holds p l → SameAnswers (answers r p) (answers a p)
   pub stands : IsFieldFrom l a → IsOrdered a → r ≡ part_at l a
   pub ordered : (k : ℕ) → IsOrderedFrom k a → IsOrderedFrom k r
-  pub respects : (c : Packet) → ((f : Field) → place (lit_field l) ≤ place f → get c f ≡ free) → Respects c a → Respects c r
+  pub respects : (c : Packet) → ((f : Field) → place (lit_field l) ≤ place f → IsOpen c f) → Respects c a → Respects c r
   pub tests : (m : Lit) → Tests r m → Tests a m
   pub assigns : (m : Lit) → Assigns r m → Assigns a m
   pub tight : IsTight a → IsOrdered r → (g : Packet) → IsInRange g → IsFresh g a → IsTight r

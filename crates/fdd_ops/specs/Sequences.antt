@@ -1,5 +1,5 @@
 -- Sequences.
-use Rattle.std.specs.Prelude.{◌≡◌, ◌≢◌, ℕ, ◌⊎◌, List, [], ◌∷◌}
+use Rattle.std.specs.Prelude.{◌≡◌, ℕ, ◌⊎◌, List, [], ◌∷◌}
 use Rattle.nk_values.specs.declared.field.Field.{Field}
 use Rattle.nk_values.specs.declared.packet.Packet.{Packet}
 use Rattle.nk_values.specs.declared.lit.Lit.{Lit}
@@ -7,7 +7,7 @@ use Rattle.nk_values.specs.Held.{Holds}
 use Rattle.nk_values.specs.Members.{IsIn}
 use Rattle.fdd_nodes.specs.Roots.{HasRoot, IsAfter}
 use Rattle.fdd_nodes.specs.Trees.{Tree, leaf_at, outcomes, answers, apply, SameAnswers, IsOrderedFrom, IsOrdered, Tests, IsSetBy, Assigns}
-use Rattle.fdd_nodes.specs.Cells.{free, Agrees, open_cell}
+use Rattle.fdd_nodes.specs.Cells.{Agrees, open_cell, IsOpen}
 use Rattle.fdd_nodes.specs.declared.cell.Known.{Known}
 use Rattle.fdd_nodes.specs.declared.cell.Known.TheVariants.{Open, Yes, No}
 use Rattle.nk_values.specs.Lits.{lit_field}
@@ -31,7 +31,7 @@ pub record Follow (c : Packet) (x : List Lit) (cs ds : List (List Lit)) : Type 0
 -- the copy leaves the literal's field as it is, and the cell leaves it open
 pub record LeavesOpen (c : Packet) (x : List Lit) (l : Lit) : Type 0 where
   pub own : (p : Packet) → get (apply x p) (lit_field l) ≡ get p (lit_field l)
-  pub is_open : get c (lit_field l) ≡ free
+  pub is_open : IsOpen c (lit_field l)
 
 -- what is known of a literal after the copy x, on the packets of the cell c
 abbrev pub KnowsAfter : Packet → List Lit → Lit → Known → Type 0
@@ -48,16 +48,16 @@ pub record Pushes (c : Packet) (x : List Lit) (b r : Tree) : Type 0 where
 -- the copy sets no field that s fixes
 abbrev pub Spares : Packet → List Lit → Type 0
 Spares s [] = Unit {0}
-Spares s (l ∷ x) = (get s (lit_field l) ≡ free) × Spares s x
+Spares s (l ∷ x) = (IsOpen s (lit_field l)) × Spares s x
 
 -- b leads each packet that is as p in the fields which s fixes to the leaf that h leads it to
 pub record IsReached (s : Packet) (h b : Tree) (p : Packet) : Type 0 where
-  pub at : (q : Packet) → ((f : Field) → get s f ≢ free → get q f ≡ get p f) → leaf_at b q ≡ leaf_at h q
+  pub at : (q : Packet) → ((f : Field) → ¬ IsOpen s f → get q f ≡ get p f) → leaf_at b q ≡ leaf_at h q
 
 -- r fixes the fields that s fixes, and the field of l, where l is the first test of h
 pub record Asks (s : Packet) (h : Tree) (l : Lit) (r : Packet) : Type 0 where
-  pub kept : (f : Field) → get s f ≢ free → get r f ≢ free
-  pub root : HasRoot l h → get r (lit_field l) ≢ free
+  pub kept : (f : Field) → ¬ IsOpen s f → ¬ IsOpen r f
+  pub root : HasRoot l h → ¬ IsOpen r (lit_field l)
 
 -- the first test of one of them is l
 abbrev pub IsNext : Lit → Tree → Tree → Type 0

@@ -1,4 +1,4 @@
-// Operations on diagrams: literals, union, sequence, negation and cofactor (ICFP 2015, section 3).
+//! Operations on diagrams: literals, union, sequence, negation and cofactor (ICFP 2015, section 3).
 #![tactic(auto)]
 
 mod chain;
@@ -6,12 +6,9 @@ mod choices;
 mod cofactors;
 mod leaves;
 mod negations;
-pub mod ops;
+mod ops;
 mod sequences;
 mod skips;
 mod unions;
 
 pub use ops::{assign, choice, cofactor, negate, one, sequence, test, union, zero};
-
-#[cfg(test)]
-mod tests;
