@@ -22,7 +22,7 @@ use Rattle.leaf_actions.specs.declared.view.PortView.{PortView}
 use Rattle.leaf_actions.specs.Chains.{Climbs}
 use Rattle.leaf_actions.specs.Listing.{changed, retagged, port_number, listed}
 use Rattle.leaf_actions.specs.Settable.{settable, CopyCanBeSet}
-use Rattle.leaf_actions.specs.Views.{tag_at}
+use Rattle.policy_rows.specs.Means.{port_tag}
 use Rattle.leaf_actions.proofs.Chained.{Keeps, keeps_of}
 use Rattle.leaf_actions.proofs.Fixed.{pick_fixed, fill_apply, fill_own, unset, not_typ, not_proto}
 use Rattle.leaf_actions.proofs.Routed.{sent_route}
@@ -129,7 +129,7 @@ acted_changed y z p port tag rest k e f =
     ap (λ (h : Header). acted rest (inc port h tag)) (filled_over y z p k e f)
 
 -- the tag turns from that of one kind of port into that of another
-acted_retagged : (stamp : ℕ) (j k : PortKind) (port : ℕ) (h : Header) (rest : List Action) → IsVlanId stamp → acted (retagged stamp j k ++ rest) (inc port h (tag_at j stamp)) ≡ acted rest (inc port h (tag_at k stamp))
+acted_retagged : (stamp : ℕ) (j k : PortKind) (port : ℕ) (h : Header) (rest : List Action) → IsVlanId stamp → acted (retagged stamp j k ++ rest) (inc port h (port_tag j stamp)) ≡ acted rest (inc port h (port_tag k stamp))
 acted_retagged stamp Edge Edge port h rest s = refl
 acted_retagged stamp Edge Linked port h rest s =
     ap (λ b. acted rest (inc port h (cond b (Some stamp) None))) (ap (λ b. b && nat_le stamp 4094) (le-leb 1 stamp s.0) ∙ le-leb stamp 4094 s.1)
@@ -153,15 +153,15 @@ IsOut v r = (r.port ≡ v.pt) ⊎ ((1 ≤ r.port) × (r.port ≤ 65279))
 
 pub acted_listed : (v : PortView) (x y p : Packet) (k : PortKind) (rs : List Route) → IsVlanId v.stamp → Agrees x p → y.header.eth_typ ≡ x.header.eth_typ → y.header.ip_proto ≡ x.header.ip_proto →
     ((r : Route) → IsIn rs r → IsOut v r × CopyCanBeSet r.copy) → Climbs x y rs →
-    acted (listed v x y k rs) (inc v.pt (fill y p).header (tag_at k v.stamp)) ≡ map (sent_route v p) rs
+    acted (listed v x y k rs) (inc v.pt (fill y p).header (port_tag k v.stamp)) ≡ map (sent_route v p) rs
 acted_listed v x y p k [] s a e f g c = refl
 acted_listed v x y p k (r ∷ rs) s a e f g c =
     let ez : (apply r.copy x).header.eth_typ ≡ x.header.eth_typ = unset r.copy x EthTyp not_typ (g r (inl refl)).1 in
     let fz : (apply r.copy x).header.ip_proto ≡ x.header.ip_proto = unset r.copy x IpProto not_proto (g r (inl refl)).1 in
     let now : fill (apply r.copy x) p ≡ apply r.copy p = fill_apply r.copy x p ∙ ap (apply r.copy) (fill_own x p a) in
-    acted_changed y (apply r.copy x) p v.pt (tag_at k v.stamp) (retagged v.stamp k r.kind ++ Output (port_number v r.port) ∷ listed v x (apply r.copy x) r.kind rs) (keeps_of y (apply r.copy x) c.0) (e ∙ sym ez) (f ∙ sym fz) ∙
+    acted_changed y (apply r.copy x) p v.pt (port_tag k v.stamp) (retagged v.stamp k r.kind ++ Output (port_number v r.port) ∷ listed v x (apply r.copy x) r.kind rs) (keeps_of y (apply r.copy x) c.0) (e ∙ sym ez) (f ∙ sym fz) ∙
     acted_retagged v.stamp k r.kind v.pt (fill (apply r.copy x) p).header (Output (port_number v r.port) ∷ listed v x (apply r.copy x) r.kind rs) s ∙
-    ap (λ (o : Option ℕ). sent_to o (inc v.pt (fill (apply r.copy x) p).header (tag_at r.kind v.stamp)) ++ acted (listed v x (apply r.copy x) r.kind rs) (inc v.pt (fill (apply r.copy x) p).header (tag_at r.kind v.stamp)))
+    ap (λ (o : Option ℕ). sent_to o (inc v.pt (fill (apply r.copy x) p).header (port_tag r.kind v.stamp)) ++ acted (listed v x (apply r.copy x) r.kind rs) (inc v.pt (fill (apply r.copy x) p).header (port_tag r.kind v.stamp)))
     (out_number v r.port (g r (inl refl)).0 (r.port == v.pt) refl) ∙
-    ap (λ (q : Packet). record { port = r.port; header = q.header; tag = tag_at r.kind v.stamp } ∷ acted (listed v x (apply r.copy x) r.kind rs) (inc v.pt (fill (apply r.copy x) p).header (tag_at r.kind v.stamp))) now ∙
+    ap (λ (q : Packet). record { port = r.port; header = q.header; tag = port_tag r.kind v.stamp } ∷ acted (listed v x (apply r.copy x) r.kind rs) (inc v.pt (fill (apply r.copy x) p).header (port_tag r.kind v.stamp))) now ∙
     ap (λ (l : List Sent). sent_route v p r ∷ l) (acted_listed v x (apply r.copy x) p r.kind rs s a ez fz (λ t i. g t (inr i)) c.1)

@@ -5,18 +5,19 @@ use Rattle.nk_values.specs.Lits.{lit_field}
 use Rattle.nk_values.specs.Members.{IsIn}
 use Rattle.fdd_nodes.specs.Trees.{IsSetBy}
 use Rattle.fdd_nodes.proofs.MakesLaws.{among_lists}
-use Rattle.leaf_actions.specs.Settable.{CanSet, AreSettable, CopyCanBeSet, CopiesCanBeSet}
+use Rattle.nk_values.specs.Acts.{IsSettable}
+use Rattle.leaf_actions.specs.Settable.{AreSettable, CopyCanBeSet, CopiesCanBeSet}
 
-copy_each : (c : List Lit) → CopyCanBeSet c → (m : Lit) → IsIn c m → CanSet (lit_field m)
+copy_each : (c : List Lit) → CopyCanBeSet c → (m : Lit) → IsIn c m → IsSettable (lit_field m)
 copy_each [] h m k = absurd k
-copy_each (l ∷ c) h m (inl e) = subst (λ (x : Lit). CanSet (lit_field x)) e h.0
+copy_each (l ∷ c) h m (inl e) = subst (λ (x : Lit). IsSettable (lit_field x)) e h.0
 copy_each (l ∷ c) h m (inr k) = copy_each c h.1 m k
 
-copy_all : (c : List Lit) → ((m : Lit) → IsIn c m → CanSet (lit_field m)) → CopyCanBeSet c
+copy_all : (c : List Lit) → ((m : Lit) → IsIn c m → IsSettable (lit_field m)) → CopyCanBeSet c
 copy_all [] h = tt
 copy_all (l ∷ c) h = (h l (inl refl), copy_all c (λ m k. h m (inr k)))
 
-each : (cs : List (List Lit)) → CopiesCanBeSet cs → (m : Lit) → IsSetBy cs m → CanSet (lit_field m)
+each : (cs : List (List Lit)) → CopiesCanBeSet cs → (m : Lit) → IsSetBy cs m → IsSettable (lit_field m)
 each [] h m k = absurd k
 each (c ∷ cs) h m (inl k) = copy_each c h.0 m k
 each (c ∷ cs) h m (inr k) = each cs h.1 m k

@@ -10,7 +10,7 @@ use Rattle.nk_values.specs.Packets.{get}
 use Rattle.fdd_nodes.specs.Cells.{free}
 use Rattle.fdd_nodes.specs.Trees.{apply}
 use Rattle.leaf_actions.specs.declared.route.Route.{Route}
-use Rattle.leaf_actions.specs.declared.made.Unordered.{Unordered}
+use Rattle.leaf_actions.specs.declared.made.ActionsFault.{ActionsFault}
 use Rattle.leaf_actions.specs.Chains.{loses, keeps_fields, keeps, Climbs}
 use Rattle.leaf_actions.specs.Changes.{changes, bit, count_of, change_count, Includes, first_of_fields, goes_beyond, first_beyond}
 use Rattle.leaf_actions.specs.Listing.{IsChain, told_apart, apart, or_else, first_from, first_apart}
@@ -143,7 +143,7 @@ includes_more x a b n (inl h) = includes_none x a b h
 includes_more x a b n (inr h) = record { each = bits_back (changes x a) (changes x b) settable (includes_none x b a h).each n }
 
 -- no pair is apart
-neither : (o p : Option Unordered) → or_else o p ≡ None → (o ≡ None) × (p ≡ None)
+neither : (o p : Option ActionsFault) → or_else o p ≡ None → (o ≡ None) × (p ≡ None)
 neither None p h = (refl, h)
 neither (Some u) p h = absurd (cc)
 

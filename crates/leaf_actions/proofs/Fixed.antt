@@ -2,7 +2,7 @@
 use Rattle.std.proofs.Common.{◌≡◌, ◌≢◌, ℕ, inl, inr, refl, ap, sym, ◌∙◌, subst, cond, Bool, true, false, ◌==◌, List, [], ◌∷◌}
 use Rattle.std.proofs.lemmas.Bool.{ne_eqb, eqb-false}
 use Rattle.nk_values.specs.declared.field.Field.{Field}
-use Rattle.nk_values.specs.declared.field.Field.TheVariants.{Sw, Pt, EthTyp, IpProto, EthSrc, EthDst, Ip4Src, Ip4Dst, TcpSrcPort, TcpDstPort}
+use Rattle.nk_values.specs.declared.field.Field.TheVariants.{EthTyp, IpProto}
 use Rattle.nk_values.specs.declared.packet.Packet.{Packet}
 use Rattle.nk_values.specs.declared.lit.Lit.{Lit}
 use Rattle.nk_values.specs.Held.{Holds, put}
@@ -13,11 +13,11 @@ use Rattle.nk_values.specs.Ranges.{IsValue}
 use Rattle.nk_values.proofs.LitLaws.{lit_is_value}
 use Rattle.nk_values.proofs.PacketLaws.{get-with_same, get-with_other, field_cases, same_packet}
 use Rattle.fdd_nodes.specs.Cells.{free, open_cell, Agrees, fill, pick, IsValid}
-use Rattle.fdd_nodes.specs.Paths.{Way, IsOnPath}
+use Rattle.fdd_nodes.specs.Paths.{Way, IsOnPath, cell_on}
 use Rattle.fdd_nodes.specs.Trees.{apply}
-use Rattle.fdd_nodes.proofs.CellLaws.{lit_not_free, agrees_with, open_agrees, open_valid}
-use Rattle.leaf_actions.specs.Changes.{fixed}
-use Rattle.leaf_actions.specs.Settable.{CanSet, CopyCanBeSet}
+use Rattle.fdd_nodes.proofs.CellLaws.{lit_not_free, agrees_with, open_agrees, open_valid, get-fill}
+use Rattle.nk_values.specs.Acts.{IsSettable}
+use Rattle.leaf_actions.specs.Settable.{CopyCanBeSet}
 
 -- what is fixed by a copy is in range, if what was fixed before is
 valid_put : (l : Lit) (x : Packet) → IsValid x → IsValid (put l x)
@@ -32,7 +32,7 @@ pub valid_apply : (c : List Lit) (x : Packet) → IsValid x → IsValid (apply c
 valid_apply [] x v = v
 valid_apply (l ∷ c) x v = valid_apply c (put l x) (valid_put l x v)
 
-pub fixed_valid : (w : Way) → IsValid (fixed w)
+pub fixed_valid : (w : Way) → IsValid (cell_on w)
 fixed_valid w = valid_apply w.trues open_cell open_valid
 
 -- no copy opens what is fixed
@@ -51,7 +51,7 @@ agrees_apply : (ls : List Lit) (x p : Packet) → ((l : Lit) → IsIn ls l → H
 agrees_apply [] x p h a = a
 agrees_apply (l ∷ ls) x p h a = agrees_apply ls (put l x) p (λ m k. h m (inr k)) (agrees_with x p l (h l (inl refl)) a)
 
-pub fixed_agrees : (w : Way) (p : Packet) → IsOnPath w p → Agrees (fixed w) p
+pub fixed_agrees : (w : Way) (p : Packet) → IsOnPath w p → Agrees (cell_on w) p
 fixed_agrees w p h = agrees_apply w.trues open_cell p h.holds (open_agrees p)
 
 -- what a copy makes of a field depends on that field alone
@@ -62,27 +62,14 @@ apply_at (l ∷ c) p q f e = apply_at c (put l p) (put l q) f (elim (field_cases
   | inr o ↦ get-with_other p (lit_field l) f (lit_value l) o ∙ e ∙ sym (get-with_other q (lit_field l) f (lit_value l) o)
 ])
 
--- a cell filled up by a packet, field by field
-get_filled : (x p : Packet) (f : Field) → get (fill x p) f ≡ pick (get x f) (get p f)
-get_filled x p Sw = refl
-get_filled x p Pt = refl
-get_filled x p EthTyp = refl
-get_filled x p IpProto = refl
-get_filled x p EthSrc = refl
-get_filled x p EthDst = refl
-get_filled x p Ip4Src = refl
-get_filled x p Ip4Dst = refl
-get_filled x p TcpSrcPort = refl
-get_filled x p TcpDstPort = refl
-
 pub pick_fixed : (m n : ℕ) → m ≢ free → pick m n ≡ m
 pick_fixed m n h = ap (λ b. cond b n m) (ne_eqb _ _ h)
 
 fill_put : (l : Lit) (x p : Packet) → fill (put l x) p ≡ put l (fill x p)
-fill_put l x p = same_packet (fill (put l x) p) (put l (fill x p)) (λ f. get_filled (put l x) p f ∙ (elim (field_cases (lit_field l) f) [
+fill_put l x p = same_packet (fill (put l x) p) (put l (fill x p)) (λ f. get-fill (put l x) p f ∙ (elim (field_cases (lit_field l) f) [
   | inl e ↦ subst (λ (g : Field). pick (get (put l x) g) (get p g) ≡ get (put l (fill x p)) g) e
       (ap (λ n. pick n (get p (lit_field l))) (get-with_same x (lit_field l) (lit_value l)) ∙ pick_fixed (lit_value l) (get p (lit_field l)) (lit_not_free l) ∙ sym (get-with_same (fill x p) (lit_field l) (lit_value l)))
-  | inr o ↦ ap (λ n. pick n (get p f)) (get-with_other x (lit_field l) f (lit_value l) o) ∙ sym (get_filled x p f) ∙ sym (get-with_other (fill x p) (lit_field l) f (lit_value l) o)
+  | inr o ↦ ap (λ n. pick n (get p f)) (get-with_other x (lit_field l) f (lit_value l) o) ∙ sym (get-fill x p f) ∙ sym (get-with_other (fill x p) (lit_field l) f (lit_value l) o)
 ]))
 
 pub fill_apply : (c : List Lit) (x p : Packet) → fill (apply c x) p ≡ apply c (fill x p)
@@ -97,15 +84,15 @@ picked m n h = decided (m == free) refl
     decided false e = ap (λ b. cond b n m) e ∙ sym (h (eqb-false _ _ e))
 
 pub fill_own : (x p : Packet) → Agrees x p → fill x p ≡ p
-fill_own x p a = same_packet (fill x p) p (λ f. get_filled x p f ∙ picked (get x f) (get p f) (a.at f))
+fill_own x p a = same_packet (fill x p) p (λ f. get-fill x p f ∙ picked (get x f) (get p f) (a.at f))
 
 -- a field that no settable copy sets
-pub unset : (c : List Lit) (x : Packet) (f : Field) → ((g : Field) → CanSet g → g ≢ f) → CopyCanBeSet c → get (apply c x) f ≡ get x f
+pub unset : (c : List Lit) (x : Packet) (f : Field) → ((g : Field) → IsSettable g → g ≢ f) → CopyCanBeSet c → get (apply c x) f ≡ get x f
 unset [] x f h k = refl
 unset (l ∷ c) x f h k = unset c (put l x) f h k.1 ∙ get-with_other x (lit_field l) f (lit_value l) (h (lit_field l) k.0)
 
-pub not_typ : (g : Field) → CanSet g → g ≢ EthTyp
-not_typ g h e = subst CanSet e h
+pub not_typ : (g : Field) → IsSettable g → g ≢ EthTyp
+not_typ g h e = subst IsSettable e h
 
-pub not_proto : (g : Field) → CanSet g → g ≢ IpProto
-not_proto g h e = subst CanSet e h
+pub not_proto : (g : Field) → IsSettable g → g ≢ IpProto
+not_proto g h e = subst IsSettable e h

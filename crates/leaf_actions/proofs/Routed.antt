@@ -25,7 +25,8 @@ use Rattle.leaf_actions.specs.declared.view.SwitchPort.{SwitchPort}
 use Rattle.leaf_actions.specs.Acting.{sent_by_port, sendings}
 use Rattle.leaf_actions.specs.Changes.{change_count}
 use Rattle.leaf_actions.specs.Routes.{out_of, route_by, routes_of, route_cmp, IsListing}
-use Rattle.leaf_actions.specs.Views.{port_in, tag_at}
+use Rattle.leaf_actions.specs.Views.{port_in}
+use Rattle.policy_rows.specs.Means.{port_tag}
 use Rattle.leaf_actions.proofs.Fixed.{apply_at}
 use Rattle.leaf_actions.proofs.Chained.{Rises, AllRise}
 
@@ -104,7 +105,7 @@ listing_rises v x cs rs l = all_rise x rs (λ r k. (listed_known v x cs rs l r k
 
 -- what a route's copy sends
 abbrev pub sent_route : PortView → Packet → Route → Sent
-sent_route v p r = record { port = r.port; header = (apply r.copy p).header; tag = tag_at r.kind v.stamp }
+sent_route v p r = record { port = r.port; header = (apply r.copy p).header; tag = port_tag r.kind v.stamp }
 
 sent_one : (v : PortView) (x p : Packet) (c : List Lit) (o : Option SwitchPort) → map (sent_route v p) (route_by x c o) ≡ sent_by_port v (apply c p) o
 sent_one v x p c None = refl

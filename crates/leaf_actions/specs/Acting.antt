@@ -9,13 +9,14 @@ use Rattle.nk_values.specs.Acts.{acted}
 use Rattle.nk_values.specs.Members.{SameMembers}
 use Rattle.fdd_nodes.specs.Paths.{Way, IsOnPath}
 use Rattle.fdd_nodes.specs.Trees.{outcomes}
+use Rattle.policy_rows.specs.Means.{port_tag}
 use Rattle.leaf_actions.specs.declared.view.PortView.{PortView}
 use Rattle.leaf_actions.specs.declared.view.SwitchPort.{SwitchPort}
-use Rattle.leaf_actions.specs.Views.{port_in, tag_at, arriving}
+use Rattle.leaf_actions.specs.Views.{port_in, arriving}
 
 abbrev pub sent_by_port : PortView → Packet → Option SwitchPort → List Sent
 sent_by_port v q None = []
-sent_by_port v q (Some s) = record { port = s.pt; header = q.header; tag = tag_at s.kind v.stamp } ∷ []
+sent_by_port v q (Some s) = record { port = s.pt; header = q.header; tag = port_tag s.kind v.stamp } ∷ []
 
 -- a packet as it leaves by its port, if that port is declared: untagged at an edge port, with the stamp at a linked one
 abbrev pub sent_at : PortView → Packet → List Sent

@@ -1,22 +1,16 @@
 -- The header fields that copies set and their path does not fix.
-use Rattle.std.specs.Prelude.{◌≡◌, ℕ, ◌+◌, Bool, true, false, ◌==◌, ◌&&◌, not, List, [], ◌∷◌, Option, Some, None, if◌then◌else◌}
+use Rattle.std.specs.Prelude.{◌≡◌, ℕ, ◌+◌, Bool, true, false, ◌&&◌, not, List, [], ◌∷◌, Option, Some, None, if◌then◌else◌}
 use Rattle.nk_values.specs.declared.field.Field.{Field}
 use Rattle.nk_values.specs.declared.packet.Packet.{Packet}
 use Rattle.nk_values.specs.declared.lit.Lit.{Lit}
 use Rattle.nk_values.specs.Members.{IsIn}
-use Rattle.nk_values.specs.Packets.{get}
-use Rattle.fdd_nodes.specs.Cells.{free, open_cell}
-use Rattle.fdd_nodes.specs.Paths.{Way}
+use Rattle.fdd_nodes.specs.Cells.{is_open}
 use Rattle.fdd_nodes.specs.Trees.{apply}
 use Rattle.leaf_actions.specs.Settable.{settable}
 
--- what a path fixes, as a cell: `free` stands in the other fields
-abbrev pub fixed : Way → Packet
-fixed w = apply w.trues open_cell
-
 -- the cell x leaves the field open, and the copy sets it
 abbrev pub changes : Packet → List Lit → Field → Bool
-changes x c f = (get x f == free) && not (get (apply c x) f == free)
+changes x c f = is_open x f && not (is_open (apply c x) f)
 
 abbrev pub bit : Bool → ℕ
 bit true = 1

@@ -1,6 +1,7 @@
 pub mod Acting
 pub mod Chains
 pub mod Changes
+pub mod Laws
 pub mod Listing
 pub mod Orders
 pub mod Routes

@@ -10,14 +10,14 @@ use Rattle.nk_values.specs.declared.rows.PortKind.{PortKind}
 use Rattle.nk_values.specs.declared.rows.PortKind.TheVariants.{Edge, Linked}
 use Rattle.nk_values.specs.Members.{IsIn}
 use Rattle.nk_values.specs.Packets.{get}
-use Rattle.fdd_nodes.specs.Paths.{Way}
+use Rattle.fdd_nodes.specs.Paths.{Way, cell_on}
 use Rattle.fdd_nodes.specs.Trees.{apply}
-use Rattle.leaf_actions.specs.declared.made.Unordered.{Unordered}
+use Rattle.leaf_actions.specs.declared.made.ActionsFault.{ActionsFault}
 use Rattle.leaf_actions.specs.declared.made.ActionsError.{ActionsError}
 use Rattle.leaf_actions.specs.declared.made.ActionsError.TheVariants as error
 use Rattle.leaf_actions.specs.declared.route.Route.{Route}
 use Rattle.leaf_actions.specs.declared.view.PortView.{PortView}
-use Rattle.leaf_actions.specs.Changes.{fixed, Includes, first_beyond}
+use Rattle.leaf_actions.specs.Changes.{Includes, first_beyond}
 use Rattle.leaf_actions.specs.Routes.{IsListing}
 use Rattle.leaf_actions.specs.Settable.{settable}
 
@@ -26,25 +26,25 @@ pub record IsChain (x : Packet) (rs : List Route) : Type 0 where
   pub ordered : (a b : Route) → IsIn rs a → IsIn rs b → Includes x a.copy b.copy ⊎ Includes x b.copy a.copy
 
 -- two copies that each change a field which the other does not, each with its first such field
-abbrev pub told_apart : Route → Route → Option Field → Option Field → Option Unordered
+abbrev pub told_apart : Route → Route → Option Field → Option Field → Option ActionsFault
 told_apart a b None g = None
 told_apart a b (Some f) None = None
 told_apart a b (Some f) (Some g) = Some (record { a = a; b = b; field_a = f; field_b = g })
 
-abbrev pub apart : Packet → Route → Route → Option Unordered
+abbrev pub apart : Packet → Route → Route → Option ActionsFault
 apart x a b = told_apart a b (first_beyond x a.copy b.copy) (first_beyond x b.copy a.copy)
 
-abbrev pub or_else : Option Unordered → Option Unordered → Option Unordered
+abbrev pub or_else : Option ActionsFault → Option ActionsFault → Option ActionsFault
 or_else None o = o
 or_else (Some u) o = Some u
 
 -- the first of the copies that is apart from a
-abbrev pub first_from : Packet → Route → List Route → Option Unordered
+abbrev pub first_from : Packet → Route → List Route → Option ActionsFault
 first_from x a [] = None
 first_from x a (b ∷ rs) = or_else (apart x a b) (first_from x a rs)
 
 -- the earliest copy that is apart from a later one, with the earliest of these
-abbrev pub first_apart : Packet → List Route → Option Unordered
+abbrev pub first_apart : Packet → List Route → Option ActionsFault
 first_apart x [] = None
 first_apart x (a ∷ rs) = or_else (first_from x a rs) (first_apart x rs)
 
@@ -87,17 +87,17 @@ listed v x y k (r ∷ rs) = changed y (apply r.copy x) settable ++ (retagged v.s
 -- the actions of a leaf: its copies form a chain, and are listed in order
 pub record IsActionList (w : Way) (v : PortView) (cs : List (List Lit)) (as' : List Action) : Type 0 where
   pub routes : List Route
-  pub listing : IsListing v (fixed w) cs routes
-  pub chain : IsChain (fixed w) routes
-  pub actions : as' ≡ listed v (fixed w) (fixed w) v.kind routes
+  pub listing : IsListing v (cell_on w) cs routes
+  pub chain : IsChain (cell_on w) routes
+  pub actions : as' ≡ listed v (cell_on w) (cell_on w) v.kind routes
 
 -- the first copies that are apart
-pub record IsUnordered (w : Way) (v : PortView) (cs : List (List Lit)) (u : Unordered) : Type 0 where
+pub record IsUnordered (w : Way) (v : PortView) (cs : List (List Lit)) (u : ActionsFault) : Type 0 where
   pub routes : List Route
-  pub listing : IsListing v (fixed w) cs routes
-  pub first : first_apart (fixed w) routes ≡ Some u
+  pub listing : IsListing v (cell_on w) cs routes
+  pub first : first_apart (cell_on w) routes ≡ Some u
 
 -- nothing is said of memory
 abbrev pub Bars : Way → PortView → List (List Lit) → ActionsError → Type 0
 Bars w v cs error.Memory = Unit {0}
-Bars w v cs (error.Unordered u) = IsUnordered w v cs u
+Bars w v cs (error.Fault u) = IsUnordered w v cs u

@@ -1,14 +1,9 @@
 // The header fields that copies set and their path does not fix.
 ghost use Rattle.std.specs.Prelude.{◌≡◌, ◌<◌, ◌^◌, length};
-ghost use Rattle.leaf_actions.specs.Changes.{fixed, changes, count_of, change_count, goes_beyond, first_of_fields, first_beyond};
-ghost use Rattle.fdd_nodes.specs.Makes.{made};
-ghost use Rattle.fdd_nodes.specs.Cells.{open_cell};
+ghost use Rattle.leaf_actions.specs.Changes.{changes, count_of, change_count, goes_beyond, first_of_fields, first_beyond};
 
-use fdd_nodes::{Assignments, Cell, Path};
-use nk_values::{Field, Lit, Packet};
-
-// The number of a field that nothing fixes.
-const FREE: u64 = u64::MAX;
+use fdd_nodes::{Assignments, Cell};
+use nk_values::Field;
 
 /// The header fields that actions set, in field order.
 pub(crate) const SETTABLE: [Field; 6] = [
@@ -20,28 +15,11 @@ pub(crate) const SETTABLE: [Field; 6] = [
     Field::TcpDstPort,
 ];
 
-/// What a path fixes.
-pub fn fixed(path: &Path) -> Cell
-    ensures { result ≡ fixed path.now }
-{
-    fixed_by(path.trues())
-}
-
-fn fixed_by(lits: &[Lit]) -> Cell
-    ensures { result ≡ made lits.now open_cell }
-{
-    let mut cell = Cell::open();
-    for l in lits {
-        cell = cell.with(l);
-    }
-    cell
-}
-
 // Whether a field is open in a cell, and set by a copy.
 fn changes(cell: &Cell, copy: &Assignments, f: Field) -> bool
     ensures { result ≡ changes cell.now copy.now f }
 {
-    cell.generic().get(f) == FREE && copy.apply(cell.generic()).get(f) != FREE
+    cell.is_open(f) && !cell.after(copy).is_open(f)
 }
 
 // How many header fields are open in a cell and set by a copy.

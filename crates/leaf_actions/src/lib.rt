@@ -1,18 +1,17 @@
-// The actions of a leaf of a diagram.
+//! The actions of a leaf of a diagram (OpenFlow 1.0.0, 5.2.4), at a port of a switch.
 #![tactic(auto)]
 
-pub mod fields;
-pub mod made;
+mod fields;
+mod laws;
+mod made;
 mod order;
 mod pairs;
-pub mod route;
-pub mod settable;
-pub mod view;
+mod route;
+mod settable;
+mod view;
 
-pub use made::{ActionsError, Unordered, actions};
+pub use laws::{chains_have_no_first_pair, lists_exclude_faults};
+pub use made::{ActionsError, ActionsFault, actions};
 pub use route::Route;
 pub use settable::are_settable;
 pub use view::{PortView, SwitchPort, SwitchPorts};
-
-#[cfg(test)]
-mod tests;

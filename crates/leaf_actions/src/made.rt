@@ -1,15 +1,16 @@
 // The actions of a leaf.
+ghost use Rattle.std.specs.List.{AllByRecursion};
 ghost use Rattle.std.specs.Prelude.{◌≡◌, ◌≢◌, OnOk, IfOk, IfErr, true, [], ◌∷◌, ◌++◌};
+ghost use Rattle.nk_values.specs.Fitting.{FitsAction};
 ghost use Rattle.nk_values.specs.Ranges.{IsValue};
 ghost use Rattle.nk_values.specs.Tags.{IsVlanId};
 ghost use Rattle.fdd_nodes.specs.Cells.{IsValid};
 ghost use Rattle.leaf_actions.specs.Acting.{ActsAs};
-ghost use Rattle.leaf_actions.specs.Changes.{fixed};
 ghost use Rattle.leaf_actions.specs.Chains.{keeps_fields, keeps, Climbs};
 ghost use Rattle.leaf_actions.specs.Listing.{setting, change, changed, retagged, port_number, listed, IsActionList, Bars};
-ghost use Rattle.leaf_actions.specs.Settable.{AreSettable, CanSet, settable};
+ghost use Rattle.leaf_actions.specs.Settable.{AreSettable, settable};
 
-use crate::fields::{SETTABLE, fixed};
+use crate::fields::SETTABLE;
 use crate::order::{climbs, listing};
 use crate::pairs::first_apart;
 use crate::route::Route;
@@ -18,21 +19,22 @@ use fdd_nodes::{Cell, Leaf, Path};
 use nk_values::{Action, Actions, Field, IN_PORT, Packet, PortKind};
 use std::alloc::{AllocError, Global};
 
-/// Two copies, `a` before `b` in the order of listing, that each set a header field which the other leaves and the path
-/// does not fix: with each its first such field.
+/// Why no list of actions makes all copies, since none gives a field back its original number: two copies, `a`
+/// before `b` in the order of listing, that each set a header field which the other leaves and the path does not fix,
+/// with each its first such field.
 #[derive(Drop)]
-pub struct Unordered {
+pub struct ActionsFault {
     pub a: Route,
     pub b: Route,
     pub field_a: Field,
     pub field_b: Field,
 }
 
-/// Memory ran out, or no list of actions makes all the copies, since none gives a field back its original number.
+/// Memory ran out, or no list of actions makes all the copies.
 #[derive(Drop)]
 pub enum ActionsError {
     Memory,
-    Unordered(Unordered),
+    Fault(ActionsFault),
 }
 
 impl From<AllocError> for ActionsError {
@@ -59,15 +61,16 @@ pub fn actions(
     requires stamp { IsVlanId view.now.stamp }
     ensures list { IfOk result (IsActionList path.now view.now leaf.now) }
     ensures acts { IfOk result (ActsAs path.now view.now leaf.now) }
+    ensures fits { IfOk result (AllByRecursion FitsAction) }
     ensures barred { IfErr result (Bars path.now view.now leaf.now) }
 {
-    let cell = fixed(path);
-    let routes = listing(alloc, &cell, leaf.copies(), view)?;
-    if climbs(&cell, &routes) {
-        return Ok(listed(alloc, &cell, &routes, view)?);
+    let cell = path.cell();
+    let routes = listing(alloc, cell, leaf.copies(), view)?;
+    if climbs(cell, &routes) {
+        return Ok(listed(alloc, cell, &routes, view)?);
     }
-    match first_apart(alloc, &cell, &routes)? {
-        Some(unordered) => Err(ActionsError::Unordered(unordered)),
+    match first_apart(alloc, cell, &routes)? {
+        Some(fault) => Err(ActionsError::Fault(fault)),
         None => unreachable!(),
     }
 }

@@ -7,11 +7,8 @@ use crate::fields::{SETTABLE, change_count};
 use crate::route::Route;
 use crate::view::PortView;
 use fdd_nodes::{Assignments, Cell};
-use nk_values::{Field, Packet};
+use nk_values::Field;
 use std::alloc::{AllocError, Global};
-
-// The number of a field that nothing fixes.
-const FREE: u64 = u64::MAX;
 
 // The copies that leave by declared ports, in the order of listing.
 pub(crate) fn listing(
@@ -37,7 +34,7 @@ fn routes_of(
 {
     let mut routes = Vec::new(alloc);
     for copy in copies {
-        if let Some(port) = view.ports.find(out_of(view, copy)) {
+        if let Some(port) = view.port(out_of(view, copy)) {
             routes.push(Route {
                 count: change_count(cell, copy),
                 port: port.pt,
@@ -61,9 +58,9 @@ fn out_of(view: &PortView, copy: &Assignments) -> u64
 pub(crate) fn climbs(cell: &Cell, routes: &[Route]) -> bool
     ensures { IsTrue result ↔ Climbs cell.now cell.now routes.now }
 {
-    let mut known = *cell.generic();
+    let mut known = *cell;
     for route in routes {
-        let next = route.copy.apply(cell.generic());
+        let next = cell.after(&route.copy);
         if !keeps(&known, &next) {
             return false;
         }
@@ -72,14 +69,14 @@ pub(crate) fn climbs(cell: &Cell, routes: &[Route]) -> bool
     true
 }
 
-// Whether each header field that the first packet fixes is fixed by the second.
-fn keeps(known: &Packet, next: &Packet) -> bool
+// Whether each header field that the first cell fixes is fixed by the second.
+fn keeps(known: &Cell, next: &Cell) -> bool
     ensures { result ≡ keeps known.now next.now }
 {
     keeps_fields(known, next, &SETTABLE)
 }
 
-fn keeps_fields(known: &Packet, next: &Packet, fields: &[Field]) -> bool
+fn keeps_fields(known: &Cell, next: &Cell, fields: &[Field]) -> bool
     ensures { result ≡ keeps_fields known.now next.now fields.now }
 {
     for f in fields {
@@ -90,9 +87,9 @@ fn keeps_fields(known: &Packet, next: &Packet, fields: &[Field]) -> bool
     true
 }
 
-// Whether a field is fixed in the first packet and open in the second.
-fn loses(known: &Packet, next: &Packet, f: Field) -> bool
+// Whether a field is fixed in the first cell and open in the second.
+fn loses(known: &Cell, next: &Cell, f: Field) -> bool
     ensures { result ≡ loses known.now next.now f }
 {
-    known.get(f) != FREE && next.get(f) == FREE
+    !known.is_open(f) && next.is_open(f)
 }

@@ -3,7 +3,7 @@ ghost use Rattle.std.specs.Prelude.{◌≡◌, IfOk};
 ghost use Rattle.leaf_actions.specs.Listing.{apart, first_from, first_apart};
 
 use crate::fields::first_beyond;
-use crate::made::Unordered;
+use crate::made::ActionsFault;
 use crate::route::Route;
 use fdd_nodes::Cell;
 use std::alloc::{AllocError, Global};
@@ -13,7 +13,7 @@ pub(crate) fn first_apart(
     alloc: Global,
     cell: &Cell,
     routes: &[Route],
-) -> Result<Option<Unordered>, AllocError>
+) -> Result<Option<ActionsFault>, AllocError>
     ensures { IfOk result (λ o. o ≡ first_apart cell.now routes.now) }
 {
     for i in 0..routes.len() {
@@ -30,7 +30,7 @@ fn first_from(
     cell: &Cell,
     a: &Route,
     routes: &[Route],
-) -> Result<Option<Unordered>, AllocError>
+) -> Result<Option<ActionsFault>, AllocError>
     ensures { IfOk result (λ o. o ≡ first_from cell.now a.now routes.now) }
 {
     for b in routes {
@@ -42,7 +42,12 @@ fn first_from(
 }
 
 // Two copies, if each changes a field that the other does not.
-fn apart(alloc: Global, cell: &Cell, a: &Route, b: &Route) -> Result<Option<Unordered>, AllocError>
+fn apart(
+    alloc: Global,
+    cell: &Cell,
+    a: &Route,
+    b: &Route,
+) -> Result<Option<ActionsFault>, AllocError>
     ensures { IfOk result (λ o. o ≡ apart cell.now a.now b.now) }
 {
     let Some(field_a) = first_beyond(cell, &a.copy, &b.copy) else {
@@ -51,7 +56,7 @@ fn apart(alloc: Global, cell: &Cell, a: &Route, b: &Route) -> Result<Option<Unor
     let Some(field_b) = first_beyond(cell, &b.copy, &a.copy) else {
         return Ok(None);
     };
-    Ok(Some(Unordered {
+    Ok(Some(ActionsFault {
         a: a.copy(alloc)?,
         b: b.copy(alloc)?,
         field_a,

@@ -1,6 +1,7 @@
 // Whether actions can make the copies of a leaf.
 ghost use Rattle.std.specs.Prelude.{◌↔◌, IsTrue};
-ghost use Rattle.leaf_actions.specs.Settable.{AreSettable, CanSet, CopyCanBeSet, CopiesCanBeSet};
+ghost use Rattle.nk_values.specs.Acts.{IsSettable};
+ghost use Rattle.leaf_actions.specs.Settable.{AreSettable, CopyCanBeSet, CopiesCanBeSet};
 
 use fdd_nodes::{Assignments, Leaf};
 use nk_values::{Field, Lit};
@@ -27,15 +28,15 @@ fn copy_can_be_set(lits: &[Lit]) -> bool
     ensures { IsTrue result ↔ CopyCanBeSet lits.now }
 {
     for l in lits {
-        if !can_set(l.field()) {
+        if !is_settable(l.field()) {
             return false;
         }
     }
     true
 }
 
-fn can_set(f: Field) -> bool
-    ensures { IsTrue result ↔ CanSet f }
+fn is_settable(f: Field) -> bool
+    ensures { IsTrue result ↔ IsSettable f }
 {
     !matches!(f, Field::Sw | Field::EthTyp | Field::IpProto)
 }

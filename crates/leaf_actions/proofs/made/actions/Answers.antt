@@ -2,14 +2,15 @@ use Rattle.std.proofs.Common.{sym, subst}
 use Rattle.nk_values.specs.declared.packet.Packet.{Packet}
 use Rattle.fdd_nodes.specs.Cells.{IsValid}
 use Rattle.leaf_actions.proofs.ActionLists.{Ready, ready, action_list, acts_as, some_apart}
+use Rattle.leaf_actions.proofs.Fits.{actions_fit}
 use Rattle.leaf_actions.proofs.Fixed.{fixed_valid}
 use Rattle.leaf_actions.proofs.made.actions.Goals as goal
 
 made_ready : (c : goal.After-drop-routes-then-climbs) → Ready c.args.path.now c.args.view.now c.args.leaf.now c.in_ok-listed.field-0
-made_ready c = ready c.args.path.now c.args.view.now c.args.leaf.now _ _ _ _ _ _ c.fixed-cell.ensures c.copies.ensures.list c.deref.ensures.value c.deref-then-climbs.ensures.value c.in_ok-routes.ensures (c.climbs.ensures.0 c.if-climbs.true) c.in_ok-listed.ensures
+made_ready c = ready c.args.path.now c.args.view.now c.args.leaf.now _ _ _ _ _ _ c.cell-cell.ensures c.copies.ensures.list c.deref.ensures.value c.deref-then-climbs.ensures.value c.in_ok-routes.ensures (c.climbs.ensures.0 c.if-climbs.true) c.in_ok-listed.ensures
 
 pub listed-requires-clause-valid : goal.listed-requires-clause-valid
-listed-requires-clause-valid c = subst (λ (x : Packet). IsValid x) (sym c.fixed-cell.ensures) (fixed_valid c.args.path.now)
+listed-requires-clause-valid c = subst (λ (x : Packet). IsValid x) (sym c.cell-cell.ensures) (fixed_valid c.args.path.now)
 
 pub returns-then-climbs-clause-list : goal.returns-then-climbs-clause-list
 returns-then-climbs-clause-list c = action_list _ _ _ _ (made_ready c)
@@ -17,5 +18,8 @@ returns-then-climbs-clause-list c = action_list _ _ _ _ (made_ready c)
 pub returns-then-climbs-clause-acts : goal.returns-then-climbs-clause-acts
 returns-then-climbs-clause-acts c = acts_as _ _ _ _ c.requires.settable c.requires.stamp (made_ready c)
 
+pub returns-then-climbs-clause-fits : goal.returns-then-climbs-clause-fits
+returns-then-climbs-clause-fits c = actions_fit _ _ _ _ c.requires.stamp (made_ready c)
+
 pub unreachable-requires : goal.unreachable-requires
-unreachable-requires c = some_apart c.args.view.now _ _ _ _ _ _ c.deref.ensures.value c.deref-2.ensures.value c.in_ok-routes.ensures (λ h. let t = c.climbs.ensures.1 h in let f = c.if-climbs.false in cc) c.in_ok-unordered.ensures c.in-None.is
+unreachable-requires c = some_apart c.args.view.now _ _ _ _ _ _ c.deref.ensures.value c.deref-2.ensures.value c.in_ok-routes.ensures (λ h. let t = c.climbs.ensures.1 h in let f = c.if-climbs.false in cc) c.in_ok-fault.ensures c.in-None.is

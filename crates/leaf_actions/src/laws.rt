@@ -1,0 +1,12 @@
+// Laws of lists of copies, each the contract of a call that does nothing.
+ghost use Rattle.leaf_actions.specs.Laws.{ChainsHaveNoFirstPair, ListsExcludeFaults};
+
+/// The copies of a leaf form a chain exactly where no first pair of them stands apart.
+pub fn chains_have_no_first_pair()
+    ensures { ChainsHaveNoFirstPair }
+{}
+
+/// Copies that have a list of actions have no first pair that no order makes both.
+pub fn lists_exclude_faults()
+    ensures { ListsExcludeFaults }
+{}
