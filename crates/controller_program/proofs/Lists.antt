@@ -12,7 +12,7 @@ use Rattle.document_text.specs.declared.document.PacketLine.{PacketLine}
 use Rattle.document_text.specs.declared.document.Settings.{Settings}
 use Rattle.document_text.specs.Documents.{Doc}
 use Rattle.packet_tracer.specs.declared.flight.Walk.{Walk}
-use Rattle.packet_tracer.specs.declared.version.Version.{Version}
+use Rattle.policy_rows.specs.declared.version.Version.{Version}
 use Rattle.report_text.specs.declared.fault.Fault.{Fault}
 use Rattle.controller_program.specs.declared.versions.PolicyError.{PolicyError}
 use Rattle.controller_program.specs.declared.versions.PolicyError.TheVariants as error

@@ -2,7 +2,7 @@
 use Rattle.std.proofs.Common.{◌≡◌, ℕ, ◌≤◌, inl, inr, false, cond, nat_le, nat_lt, List, take, length, Option, None, Some, IfSome, sym, ap, ◌∙◌, subst, arith}
 use Rattle.std.proofs.lemmas.Bool.{cases_lt, lt-leb, leb-true, cases_Bool}
 use Rattle.std.proofs.lemmas.List.{take_all, take-take, length-take-le}
-use Rattle.document_text.specs.declared.fault.Fault.TheVariants.{Limit}
+use Rattle.nk_values.specs.declared.fault.TextFault.TheVariants.{Limit}
 use Rattle.document_text.specs.Documents.{Doc, Outcome, Accepted, Refused}
 use Rattle.document_text.specs.Grammar.{Lines, IsFrom, IsReading, within_limit, cut_off, line_behind, refused_at}
 use Rattle.document_text.specs.States.{start}

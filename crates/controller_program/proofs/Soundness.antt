@@ -5,7 +5,7 @@ use Rattle.document_text.specs.Documents.{Doc}
 use Rattle.document_text.specs.Grammar.{IsDocument}
 use Rattle.document_text.proofs.Limits.{reading-within}
 use Rattle.netkat_parser.proofs.Naming.{text-few}
-use Rattle.packet_tracer.specs.Means.{standing}
+use Rattle.policy_rows.specs.Means.{standing}
 use Rattle.controller_program.specs.Sound.{IsSound}
 use Rattle.controller_program.proofs.FewNamed.{few_named}
 

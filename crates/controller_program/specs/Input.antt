@@ -1,5 +1,7 @@
 -- What the reading of a source tells.
-use Rattle.std.specs.Prelude.{ℕ, List, Result, Ok, Err}
+use Rattle.std.specs.Prelude.{◌≡◌, ℕ, List, Option, Result, Ok, Err}
+use Rattle.outside_io.specs.Causes.{Rose}
+use Rattle.outside_io.specs.Lists.{TakesFirst}
 use Rattle.document_text.specs.declared.document.Document.{Document}
 use Rattle.document_text.specs.Answers.{doc_of}
 use Rattle.document_text.specs.Grammar.{IsDocument, HasDocFault}
@@ -12,3 +14,17 @@ ReadsInput xs (Ok d) = IsDocument xs (doc_of d)
 ReadsInput xs (Err (input.Fault f)) = HasDocFault xs f
 ReadsInput xs (Err input.Failed) = Unit {0}
 ReadsInput xs (Err input.Memory) = Unit {0}
+
+-- what was taken of a source whose text was read: all of it, or its first 4,194,305 bytes
+abbrev pub TakenBy : Option (List ℕ) → Option (List ℕ) → Result Document InputError → Type 0
+TakenBy old new (Ok d) = TakesFirst 4194305 old new
+TakenBy old new (Err (input.Fault f)) = TakesFirst 4194305 old new
+TakenBy old new (Err input.Failed) = Unit {0}
+TakenBy old new (Err input.Memory) = Unit {0}
+
+-- the count rose where a read failed, and nowhere else
+abbrev pub CountedBy : ℕ → ℕ → Result Document InputError → Type 0
+CountedBy before now (Ok d) = now ≡ before
+CountedBy before now (Err (input.Fault f)) = now ≡ before
+CountedBy before now (Err input.Failed) = Rose before now
+CountedBy before now (Err input.Memory) = now ≡ before

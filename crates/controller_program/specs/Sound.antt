@@ -8,7 +8,7 @@ use Rattle.document_text.specs.declared.document.PacketLine.{PacketLine}
 use Rattle.document_text.specs.declared.document.Settings.{Settings}
 use Rattle.document_text.specs.Documents.{Doc}
 use Rattle.fdd_compile.specs.Named.{AreFewNamed, TermNames}
-use Rattle.packet_tracer.specs.Means.{standing}
+use Rattle.policy_rows.specs.Means.{standing}
 
 -- two or more of the VLAN ids, in order
 pub record AreStamps (s : Settings) : Type 0 where

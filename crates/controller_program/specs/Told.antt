@@ -2,6 +2,7 @@
 use Rattle.std.specs.Prelude.{◌≡◌, ℕ, List, Option, IfSome}
 use Rattle.std.specs.Io.KnownBytes.{IsAtEnd}
 use Rattle.outside_io.specs.Causes.{Rose}
+use Rattle.outside_io.specs.Lists.{TakesFirst}
 use Rattle.report_text.specs.declared.fault.Fault.{Fault}
 use Rattle.report_text.specs.Faults.{fault_text}
 use Rattle.controller_program.specs.declared.answer.Ending.{Ending}
@@ -16,19 +17,19 @@ Tells c left (Refused text) = IfSome left (λ xs. IsRefusal xs text)
 Tells c left ReadFault = Unit {0}
 Tells c left Memory = Unit {0}
 
--- all was read where there is an output
-abbrev pub TellsEnd : Option (List ℕ) → Ending → Type 0
-TellsEnd left (Done text) = IsAtEnd left
-TellsEnd left (Refused text) = Unit {0}
-TellsEnd left ReadFault = Unit {0}
-TellsEnd left Memory = Unit {0}
+-- what was taken of the source: all where there is an output, and where there is a refusal all or the first 4,194,305 bytes
+abbrev pub TellsTaken : Option (List ℕ) → Option (List ℕ) → Ending → Type 0
+TellsTaken old new (Done text) = IsAtEnd new
+TellsTaken old new (Refused text) = TakesFirst 4194305 old new
+TellsTaken old new ReadFault = Unit {0}
+TellsTaken old new Memory = Unit {0}
 
--- the count rose where a read failed
+-- the count rose where a read failed, and nowhere else
 abbrev pub TellsCause : ℕ → ℕ → Ending → Type 0
-TellsCause before now (Done text) = Unit {0}
-TellsCause before now (Refused text) = Unit {0}
+TellsCause before now (Done text) = now ≡ before
+TellsCause before now (Refused text) = now ≡ before
 TellsCause before now ReadFault = Rose before now
-TellsCause before now Memory = Unit {0}
+TellsCause before now Memory = now ≡ before
 
 -- the refusal by this fault, unless memory ran out
 abbrev pub TellsRefusal : Fault → Ending → Type 0

@@ -1,34 +1,29 @@
 -- The policies of a document as versions: each with its stamp, its band and its rows.
-use Rattle.std.specs.Prelude.{◌≡◌, ℕ, suc, ◌+◌, ◌-◌, ◌%◌, ◌==◌, List, [], ◌∷◌, ◌++◌, length, if◌then◌else◌}
+use Rattle.std.specs.Prelude.{◌≡◌, ℕ, suc, List, [], ◌∷◌, ◌++◌, length}
 use Rattle.nk_values.specs.declared.fault.EmitFault.{EmitFault}
-use Rattle.nk_values.specs.declared.rows.Band.{Band}
-use Rattle.nk_values.specs.declared.rows.Band.TheVariants.{High, Low}
 use Rattle.nk_syntax.specs.Terms.{Term}
 use Rattle.nk_syntax.specs.Views.{term_of}
 use Rattle.topology_model.specs.Layouts.{Layout}
 use Rattle.document_text.specs.declared.document.Settings.{Settings}
 use Rattle.fdd_nodes.specs.Trees.{Tree}
 use Rattle.fdd_compile.specs.Compiles.{CompiledOf, IsFaultOf}
-use Rattle.packet_tracer.specs.declared.version.Version.{Version}
-use Rattle.packet_tracer.specs.Means.{RowsMean}
+use Rattle.policy_rows.specs.declared.version.Version.{Version}
+use Rattle.policy_rows.specs.Means.{RowsMean}
+use Rattle.policy_rows.specs.Numbers.{stamp_at, band_at}
 use Rattle.table_emitter.specs.Emission.{IsEmitted, IsEmitFault}
 use Rattle.report_text.specs.declared.fault.Fault.{Fault}
 use Rattle.report_text.specs.declared.fault.Fault.TheVariants as fault
 
--- the stamp of the policy behind k others: they go round
-abbrev pub stamp_at : Settings → ℕ → ℕ
-stamp_at s k = s.stamps.0 + k % (s.stamps.1 - s.stamps.0 + 1)
-
--- and its band: the first has the high one, the second the low one, and so on
-abbrev pub band_at : ℕ → Band
-band_at k = if k % 2 == 0 then High else Low
+-- the stamp of the policy behind k others
+abbrev pub stamp_in : Settings → ℕ → ℕ
+stamp_in s k = stamp_at s.stamps.0 s.stamps.1 k
 
 -- The policy behind k others with its rows: those of its diagram, which stand for it.
 pub record IsVersion (t : Layout) (s : Settings) (k : ℕ) (p : Term) (v : Version) : Type 0 where
   pub policy : term_of v.pol ≡ p
   pub diagram : Tree
   pub compiled : CompiledOf p diagram
-  pub rows : IsEmitted diagram t (stamp_at s k) (band_at k) v.rows
+  pub rows : IsEmitted diagram t (stamp_in s k) (band_at k) v.rows
   pub means : RowsMean v.rows p t
 
 -- the policies behind k others
@@ -42,7 +37,7 @@ AreVersions t s k (p ∷ ps) (v ∷ vs) = IsVersion t s k p v × AreVersions t s
 pub record HasNoRows (t : Layout) (s : Settings) (k : ℕ) (p : Term) (f : EmitFault) : Type 0 where
   pub diagram : Tree
   pub compiled : CompiledOf p diagram
-  pub fault : IsEmitFault diagram t (stamp_at s k) f
+  pub fault : IsEmitFault diagram t (stamp_in s k) f
 
 -- the fault of the policy behind k others, which is named by its number from 1
 abbrev pub IsPolicyFault : Layout → Settings → ℕ → Term → Fault → Type 0

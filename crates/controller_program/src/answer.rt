@@ -1,9 +1,7 @@
 // What a command comes to, before anything is written.
-ghost use Rattle.std.specs.Prelude.{◌≡◌, IfOk};
-ghost use Rattle.std.specs.Io.KnownBytes.{IsAtEnd};
-ghost use Rattle.outside_io.specs.Causes.{Rose};
+ghost use Rattle.outside_io.specs.Lists.{TakesAtMost};
 ghost use Rattle.report_text.specs.Faults.{fault_text};
-ghost use Rattle.controller_program.specs.Told.{Tells, TellsEnd, TellsCause, TellsRefusal};
+ghost use Rattle.controller_program.specs.Told.{Tells, TellsTaken, TellsCause, TellsRefusal};
 
 use crate::command::Command;
 use crate::faults::placed_fault;
@@ -26,7 +24,8 @@ pub enum Ending {
 /// Reads the source, and carries the command out on its document.
 pub fn answer<S: Source>(alloc: Global, command: Command, source: &mut S) -> Ending
     ensures tells { Tells command (S.left source.old) result }
-    ensures ended { TellsEnd (S.left source.new) result }
+    ensures taken { TellsTaken (S.left source.old) (S.left source.new) result }
+    ensures at_most { TakesAtMost 4194305 (S.left source.old) (S.left source.new) }
     ensures cause { TellsCause (S.faults source.old) (S.faults source.new) result }
 {
     let document = match read_input(alloc, source) {

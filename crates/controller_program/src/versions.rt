@@ -1,19 +1,17 @@
 // The policies of a document, compiled and put into rows.
-ghost use Rattle.std.specs.Prelude.{◌≡◌, ◌<◌, ◌-◌, ◌^◌, IfOk, IfErr};
-ghost use Rattle.nk_values.specs.Tags.{IsVlanId};
+ghost use Rattle.std.specs.Prelude.{◌<◌, ◌-◌, ◌^◌, IfOk, IfErr};
 ghost use Rattle.nk_syntax.specs.Terms.{Term};
 ghost use Rattle.nk_syntax.specs.Views.{term_of};
 ghost use Rattle.document_text.specs.Answers.{doc_of};
 ghost use Rattle.fdd_compile.specs.Named.{AreFewNamed, TermNames};
 ghost use Rattle.controller_program.specs.Sound.{IsSound, AreStamps};
-ghost use Rattle.controller_program.specs.Versions.{stamp_at, band_at, IsVersion, AreVersions};
+ghost use Rattle.controller_program.specs.Versions.{IsVersion, AreVersions};
 ghost use Rattle.controller_program.specs.Views.{policies_of, TellsFault, TellsFirst};
 
 use document_text::{Document, Settings};
 use fdd_compile::{CompileError, compile};
 use nk_syntax::Pol;
-use nk_values::Band;
-use packet_tracer::Version;
+use policy_rows::{Version, band_of, stamp_of};
 use report_text::Fault;
 use std::alloc::{AllocError, AllocFailed, Global};
 use table_emitter::{EmitError, emit};
@@ -88,32 +86,11 @@ fn version(
         }
         Err(CompileError::Memory) => return Err(PolicyError::Memory),
     };
-    let stamp = stamp_at(settings, place);
-    match emit(alloc, &compiled, pol, topology, stamp, band_at(place)) {
+    let (low, high) = settings.stamps;
+    let stamp = stamp_of(low, high, place);
+    match emit(alloc, &compiled, pol, topology, stamp, band_of(place)) {
         Ok(version) => Ok(version),
         Err(EmitError::Fault(fault)) => Err(PolicyError::Fault(Fault::Emit { policy, fault })),
         Err(EmitError::Memory) => Err(PolicyError::Memory),
-    }
-}
-
-// The stamp of the policy behind so many others.
-fn stamp_at(settings: &Settings, place: usize) -> u16
-    requires { AreStamps settings.now }
-    ensures stamp { result ≡ stamp_at settings.now place }
-    ensures vlan { IsVlanId result }
-{
-    let (low, high) = settings.stamps;
-    let count = usize::from(high - low) + 1;
-    low + (place % count) as u16
-}
-
-// And its band.
-fn band_at(place: usize) -> Band
-    ensures { result ≡ band_at place }
-{
-    if place % 2 == 0 {
-        Band::High
-    } else {
-        Band::Low
     }
 }

@@ -2,7 +2,7 @@
 ghost use Rattle.std.specs.Prelude.{◌≡◌, ◌<◌, IfOk, map};
 ghost use Rattle.nk_syntax.specs.Terms.{Term};
 ghost use Rattle.document_text.specs.Answers.{doc_of};
-ghost use Rattle.packet_tracer.specs.Means.{RowsMean};
+ghost use Rattle.policy_rows.specs.Means.{RowsMean};
 ghost use Rattle.controller_program.specs.Sound.{IsSound, IsSoundPacket};
 ghost use Rattle.controller_program.specs.Traces.{IsWalkOf, AreWalksOf, AreTraces};
 ghost use Rattle.controller_program.specs.Versions.{AreVersions};
@@ -10,7 +10,8 @@ ghost use Rattle.controller_program.specs.Views.{policies_of};
 
 use document_text::{Document, PacketLine};
 use nk_values::Rows;
-use packet_tracer::{Version, Walk, walk};
+use packet_tracer::{Walk, walk};
+use policy_rows::Version;
 use std::alloc::{AllocError, Global};
 
 /// For each policy, the walks of the packet lines in order.

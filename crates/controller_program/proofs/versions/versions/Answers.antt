@@ -3,7 +3,7 @@ use Rattle.nk_syntax.specs.declared.pol.Pol.{Pol}
 use Rattle.nk_syntax.specs.Terms.{Term}
 use Rattle.nk_syntax.specs.Views.{term_of}
 use Rattle.fdd_compile.specs.Named.{AreFewNamed, TermNames}
-use Rattle.packet_tracer.specs.declared.version.Version.{Version}
+use Rattle.policy_rows.specs.declared.version.Version.{Version}
 use Rattle.controller_program.specs.Versions.{AreVersions}
 use Rattle.controller_program.specs.Views.{policies_of}
 use Rattle.controller_program.proofs.Lists.{at_place, term_at, versions_step, first_told}

@@ -4,8 +4,8 @@ use Rattle.std.specs.declared.vec.Vec.{Vec}
 use Rattle.nk_syntax.specs.Terms.{Dup}
 use Rattle.document_text.specs.Answers.{doc_of}
 use Rattle.packet_tracer.specs.declared.flight.Walk.{Walk}
-use Rattle.packet_tracer.specs.declared.version.Version.{Version}
-use Rattle.packet_tracer.specs.Means.{RowsMean}
+use Rattle.policy_rows.specs.declared.version.Version.{Version}
+use Rattle.policy_rows.specs.Means.{RowsMean}
 use Rattle.controller_program.specs.Traces.{AreTraces}
 use Rattle.controller_program.specs.Views.{policies_of}
 use Rattle.controller_program.proofs.Lists.{same_count, version_at, traces_step, traces_end}

@@ -1,7 +1,7 @@
 use Rattle.std.proofs.Common.{take}
 use Rattle.nk_syntax.specs.Terms.{Term}
 use Rattle.document_text.specs.Answers.{doc_of}
-use Rattle.packet_tracer.specs.Means.{RowsMean}
+use Rattle.policy_rows.specs.Means.{RowsMean}
 use Rattle.controller_program.specs.Traces.{AreWalksOf}
 use Rattle.controller_program.proofs.walks.walks_of.Given as goal
 
