@@ -68,7 +68,7 @@ with-command body c long e =
     elim (actions-case (drop 64 body)) [
       | inl bad ↦ no_actions long has (λ h. let again = actions-again (drop 64 body) h.0 h.1 in absurd cc) (rw (l, e, bad) refl)
       | inr good ↦ right (record { command = c; pattern = match_at body; priority = number_at 2 54 body; out_port = number_at 2 60 body; actions = good.0 })
-        long has (good.0, actions-spelled (drop 64 body) good.0 good.1) (let g = good.1 in rw (l, e, g) refl)
+          long has (good.0, actions-spelled (drop 64 body) good.0 good.1) (let g = good.1 in rw (l, e, g) refl)
     ]
 
 change-way : (body : List ℕ) → ChangeWay body
