@@ -11,5 +11,5 @@ mod table;
 pub use acting::act;
 pub use hitting::hits;
 pub use meant::is_meant;
-pub use narrowing::narrows;
+pub use narrowing::{narrower_hits, narrows};
 pub use table::{ChangeError, Table};

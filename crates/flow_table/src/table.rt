@@ -1,8 +1,9 @@
 // Tables of rows.
-ghost use Rattle.std.specs.Prelude.{◌≡◌, [], ◌∷◌, ◌++◌, OnOk, OnErr, List, option_map, Ok, Err};
+ghost use Rattle.std.specs.Prelude.{◌≡◌, [], ◌∷◌, ◌++◌, OnOk, OnErr, IsOk, List, option_map, Ok, Err};
 ghost use Rattle.nk_values.specs.declared.row.Row.{Row};
 ghost use Rattle.nk_values.specs.Patterns.{Incoming};
 ghost use Rattle.nk_values.specs.Tables.{FoundIn, Distinct};
+ghost use Rattle.flow_table.specs.Changed.{Removes};
 
 use crate::changing::{add, modify, remove};
 use crate::hitting::hits;
@@ -104,6 +105,8 @@ impl Table {
         ensures room { OnOk result (¬ (IsFull self.old.capacity self.old.rows change.now)) }
         ensures full { result ≡ Err ChangeError.Full → IsFull self.old.capacity self.old.rows change.now }
         ensures err { OnErr result (self.new ≡ self.old) }
+        // A deletion takes no memory.
+        ensures removal { Removes change.now.command → IsOk result }
     {
         match change.command {
             Command::Add => add(&mut self.rows, self.capacity, change.row(alloc)?),

@@ -2,6 +2,14 @@
 #![tactic(auto)]
 
 #[cfg(test)]
-mod change_tests;
+mod changes;
 #[cfg(test)]
-mod tests;
+mod hits;
+#[cfg(test)]
+mod replies;
+#[cfg(test)]
+mod sends;
+#[cfg(test)]
+mod stamps;
+#[cfg(test)]
+mod tables;

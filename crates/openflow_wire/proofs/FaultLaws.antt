@@ -16,7 +16,7 @@ use Rattle.openflow_wire.specs.Places.{number_at}
 use Rattle.openflow_wire.specs.Matches.{match_at}
 use Rattle.openflow_wire.specs.Spelling.{Spells, IsLight, KeepsBytes, IsNoneOf, known, command_number}
 use Rattle.openflow_wire.specs.Faults.{IsSpoken, IsSoundHead, among, body_lengths, has_length, HasCommand, HasActions, IsBodyFault, IsFirstFault, IsRefusal}
-use Rattle.openflow_wire.specs.Reading.{◌>>=◌, or_fault, Gives, command_of, actions_of, change_of, error_of, features_of, bare, body_rows, body_of, reads}
+use Rattle.openflow_wire.specs.Reading.{◌>>=◌, or_fault, ReadsAs, command_of, actions_of, change_of, error_of, features_of, bare, body_rows, body_of, reads}
 use Rattle.openflow_wire.proofs.TestLaws.{chosen}
 use Rattle.openflow_wire.proofs.Laws.{by-row, keys, Each, among-none, version-cases, actions-again, actions-spelled, command-again, command-spelled, read-spelled, spelled-read, test}
 use Rattle.openflow_wire.proofs.Streams.{spelled-head}
@@ -68,7 +68,7 @@ with-command body c long e =
     elim (actions-case (drop 64 body)) [
       | inl bad ↦ no_actions long has (λ h. let again = actions-again (drop 64 body) h.0 h.1 in absurd cc) (rw (l, e, bad) refl)
       | inr good ↦ right (record { command = c; pattern = match_at body; priority = number_at 2 54 body; out_port = number_at 2 60 body; actions = good.0 })
-        long has (good.0, actions-spelled (drop 64 body) good.0 good.1) (let g = good.1 in rw (l, e, g) refl)
+          long has (good.0, actions-spelled (drop 64 body) good.0 good.1) (let g = good.1 in rw (l, e, g) refl)
     ]
 
 change-way : (body : List ℕ) → ChangeWay body
@@ -331,19 +331,19 @@ spelled-no-fault bytes m f s h = let a = spelled-read bytes m s in let b = fault
 pub one-fault : (bytes : List ℕ) (f g : WireFault) → IsFirstFault bytes f → IsFirstFault bytes g → f ≡ g
 one-fault bytes f g h k = err-is {A = Message} f g (sym (fault-read bytes f h) ∙ fault-read bytes g k)
 
-given-fault : (r : Result Message WireError) (f : WireFault) → Gives r (err f) → r ≡ Err (Fault f)
+given-fault : (r : Result Message WireError) (f : WireFault) → ReadsAs r (err f) → r ≡ Err (Fault f)
 given-fault (Ok m) f given = absurd cc
 given-fault (Err Memory) f given = absurd cc
 given-fault (Err (Fault g)) f given = (let e = err-is {A = Message} f g given in cc)
 
-pub is-fault : (bytes : List ℕ) (r : Result Message WireError) (f : WireFault) → Gives r (reads bytes) → IsFirstFault bytes f → r ≡ Err (Fault f)
-is-fault bytes r f given h = given-fault r f (subst (λ (x : Result Message WireFault). Gives r x) (fault-read bytes f h) given)
+pub is-fault : (bytes : List ℕ) (r : Result Message WireError) (f : WireFault) → ReadsAs r (reads bytes) → IsFirstFault bytes f → r ≡ Err (Fault f)
+is-fault bytes r f given h = given-fault r f (subst (λ (x : Result Message WireFault). ReadsAs r x) (fault-read bytes f h) given)
 
 memory-told : (bytes : List ℕ) (read : Result Message WireFault) → reads bytes ≡ read → is_ok read ≡ true → (m : Message) × Spells bytes m
 memory-told bytes (Ok m) e ok = (m, read-spelled bytes m e)
 memory-told bytes (Err f) e ok = absurd cc
 
-pub is-told : (bytes : List ℕ) (r : Result Message WireError) → Gives r (reads bytes) → IfErr r (λ e. IsRefusal bytes e)
+pub is-told : (bytes : List ℕ) (r : Result Message WireError) → ReadsAs r (reads bytes) → IfErr r (λ e. IsRefusal bytes e)
 is-told bytes (Ok m) given = tt
 is-told bytes (Err (Fault f)) given = read-fault bytes f given
 is-told bytes (Err Memory) given = memory-told bytes (reads bytes) refl given
@@ -366,7 +366,7 @@ is-light bytes m r s l (inl e) keeps = e
 is-light bytes m r s l (inr e) keeps = absurd (light-kind bytes m s l (keeps e))
 
 -- a call that answers what is spelled, or why not, gives what reading gives
-pub is-given : (bytes : List ℕ) (r : Result Message WireError) → IfOk r (λ m. Spells bytes m) → IfErr r (λ e. IsRefusal bytes e) → Gives r (reads bytes)
+pub is-given : (bytes : List ℕ) (r : Result Message WireError) → IfOk r (λ m. Spells bytes m) → IfErr r (λ e. IsRefusal bytes e) → ReadsAs r (reads bytes)
 is-given bytes (Ok m) found told = spelled-read bytes m found
 is-given bytes (Err (Fault f)) found told = fault-read bytes f told
 is-given bytes (Err Memory) found told = ap is_ok (spelled-read bytes told.0 told.1)

@@ -67,13 +67,13 @@ impl Model for Session {
 }
 
 impl Session {
-    ghost use Rattle.session_core.specs.Sessions.{start, move_of, moved, features};
+    ghost use Rattle.session_core.specs.Sessions.{unheard, move_of, moved, features};
     ghost use Rattle.session_core.specs.declared.session.SessionFault.{SessionFault};
     ghost use Rattle.session_core.specs.declared.session.SessionState.TheVariants as state;
 
     /// A session in which nothing was heard yet.
     pub fn new(datapath: u64) -> Session
-        ensures { result ≡ start datapath }
+        ensures { result ≡ unheard datapath }
     {
         Session {
             datapath,

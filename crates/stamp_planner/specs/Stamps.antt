@@ -17,8 +17,8 @@ pub record IsPlanning (p : Planning) : Type 0 where
   pub each : length p.live ≡ 4095
 
 -- none is live yet, and the first stamp comes first
-abbrev pub start : ℕ → ℕ → Planning
-start low high = record { low = low; high = high; next = low; live = replicate 4095 false }
+abbrev pub none_live : ℕ → ℕ → Planning
+none_live low high = record { low = low; high = high; next = low; live = replicate 4095 false }
 
 abbrev pub IsLive : Planning → ℕ → Type 0
 IsLive p stamp = slice_get p.live stamp ≡ Some true

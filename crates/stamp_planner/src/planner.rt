@@ -1,6 +1,6 @@
 // Stamps: the VLAN ids that tell the packets of one policy from those of another.
 ghost use Rattle.std.specs.Prelude.{◌≡◌, ◌≤◌, ◌<◌, ◌↔◌, IsErr, IfOk, MatchOption, OnErr, ◌+◌, ◌-◌};
-ghost use Rattle.stamp_planner.specs.Stamps.{Planning, IsLive, AllLive, IsFirstFree, turned, start, given, released};
+ghost use Rattle.stamp_planner.specs.Stamps.{Planning, IsLive, AllLive, IsFirstFree, turned, none_live, given, released};
 
 use nk_values::GREATEST_VLAN_ID;
 use std::marker::Model;
@@ -38,7 +38,7 @@ impl Planner {
         requires some { 1 ≤ low }
         requires two { low < high }
         requires vlan { high ≤ 4094 }
-        ensures { result ≡ start low high }
+        ensures { result ≡ none_live low high }
     {
         Planner {
             low,

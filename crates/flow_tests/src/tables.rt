@@ -1,0 +1,129 @@
+// Look-ups in tables to which rows are added.
+use flow_table::{ChangeError, Table};
+use nk_values::{
+    ANY_PORT, Action, Actions, Command, FlowMod, Header, Pattern, Prefix, Tag, UNTAGGED,
+};
+use std::alloc::Global;
+use std::test::Fail;
+
+const HEADER: Header = Header {
+    eth_typ: 2048,
+    ip_proto: 6,
+    eth_src: 1,
+    eth_dst: 2,
+    ip4_src: 0x0a00_0001,
+    ip4_dst: 0x0a01_0203,
+    tcp_src_port: 80,
+    tcp_dst_port: 443,
+};
+
+// The pattern of packets that come in at port 1.
+fn at_one() -> Pattern {
+    Pattern {
+        in_port: Some(1),
+        ..Pattern::any()
+    }
+}
+
+// The pattern of just the packet of that header, without a tag at port 1.
+fn exact() -> Pattern {
+    Pattern {
+        in_port: Some(1),
+        dl_src: Some(1),
+        dl_dst: Some(2),
+        dl_vlan: Some(UNTAGGED),
+        dl_vlan_pcp: Some(0),
+        dl_type: Some(2048),
+        nw_tos: Some(0),
+        nw_proto: Some(6),
+        nw_src: Some(Prefix {
+            address: 0x0a00_0001,
+            length: 32,
+        }),
+        nw_dst: Some(Prefix {
+            address: 0x0a01_0203,
+            length: 32,
+        }),
+        tp_src: Some(80),
+        tp_dst: Some(443),
+    }
+}
+
+// Adds a row with one output.
+fn add(
+    alloc: Global,
+    table: &mut Table,
+    pattern: Pattern,
+    priority: u16,
+    out: u16,
+) -> Result<(), ChangeError> {
+    let mut actions = Actions::new(alloc);
+    actions.push(Action::Output(out))?;
+    let change = FlowMod {
+        command: Command::Add,
+        pattern,
+        priority,
+        out_port: ANY_PORT,
+        actions,
+    };
+    table.change(alloc, &change)
+}
+
+// The output of the row that the packet meets at port 1; 0 if it meets none.
+fn met(table: &Table) -> u16 {
+    let Some(row) = table.look_up(1, &HEADER, Tag::none()) else {
+        return 0;
+    };
+    match row.actions.as_slice().first() {
+        Some(Action::Output(out)) => *out,
+        _ => 0,
+    }
+}
+
+// Adds rows, pattern by pattern with priority and output, to a table for so many; where the packet then goes, how
+// many rows there are, and whether the last one was refused.
+fn added(
+    alloc: Global,
+    capacity: usize,
+    rows: &[(Pattern, u16, u16)],
+) -> (u16, usize, Result<(), ChangeError>) {
+    let mut table = Table::new(alloc, capacity);
+    let mut last = Ok(());
+    for (pattern, priority, out) in rows {
+        last = add(alloc, &mut table, *pattern, *priority, *out);
+    }
+    (met(&table), table.rows().len(), last)
+}
+
+#[test]
+fn the_greater_priority_counts(rt: HostRuntime) {
+    let any = Pattern::any();
+    assert_eq!(rt; added(rt.alloc(), 2, &[]), (0, 0, Ok(())));
+    assert_eq!(rt; added(rt.alloc(), 2, &[(at_one(), 5, 2)]), (2, 1, Ok(())));
+    assert_eq!(rt;
+        added(rt.alloc(), 2, &[(at_one(), 5, 2), (any, 6, 3)]),
+        (3, 2, Ok(()))
+    );
+}
+
+#[test]
+fn a_full_table_replaces_alone(rt: HostRuntime) {
+    let any = Pattern::any();
+    let full = Err(ChangeError::Full);
+    assert_eq!(rt;
+        added(rt.alloc(), 1, &[(at_one(), 6, 3), (any, 7, 4)]),
+        (3, 1, full)
+    );
+    assert_eq!(rt;
+        added(rt.alloc(), 1, &[(at_one(), 6, 3), (at_one(), 6, 9)]),
+        (9, 1, Ok(()))
+    );
+    assert_eq!(rt; Table::new(rt.alloc(), 7).capacity(), 7);
+}
+
+#[test]
+fn exact_rows_outrank(rt: HostRuntime) {
+    let rows = [(Pattern::any(), 65535, 2), (exact(), 1, 3), (exact(), 2, 4)];
+    assert_eq!(rt; added(rt.alloc(), 3, &rows[..2]), (3, 2, Ok(())));
+    assert_eq!(rt; added(rt.alloc(), 3, &rows), (4, 3, Ok(())));
+}
