@@ -81,6 +81,7 @@ fn lists_and_terms(rt: HostRuntime) -> Result<(), Fail> {
     let topology = two(&rt, rt.alloc())?;
     assert_eq!(rt; topology.switches().len(), 2);
     assert_eq!(rt; topology.ports_of(1), [9, 1].as_slice());
+    assert_eq!(rt; (topology.ports_before(0), topology.ports_before(1)), (0, 2));
     assert_eq!(rt; topology.links(), [((1, 2), (2, 1))].as_slice());
     assert_eq!(rt; topology.edges(), [(1, 1), (2, 9)].as_slice());
     assert_eq!(rt; members(&topology.link_term(rt.alloc())?), Some(2));
