@@ -7,5 +7,6 @@ pub mod Ranged
 pub mod Readings
 pub mod Settled
 pub mod Sound
+pub mod Total
 pub mod Turning
 pub mod Unique

@@ -17,6 +17,10 @@ use Rattle.document_text.specs.Grammar.{IsReading, IsDocument}
 abbrev pub OneOutcome : Type 0
 OneOutcome = (text : List ℕ) (o o' : Outcome) → IsReading text o → IsReading text o' → o ≡ o'
 
+-- Each text has an outcome.
+abbrev pub SomeOutcome : Type 0
+SomeOutcome = (text : List ℕ) → (o : Outcome) × IsReading text o
+
 -- the packet is well shaped and arrives at a port without a link
 pub record Arrives (t : Layout) (p : PacketLine) : Type 0 where
   pub shaped : IsWellShaped p.packet

@@ -1,9 +1,10 @@
 // Laws of the grammar, as contracts.
-ghost use Rattle.document_text.specs.Laws.{OneOutcome, Within};
+ghost use Rattle.document_text.specs.Laws.{OneOutcome, SomeOutcome, Within};
 
-/// A text has one outcome: one document, or one fault at one place.
+/// A text has exactly one outcome: it is one document, or has one first fault at one place.
 pub fn one_outcome()
-    ensures { OneOutcome }
+    ensures one { OneOutcome }
+    ensures some { SomeOutcome }
 {}
 
 /// A document that was read is within the limits: its settings are in their ranges, it has 1 to 64

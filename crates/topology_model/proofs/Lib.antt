@@ -1,3 +1,4 @@
+pub mod FirstPlaces
 pub mod Growth
 pub mod Linking
 pub mod Positions

@@ -1,6 +1,7 @@
 pub mod Causes
 pub mod Drafts
 pub mod Ends
+pub mod Firsts
 pub mod Layouts
 pub mod Lines
 pub mod Topologies

@@ -1,10 +1,10 @@
 // Topologies.
-ghost use Rattle.std.specs.Prelude.{All, ◌≡◌, ◌<◌, ◌↔◌, [], ◌∷◌, length, IsTrue, IsSome, IfOk, IfErr, IfSome, IsSomeAnd, OnOk, Some, None, option_map, slice_get, map, ℕ};
+ghost use Rattle.std.specs.Prelude.{All, ◌≡◌, ◌<◌, ◌↔◌, [], ◌∷◌, length, IsTrue, IsSome, IfOk, IfErr, IfSome, IsSomeAnd, OnOk, Some, None, option_map, slice_get, map, take, ℕ};
 ghost use Rattle.std.specs.List.{flat_map};
 ghost use Rattle.nk_values.specs.Members.{IsIn};
 ghost use Rattle.nk_syntax.specs.Views.{term_of};
 ghost use Rattle.history_meaning.specs.Network.{Place, link_term, edge_term};
-ghost use Rattle.topology_model.specs.Layouts.{place_of, both_ways, place_in, has_switch, has_port, far_end, is_edge, wiring};
+ghost use Rattle.topology_model.specs.Layouts.{place_of, places_at, both_ways, place_in, has_switch, has_port, far_end, is_edge, wiring};
 ghost use Rattle.topology_model.specs.Lines.{IsLineInRange, layout_of, fault_from, fault_at, IsFaultless};
 ghost use Rattle.topology_model.specs.Causes.{IsEndCause, IsCause};
 
@@ -24,6 +24,8 @@ pub struct Topology {
     draft: Draft,
     // the ports without a link, in declared order
     edges: Vec<End>,
+    // how many ports the switches before each one have
+    firsts: Vec<usize>,
 }
 
 impl Model for Topology {
@@ -39,6 +41,7 @@ impl Model for Topology {
 }
 
 impl Topology {
+    ghost use Rattle.topology_model.specs.Firsts.{HasPortsBehind};
     ghost use Rattle.topology_model.specs.Wired.{IsTopology, IsDeclared, IsWiring};
 
     /// The topology of some lines, or the first fault. Each number is in its range: switches 1 to
@@ -66,7 +69,12 @@ impl Topology {
         if edges.is_empty() {
             return Err(LineError::Fault(TextFault::NoEdge));
         }
-        Ok(Topology { draft, edges })
+        let firsts = firsts_of(alloc, draft.switches())?;
+        Ok(Topology {
+            draft,
+            edges,
+            firsts,
+        })
     }
 
     /// The switches with their ports, in declared order.
@@ -83,6 +91,16 @@ impl Topology {
         ensures { IsSomeAnd (slice_get self.now.switches place) (λ s. result.now ≡ s.ports) }
     {
         self.draft.switches()[place].ports.as_slice()
+    }
+
+    /// How many ports the switches before a place have: where the ports of the switch at that place begin among
+    /// those of all switches in declared order.
+    pub fn ports_before(&self, place: usize) -> usize
+        requires { place < length self.now.switches }
+        ensures count { result ≡ length (flat_map places_at (take place self.now.switches)) }
+        ensures parts { IsSomeAnd (slice_get self.now.switches place) (λ s. HasPortsBehind self.now s result) }
+    {
+        self.firsts[place]
     }
 
     /// The links, in declared order.
@@ -166,6 +184,25 @@ impl Topology {
     {
         self.enter_term(alloc)
     }
+}
+
+ghost use Rattle.std.specs.Prelude.{◌≤◌};
+ghost use Rattle.topology_model.specs.Firsts.{firsts_of};
+ghost use Rattle.topology_model.specs.declared.line.Site.{Site};
+
+// How many ports the switches before each one have.
+fn firsts_of(alloc: Global, sites: &[Site]) -> Result<Vec<usize>, AllocError>
+    requires few { length sites.now ≤ 256 }
+    requires narrow { (s : Site) → IsIn sites.now s → length s.ports ≤ 256 }
+    ensures { IfOk result (λ v. v.items ≡ firsts_of 0 sites.now) }
+{
+    let mut firsts = Vec::new(alloc);
+    let mut total = 0;
+    for site in sites {
+        firsts.push(total)?;
+        total += site.ports.len();
+    }
+    Ok(firsts)
 }
 
 // What some lines declare, or their first fault but for the missing edge port.
