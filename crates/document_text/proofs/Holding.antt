@@ -4,20 +4,17 @@ use Rattle.std.proofs.lemmas.Bool.Decides.{nat_tests}
 use Rattle.std.specs.Prelude.{IfSome, codes}
 use Rattle.std.specs.Option.{option_map, option_and_then}
 use Rattle.std.specs.Str.{bytes_eq}
+use Rattle.nk_values.specs.declared.fault.TextFault.{TextFault}
+use Rattle.nk_values.specs.declared.fault.TextFault.TheVariants.{BadLine, Limit, NoEdge, NoPolicy, UnknownName, UnknownSwitch, ValueRange}
 use Rattle.nk_values.specs.Members.{IsIn}
 use Rattle.nk_values.proofs.MemberLaws.{in-either}
 use Rattle.nk_values.specs.declared.field.Field.TheVariants.{Sw}
 use Rattle.nk_syntax.specs.Terms.{Term}
-use Rattle.netkat_parser.specs.declared.fault.Fault.TheVariants.{ValueRange, UnknownName}
 use Rattle.topology_model.specs.Layouts.{Layout, has_switch, is_edge, place_of}
-use Rattle.topology_model.specs.declared.fault.TopoFault.{TopoFault}
-use Rattle.topology_model.specs.declared.fault.TopoFault.TheVariants.{UnknownSwitch, NoEdge}
 use Rattle.document_text.specs.declared.document.Event.{Event}
 use Rattle.document_text.specs.declared.document.Event.TheVariants as event
 use Rattle.document_text.specs.declared.document.PacketLine.{PacketLine}
 use Rattle.document_text.specs.declared.document.ScheduleLine.{ScheduleLine}
-use Rattle.document_text.specs.declared.fault.Fault.{Fault}
-use Rattle.document_text.specs.declared.fault.Fault.TheVariants.{BadLine, Limit, NoPolicy, Text, Topology}
 use Rattle.document_text.specs.declared.head.Head.{Head}
 use Rattle.document_text.specs.declared.head.Head.TheVariants as head
 use Rattle.document_text.specs.declared.told.Kind.{Kind}
@@ -121,7 +118,7 @@ layout-holds s k t h late low = record {
   inside = λ i. absurd (omega (arith, h.inside i, late, low));
 }
 
-placed-by : (s t : State) (o : Option TopoFault) → Holds s → placed_by s o ≡ Ok t → Holds t
+placed-by : (s t : State) (o : Option TextFault) → Holds s → placed_by s o ≡ Ok t → Holds t
 placed-by s t None h e = let same : s ≡ t = cc in subst Holds same h
 placed-by s t (Some f) h e = absurd (cc)
 
@@ -185,7 +182,7 @@ link-holds s t ws h e =
     let b = refused-ok _ _ _ t a.1 in
     placed-by _ t _ (layout-holds s kind.Link _ h (on-time s kind.Link a.0) (omega arith)) b.1
 
-ok-is : (s t : State) → ◌≡◌ {A = Result State Fault} (Ok s) (Ok t) → s ≡ t
+ok-is : (s t : State) → ◌≡◌ {A = Result State TextFault} (Ok s) (Ok t) → s ≡ t
 ok-is s t e = cc
 
 hops-line-holds : (s t : State) (ws : List (List ℕ)) → Holds s → hops_line s ws ≡ Ok t → Holds t
@@ -228,9 +225,9 @@ stamps-line-holds s t ws h e =
     (kind-holds (record s { stamps = Some x.0 }) kind.Setting (stamps-holds s (Some x.0) h (upto 1 x.0.0 low.0, two, upto x.0.1 4094 range.1)) (on-time s kind.Setting (left-false _ _ a.0)))
 
 -- behind the topology and a policy
-policies-ok : {A : Type 0} (s : State) (r : Result A Fault) (t : A) → behind_policies s r ≡ Ok t → r ≡ Ok t
+policies-ok : {A : Type 0} (s : State) (r : Result A TextFault) (t : A) → behind_policies s r ≡ Ok t → r ≡ Ok t
 policies-ok s r t e =
-    (refused-ok (is_empty s.policies) NoPolicy r t (refused-ok (not (has_edge s.layout)) (Topology NoEdge) (refused_if (is_empty s.policies) NoPolicy r) t e).1).1
+    (refused-ok (is_empty s.policies) NoPolicy r t (refused-ok (not (has_edge s.layout)) NoEdge (refused_if (is_empty s.policies) NoPolicy r) t e).1).1
 
 policy-line-holds : (s t : State) (ws : List (List ℕ)) → Holds s → policy_line s ws ≡ Ok t → Holds t × (t.policies ≡ s.policies)
 policy-line-holds s t [] h e =
@@ -249,7 +246,7 @@ schedule-line-holds s t [] h e =
 schedule-line-holds s t (w ∷ ws) h e = absurd (cc)
 
 -- a packet line
-line-is : (p q : PacketLine) → ◌≡◌ {A = Result PacketLine Fault} (Ok p) (Ok q) → p ≡ q
+line-is : (p q : PacketLine) → ◌≡◌ {A = Result PacketLine TextFault} (Ok p) (Ok q) → p ≡ q
 line-is p q e = cc
 
 -- a form has its place, and the packet stands there
@@ -267,11 +264,11 @@ packet-at s p [] e = absurd (cc)
 packet-at s p (w ∷ ws) e =
     let x = formed-ok (packet_form (w ∷ ws)) _ p e in
     let a = refused-ok _ _ _ p x.2 in
-    let made : Result PacketLine Fault = Ok (record { packet = x.0.1.packet; tag = x.0.1.tag }) in
-    let ranged = refused_if (not (is_end_value x.0.0) || x.0.1.outside) (Text ValueRange) (at_edge s x.0.0 made) in
-    let c = policies-ok s (refused_if x.0.1.unknown (Text UnknownName) ranged) p a.1 in
-    let d = refused-ok x.0.1.unknown (Text UnknownName) ranged p c in
-    let f = refused-ok (not (is_end_value x.0.0) || x.0.1.outside) (Text ValueRange) (at_edge s x.0.0 made) p d.1 in
+    let made : Result PacketLine TextFault = Ok (record { packet = x.0.1.packet; tag = x.0.1.tag }) in
+    let ranged = refused_if (not (is_end_value x.0.0) || x.0.1.outside) ValueRange (at_edge s x.0.0 made) in
+    let c = policies-ok s (refused_if x.0.1.unknown UnknownName ranged) p a.1 in
+    let d = refused-ok x.0.1.unknown UnknownName ranged p c in
+    let f = refused-ok (not (is_end_value x.0.0) || x.0.1.outside) ValueRange (at_edge s x.0.0 made) p d.1 in
     let g = edge-ok s x.0.0 made p f.1 in
     let at = form-at w ws (end_of w) x.0 x.1 in
     let here = subst (λ n. is_edge s.layout (place_of (n, x.0.0.1)) ≡ true) (sym at.0) g.0 in
@@ -316,26 +313,26 @@ event-holds s e h few late name = record {
 }
 
 -- the event of a line
-event-is : (x y : Event) → ◌≡◌ {A = Result Event Fault} (Ok x) (Ok y) → x ≡ y
+event-is : (x y : Event) → ◌≡◌ {A = Result Event TextFault} (Ok x) (Ok y) → x ≡ y
 event-is x y e = cc
 
-choose : (P : Event → Type 0) (b : Bool) (x y : Result Event Fault) → ((e : Event) → x ≡ Ok e → P e) → ((e : Event) → y ≡ Ok e → P e) → (e : Event) → cond b x y ≡ Ok e → P e
+choose : (P : Event → Type 0) (b : Bool) (x y : Result Event TextFault) → ((e : Event) → x ≡ Ok e → P e) → ((e : Event) → y ≡ Ok e → P e) → (e : Event) → cond b x y ≡ Ok e → P e
 choose P true x y h k e q = h e q
 choose P false x y h k e q = k e q
 
-none-such : (P : Event → Type 0) (e : Event) → ◌≡◌ {A = Result Event Fault} (Err BadLine) (Ok e) → P e
+none-such : (P : Event → Type 0) (e : Event) → ◌≡◌ {A = Result Event TextFault} (Err BadLine) (Ok e) → P e
 none-such P e q = absurd (cc)
 
-plain : (P : Event → Type 0) (x : Event) → P x → (e : Event) → ◌≡◌ {A = Result Event Fault} (Ok x) (Ok e) → P e
+plain : (P : Event → Type 0) (x : Event) → P x → (e : Event) → ◌≡◌ {A = Result Event TextFault} (Ok x) (Ok e) → P e
 plain P x h e q = subst P (event-is x e q) h
 
-ranged : (P : Event → Type 0) (b : Bool) (f : Fault) (x : Event) → P x → (e : Event) → refused_if b f (Ok x) ≡ Ok e → P e
+ranged : (P : Event → Type 0) (b : Bool) (f : TextFault) (x : Event) → P x → (e : Event) → refused_if b f (Ok x) ≡ Ok e → P e
 ranged P b f x h e q = plain P x h e (refused-ok b f (Ok x) e q).1
 
 at-switch : (s : State) (P : Event → Type 0) (sw : ℕ) (x : Event) → (has_switch s.layout.switches sw ≡ true → P x) → (e : Event) → at_switch s sw x ≡ Ok e → P e
 at-switch s P sw x h e q =
-    let a = refused-ok (not (is_value Sw sw)) (Text ValueRange) (refused_if (not (has_switch s.layout.switches sw)) (Topology UnknownSwitch) (Ok x)) e q in
-    let b = refused-ok (not (has_switch s.layout.switches sw)) (Topology UnknownSwitch) (Ok x) e a.1 in
+    let a = refused-ok (not (is_value Sw sw)) ValueRange (refused_if (not (has_switch s.layout.switches sw)) UnknownSwitch (Ok x)) e q in
+    let b = refused-ok (not (has_switch s.layout.switches sw)) UnknownSwitch (Ok x) e a.1 in
     plain P x (h (one-true (has_switch s.layout.switches sw) b.0)) e b.1
 
 at-packet : (s : State) (P : Event → Type 0) (n : ℕ) → ((1 ≤ n) × (n ≤ length s.packets) → P (event.Arrive n)) → (e : Event) → arrival s n ≡ Ok e → P e
@@ -359,13 +356,13 @@ one-named s w n =
     (choose (Names s) (bytes_eq w (codes "heard")) _ _ (at-switch s (Names s) n (event.Heard n) (λ h. h))
     (choose (Names s) (bytes_eq w (codes "lost")) _ _ (at-switch s (Names s) n (event.Lost n) (λ h. h))
     (choose (Names s) (bytes_eq w (codes "arrive")) _ _ (at-packet s (Names s) n (λ h. h))
-    (choose (Names s) (bytes_eq w (codes "hop")) _ _ (ranged (Names s) (not (is_index n)) (Text ValueRange) (event.Hop n) tt)
-    (choose (Names s) (bytes_eq w (codes "stuck")) _ _ (ranged (Names s) (not (is_index n)) (Text ValueRange) (event.Stuck n) tt)
-    (choose (Names s) (bytes_eq w (codes "drained")) _ _ (ranged (Names s) (not (is_vlan_id n)) (Text ValueRange) (event.Drained n) tt) (none-such (Names s))))))))))
+    (choose (Names s) (bytes_eq w (codes "hop")) _ _ (ranged (Names s) (not (is_index n)) ValueRange (event.Hop n) tt)
+    (choose (Names s) (bytes_eq w (codes "stuck")) _ _ (ranged (Names s) (not (is_index n)) ValueRange (event.Stuck n) tt)
+    (choose (Names s) (bytes_eq w (codes "drained")) _ _ (ranged (Names s) (not (is_vlan_id n)) ValueRange (event.Drained n) tt) (none-such (Names s))))))))))
 
 two-named : (s : State) (w : List ℕ) (sw k : ℕ) (e : Event) → event_of_two s w sw k ≡ Ok e → Names s e
 two-named s w sw k =
-    choose (Names s) _ _ _ (λ e q. at-switch s (Names s) sw (event.Apply sw k) (λ h. h) e (refused-ok (not (is_index k)) (Text ValueRange) (at_switch s sw (event.Apply sw k)) e q).1) (none-such (Names s))
+    choose (Names s) _ _ _ (λ e q. at-switch s (Names s) sw (event.Apply sw k) (λ h. h) e (refused-ok (not (is_index k)) ValueRange (at_switch s sw (event.Apply sw k)) e q).1) (none-such (Names s))
 
 event-named : (s : State) (ws : List (List ℕ)) (e : Event) → event_of s ws ≡ Ok e → Names s e
 event-named s [] e q = absurd (cc)
@@ -378,15 +375,15 @@ event-named s (w ∷ a ∷ b ∷ []) e q =
 event-named s (w ∷ a ∷ b ∷ c ∷ ws) e q = absurd (cc)
 
 -- one step
-next-is : (r : Result State Fault) (t : State) → IsNext (next r) t → r ≡ Ok t
+next-is : (r : Result State TextFault) (t : State) → IsNext (next r) t → r ≡ Ok t
 next-is (Ok u) t h = ap (λ x. Ok x) (sym h)
 next-is (Err f) t h = absurd h
 
-opens-no-next : (r : Result State Fault) (t : State) → IsNext (opens r) t → ⊥
+opens-no-next : (r : Result State TextFault) (t : State) → IsNext (opens r) t → ⊥
 opens-no-next (Ok u) t h = h
 opens-no-next (Err f) t h = h
 
-enters-holds : (s t : State) (ws : List (List ℕ)) (r : Result PacketLine Fault) → packet_line s ws ≡ r → Holds s → length s.packets < 10000 → IsNext (enters s r) t → Holds t
+enters-holds : (s t : State) (ws : List (List ℕ)) (r : Result PacketLine TextFault) → packet_line s ws ≡ r → Holds s → length s.packets < 10000 → IsNext (enters s r) t → Holds t
 enters-holds s t ws (Err f) e h few k = absurd k
 enters-holds s t ws (Ok p) e h few k =
     let at = packet-at s p ws e in
@@ -414,7 +411,7 @@ declares-holds s t head.Packet all ws h few k = enters-holds s t ws (packet_line
 declares-holds s t head.Schedule all ws h few k = schedule-line-holds s t ws h (next-is (schedule_line s ws) t k)
 declares-holds s t head.Unlisted all ws h few k = absurd k
 
-happens-holds : (s t : State) (n : ℕ) (ws : List (List ℕ)) (r : Result Event Fault) → event_of s ws ≡ r → Holds s → s.inside ≡ true → length s.events < 100000 → IsNext (happens s n r) t → Holds t
+happens-holds : (s t : State) (n : ℕ) (ws : List (List ℕ)) (r : Result Event TextFault) → event_of s ws ≡ r → Holds s → s.inside ≡ true → length s.events < 100000 → IsNext (happens s n r) t → Holds t
 happens-holds s t n ws (Err f) e h i few k = absurd k
 happens-holds s t n ws (Ok x) e h i few k = subst Holds (sym k) (event-holds s (record { line = n; event = x }) h few (h.inside i) (event-named s ws x e))
 
@@ -443,17 +440,17 @@ step-holds s t n (w ∷ ws) h k = step-by s t n w ws (is_too_many s (head_of w) 
 abbrev pub HasRoom : State → Type 0
 HasRoom s = Holds s × (length s.policies < 64)
 
-opens-holds : (s t : State) (ws : List (List ℕ)) (r : Result State Fault) → policy_line s ws ≡ r → Holds s → length s.policies < 64 → IsOpening (opens r) t → HasRoom t
+opens-holds : (s t : State) (ws : List (List ℕ)) (r : Result State TextFault) → policy_line s ws ≡ r → Holds s → length s.policies < 64 → IsOpening (opens r) t → HasRoom t
 opens-holds s t ws (Err f) e h few k = absurd k
 opens-holds s t ws (Ok u) e h few k =
     let x = policy-line-holds s u ws h e in
     subst HasRoom (sym k) (x.0, subst (λ ps. length ps < 64) (sym x.1) few)
 
-next-no-opening : (r : Result State Fault) (t : State) → IsOpening (next r) t → ⊥
+next-no-opening : (r : Result State TextFault) (t : State) → IsOpening (next r) t → ⊥
 next-no-opening (Ok u) t h = h
 next-no-opening (Err f) t h = h
 
-enters-no-opening : (s : State) (r : Result PacketLine Fault) (t : State) → IsOpening (enters s r) t → ⊥
+enters-no-opening : (s : State) (r : Result PacketLine TextFault) (t : State) → IsOpening (enters s r) t → ⊥
 enters-no-opening s (Ok p) t h = h
 enters-no-opening s (Err f) t h = h
 
@@ -468,7 +465,7 @@ declares-opens s t head.Packet all ws h few k = absurd (enters-no-opening s (pac
 declares-opens s t head.Schedule all ws h few k = absurd (next-no-opening (schedule_line s ws) t k)
 declares-opens s t head.Unlisted all ws h few k = absurd k
 
-happens-no-opening : (s : State) (n : ℕ) (r : Result Event Fault) (t : State) → IsOpening (happens s n r) t → ⊥
+happens-no-opening : (s : State) (n : ℕ) (r : Result Event TextFault) (t : State) → IsOpening (happens s n r) t → ⊥
 happens-no-opening s n (Ok x) t h = h
 happens-no-opening s n (Err f) t h = h
 

@@ -1,11 +1,11 @@
 -- From lines to whole texts.
 use Rattle.std.proofs.Common.{◌≡◌, ℕ, ◌+◌, ◌<◌, ◌≤◌, Bool, true, false, cond, nat_le, nat_lt, List, length, take, Result, Ok, Err, refl, sym, ◌∙◌, subst, arith}
 use Rattle.std.proofs.lemmas.Bool.Decides.{nat_tests}
+use Rattle.nk_values.specs.declared.fault.TextFault.TheVariants.{Limit}
 use Rattle.document_text.specs.declared.document.Document.{Document}
 use Rattle.document_text.specs.declared.fault.DocFault.{DocFault}
 use Rattle.document_text.specs.declared.fault.DocumentError.{DocumentError}
 use Rattle.document_text.specs.declared.fault.DocumentError.TheVariants.{Fault, Memory}
-use Rattle.document_text.specs.declared.fault.Fault.TheVariants.{Limit}
 use Rattle.document_text.specs.Documents.{Outcome, Accepted, Refused}
 use Rattle.document_text.specs.States.{start}
 use Rattle.document_text.specs.Texts.{lines_of}

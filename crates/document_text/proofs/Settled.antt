@@ -2,13 +2,13 @@
 use Rattle.std.proofs.Common.{◌≡◌, ◌≢◌, ℕ, ◌≤◌, Bool, true, false, not, ◌&&◌, ◌==◌, nat_le, List, [], ◌∷◌, length, map, None, Result, Ok, refl, ◌∙◌, subst, arith}
 use Rattle.std.proofs.lemmas.Bool.Decides.{nat_tests}
 use Rattle.std.proofs.lemmas.Bool.{eq-eqb, eqb-true}
+use Rattle.nk_values.specs.declared.fault.TextFault.{TextFault}
+use Rattle.nk_values.specs.declared.fault.TextFault.TheVariants.{NoPolicy}
 use Rattle.nk_syntax.specs.declared.pol.Pol.{Pol}
 use Rattle.nk_syntax.specs.Views.{term_of}
 use Rattle.history_meaning.specs.Network.{Place}
 use Rattle.topology_model.specs.Layouts.{Layout, edges_of}
 use Rattle.topology_model.specs.Lines.{fault_from}
-use Rattle.document_text.specs.declared.fault.Fault.{Fault}
-use Rattle.document_text.specs.declared.fault.Fault.TheVariants.{NoPolicy}
 use Rattle.document_text.specs.Documents.{Accepted}
 use Rattle.document_text.specs.States.{State, has_edge, is_empty, doc_of_state}
 use Rattle.document_text.specs.Schedules.{refused_if}
@@ -31,11 +31,11 @@ pub two-stamps : (low high : ℕ) → low ≢ high → (low == high) ≡ false
 two-stamps low high h = apart low high h
 
 -- what passes both tests
-pub unset-ok : (s : State) (given given' bad : Bool) (f : Fault) (t : State) → given' ≡ given → ((r : Result State Fault) → unset s given' r ≡ r) → bad ≡ false
+pub unset-ok : (s : State) (given given' bad : Bool) (f : TextFault) (t : State) → given' ≡ given → ((r : Result State TextFault) → unset s given' r ≡ r) → bad ≡ false
     → unset s given (refused_if bad f (Ok t)) ≡ Ok t
 unset-ok s given given' bad f t e tests b = subst (λ g. unset s g (refused_if bad f (Ok t)) ≡ Ok t) e (tests (refused_if bad f (Ok t)) ∙ rw b refl)
 
-pub unset-ok-twice : (s : State) (given given' bad worse : Bool) (f g : Fault) (t : State) → given' ≡ given → ((r : Result State Fault) → unset s given' r ≡ r) → bad ≡ false → worse ≡ false
+pub unset-ok-twice : (s : State) (given given' bad worse : Bool) (f g : TextFault) (t : State) → given' ≡ given → ((r : Result State TextFault) → unset s given' r ≡ r) → bad ≡ false → worse ≡ false
     → unset s given (refused_if bad f (refused_if worse g (Ok t))) ≡ Ok t
 unset-ok-twice s given given' bad worse f g t e tests b w =
     subst (λ x. unset s x (refused_if bad f (refused_if worse g (Ok t))) ≡ Ok t) e (tests (refused_if bad f (refused_if worse g (Ok t))) ∙ rw (b, w) refl)

@@ -4,27 +4,27 @@ use Rattle.std.specs.Prelude.{IfSome, codes}
 use Rattle.std.specs.Option.{option_map, option_and_then}
 use Rattle.std.specs.List.{list_any, find}
 use Rattle.std.specs.Str.{bytes_eq}
+use Rattle.nk_values.specs.declared.fault.TextFault.{TextFault}
 use Rattle.nk_values.specs.declared.field.Field.{Field}
 use Rattle.nk_values.specs.declared.field.Field.TheVariants.{EthTyp, IpProto, EthSrc, EthDst, Ip4Src, Ip4Dst, TcpSrcPort, TcpDstPort}
 use Rattle.nk_values.specs.declared.packet.Packet.{Packet}
 use Rattle.nk_values.specs.Packets.{with_value}
-use Rattle.nk_syntax.specs.Prints.{name_of}
+use Rattle.nk_values.specs.Names.{name_of, header_fields}
 use Rattle.netkat_parser.specs.Numbers.{number}
 use Rattle.topology_model.specs.Layouts.{is_edge, place_of}
 use Rattle.document_text.specs.declared.document.PacketLine.{PacketLine}
-use Rattle.document_text.specs.declared.fault.Fault.{Fault}
-use Rattle.document_text.specs.Packets.{Given, is_value, header_fields, pair_of, with_tag, with_number, with_field, with_named, with_pair, with_word, with_words}
+use Rattle.document_text.specs.Packets.{Given, is_value, pair_of, with_tag, with_number, with_field, with_named, with_pair, with_word, with_words}
 use Rattle.document_text.specs.Texts.{numeral}
 use Rattle.document_text.specs.States.{State}
 use Rattle.document_text.specs.Schedules.{refused_if, formed}
 use Rattle.document_text.specs.Lines.{at_edge}
 
 -- the parts of a test that lets pass
-pub formed-ok : {A B : Type 0} (o : Option A) (go : A → Result B Fault) (t : B) → formed o go ≡ Ok t → (a : A) × (o ≡ Some a) × (go a ≡ Ok t)
+pub formed-ok : {A B : Type 0} (o : Option A) (go : A → Result B TextFault) (t : B) → formed o go ≡ Ok t → (a : A) × (o ≡ Some a) × (go a ≡ Ok t)
 formed-ok None go t e = absurd (cc)
 formed-ok (Some a) go t e = (a, refl, e)
 
-pub refused-ok : {A : Type 0} (b : Bool) (f : Fault) (r : Result A Fault) (t : A) → refused_if b f r ≡ Ok t → (b ≡ false) × (r ≡ Ok t)
+pub refused-ok : {A : Type 0} (b : Bool) (f : TextFault) (r : Result A TextFault) (t : A) → refused_if b f r ≡ Ok t → (b ≡ false) × (r ≡ Ok t)
 refused-ok true f r t e = absurd (cc)
 refused-ok false f r t e = (refl, e)
 
@@ -111,7 +111,7 @@ not-false false h = absurd (cc)
 edge-of : (a b : Bool) → a ≡ true → b ≡ false → (a && not b) ≡ true
 edge-of a b h k = rw (h, k) refl
 
-pub edge-ok : (s : State) (e : ℕ × ℕ) (r : Result PacketLine Fault) (p : PacketLine) → at_edge s e r ≡ Ok p → (is_edge s.layout (place_of e) ≡ true) × (r ≡ Ok p)
+pub edge-ok : (s : State) (e : ℕ × ℕ) (r : Result PacketLine TextFault) (p : PacketLine) → at_edge s e r ≡ Ok p → (is_edge s.layout (place_of e) ≡ true) × (r ≡ Ok p)
 edge-ok s e r p h =
     let a = refused-ok _ _ _ p h in
     let b = refused-ok _ _ _ p a.1 in

@@ -3,8 +3,8 @@ use Rattle.std.proofs.Common.{◌≡◌, ℕ, ◌+◌, ◌<◌, inl, inr, true, 
 use Rattle.std.specs.Borrow.{Bor}
 use Rattle.std.proofs.Math.Seq.{take-add, take-length}
 use Rattle.std.proofs.lemmas.List.{drop-drop}
+use Rattle.nk_values.specs.declared.fault.TextFault.{TextFault}
 use Rattle.document_text.specs.declared.block.Block as declared
-use Rattle.document_text.specs.declared.fault.Fault.{Fault}
 use Rattle.document_text.specs.declared.fault.DocumentError.{DocumentError}
 use Rattle.document_text.specs.declared.fault.DocumentError.TheVariants as document
 use Rattle.document_text.specs.declared.fault.Stop.{Stop}
@@ -33,7 +33,7 @@ opening-does Go n o (Enters p s) t h k = absurd h
 opening-does Go n o (Opens s) t h k = subst (λ u. Go (Block u (n + 1) [])) h k
 opening-does Go n o (Stops f) t h k = absurd h
 
-stop-does : (Go : Mode → Type 0) (n : ℕ) (x : Step) (f : Fault) → IsStop x f → Does Go n (refused_at n f) x
+stop-does : (Go : Mode → Type 0) (n : ℕ) (x : Step) (f : TextFault) → IsStop x f → Does Go n (refused_at n f) x
 stop-does Go n (Next s) f h = absurd h
 stop-does Go n (Enters p s) f h = inr (h.0, ap (refused_at n) h.1)
 stop-does Go n (Opens s) f h = absurd h
@@ -55,7 +55,7 @@ pub turn-opening : (s t : State) (n len : ℕ) (text : List ℕ) (ws : List (Lis
 turn-opening s t n len text ws e some w h o k =
     line-first s n len text o e some (opening-does (λ x. IsFrom x (n + 1) (lines_of (drop len text)) o) n o (step s n (words_of (take len text))) t (subst (λ v. IsOpening (step s n v) t) w h) k)
 
-pub turn-stop : (s : State) (n len : ℕ) (text : List ℕ) (ws : List (List ℕ)) (f : Fault) → len ≡ first_len text → 0 < length text → ws ≡ words_of (take len text)
+pub turn-stop : (s : State) (n len : ℕ) (text : List ℕ) (ws : List (List ℕ)) (f : TextFault) → len ≡ first_len text → 0 < length text → ws ≡ words_of (take len text)
     → IsStop (step s n ws) f → IsFrom (Lines s) n (lines_of text) (refused_at n f)
 turn-stop s n len text ws f e some w h =
     line-first s n len text (refused_at n f) e some (stop-does (λ x. IsFrom x (n + 1) (lines_of (drop len text)) (refused_at n f)) n (step s n (words_of (take len text))) f (subst (λ v. IsStop (step s n v) f) w h))
@@ -68,7 +68,7 @@ turn-line s r x n len text rest ws e some w d t h o k =
     turn-next s (state_of r) n len text ws e some w (subst (λ y. Takes (step s n ws) (Ok y)) t h) o
     (subst (λ ls. IsFrom (Lines (state_of r)) (n + 1) (lines_of ls) o) d k)
 
-pub turn-fault : (s : State) (x : Stop) (f : Fault) (n len : ℕ) (text : List ℕ) (ws : List (List ℕ)) → len ≡ first_len text → 0 < length text → ws ≡ words_of (take len text)
+pub turn-fault : (s : State) (x : Stop) (f : TextFault) (n len : ℕ) (text : List ℕ) (ws : List (List ℕ)) → len ≡ first_len text → 0 < length text → ws ≡ words_of (take len text)
     → x ≡ stop.Fault f → Takes (step s n ws) (Err x) → IsFrom (Lines s) n (lines_of text) (refused_at n f)
 turn-fault s x f n len text ws e some w t h = turn-stop s n len text ws f e some w (subst (λ y. Takes (step s n ws) (Err y)) t h)
 

@@ -1,20 +1,18 @@
 -- What the answers of the reader stand for.
 use Rattle.std.specs.Prelude.{◌≡◌, ◌+◌, ⊤, ℕ, Bool, true, false, nat_lt, if◌then◌else◌, List, map, Option, Some, None, Result, Ok, Err}
 use Rattle.std.specs.Borrow.{Bor}
+use Rattle.nk_values.specs.declared.fault.TextFault.{TextFault}
+use Rattle.nk_values.specs.declared.fault.TextFault.TheVariants.{BadLine, Limit, NoEdge, ValueRange}
 use Rattle.nk_values.specs.Packets.{IsWellShaped}
 use Rattle.nk_syntax.specs.Terms.{Term}
 use Rattle.nk_syntax.specs.Views.{term_of}
 use Rattle.topology_model.specs.Layouts.{Layout}
 use Rattle.document_text.specs.declared.block.Block.{Block}
 use Rattle.document_text.specs.declared.document.Document.{Document}
-use Rattle.document_text.specs.declared.fault.Fault.{Fault}
-use Rattle.document_text.specs.declared.fault.Fault.TheVariants.{BadLine, Limit, Text, Topology}
-use Rattle.netkat_parser.specs.declared.fault.Fault.TheVariants.{ValueRange}
 use Rattle.document_text.specs.Schedules.{at_switch}
 use Rattle.document_text.specs.declared.document.Event.{Event}
 use Rattle.document_text.specs.declared.packet.Given.{Given}
 use Rattle.document_text.specs.Packets as packets
-use Rattle.topology_model.specs.declared.fault.TopoFault.TheVariants.{NoEdge}
 use Rattle.document_text.specs.declared.fault.DocFault.{DocFault}
 use Rattle.document_text.specs.declared.fault.DocumentError.{DocumentError}
 use Rattle.document_text.specs.declared.fault.DocumentError.TheVariants as document
@@ -56,7 +54,7 @@ abbrev pub state_of : Reader → State
 state_of r = state r.draft r.told
 
 -- the answer is this value or fault, unless memory ran out
-abbrev pub Matches : {A B : Type 0} → (A → B) → Result B Fault → Result A Stop → Type 0
+abbrev pub Matches : {A B : Type 0} → (A → B) → Result B TextFault → Result A Stop → Type 0
 Matches view r (Ok a) = r ≡ Ok (view a)
 Matches view r (Err (stop.Fault f)) = r ≡ Err f
 Matches view r (Err stop.Memory) = ⊤
@@ -68,21 +66,21 @@ Forms view o (Err (stop.Fault f)) = (o ≡ None) × (f ≡ BadLine)
 Forms view o (Err stop.Memory) = ⊤
 
 -- the tests let pass what follows, or stop at a fault, unless memory ran out
-abbrev pub Lets : {A U : Type 0} → (Result A Fault → Result A Fault) → Result U Stop → Type 0
-Lets {A} tests (Ok u) = (r : Result A Fault) → tests r ≡ r
-Lets {A} tests (Err (stop.Fault f)) = (r : Result A Fault) → tests r ≡ Err f
+abbrev pub Lets : {A U : Type 0} → (Result A TextFault → Result A TextFault) → Result U Stop → Type 0
+Lets {A} tests (Ok u) = (r : Result A TextFault) → tests r ≡ r
+Lets {A} tests (Err (stop.Fault f)) = (r : Result A TextFault) → tests r ≡ Err f
 Lets tests (Err stop.Memory) = ⊤
 
 -- some port has no link, unless memory ran out; or none has
 abbrev pub FindsEdge : {U : Type 0} → Bool → Result U Stop → Type 0
 FindsEdge b (Ok u) = b ≡ true
-FindsEdge b (Err (stop.Fault f)) = (b ≡ false) × (f ≡ Topology NoEdge)
+FindsEdge b (Err (stop.Fault f)) = (b ≡ false) × (f ≡ NoEdge)
 FindsEdge b (Err stop.Memory) = ⊤
 
 -- a value of which P holds where the test does, and else out of range, unless memory ran out
 abbrev pub Ranges : {A : Type 0} → Bool → (A → Type 0) → Result A Stop → Type 0
 Ranges b P (Ok a) = (b ≡ true) × P a
-Ranges b P (Err (stop.Fault f)) = (b ≡ false) × (f ≡ Text ValueRange)
+Ranges b P (Err (stop.Fault f)) = (b ≡ false) × (f ≡ ValueRange)
 Ranges b P (Err stop.Memory) = ⊤
 
 -- the number is that of a declared switch, for any event
@@ -101,7 +99,7 @@ abbrev pub IsOpening : Step → State → Type 0
 IsOpening (Opens s) t = t ≡ s
 IsOpening _ t = ⊥
 
-abbrev pub IsStop : Step → Fault → Type 0
+abbrev pub IsStop : Step → TextFault → Type 0
 IsStop (Stops g) f = f ≡ g
 IsStop (Enters p s) f = (IsWellShaped p.packet → ⊥) × (f ≡ BadLine)
 IsStop _ f = ⊥

@@ -1,14 +1,13 @@
 -- The grammar of documents, with the first fault: line by line, from the first one on.
 use Rattle.std.specs.Prelude.{◌≡◌, ◌⊎◌, ℕ, Bool, true, false, not, ◌+◌, ◌==◌, nat_le, nat_lt, List, [], ◌∷◌, ◌++◌, length, take, count_by, if◌then◌else◌}
+use Rattle.nk_values.specs.declared.fault.TextFault.{TextFault}
+use Rattle.nk_values.specs.declared.fault.TextFault.TheVariants.{BadLine, Limit, NoEdge, NoPolicy}
 use Rattle.nk_values.specs.Packets.{IsWellShaped}
 use Rattle.nk_syntax.specs.Terms.{Term}
 use Rattle.netkat_parser.specs.declared.fault.Place.{Place}
 use Rattle.netkat_parser.specs.declared.fault.ParseFault.{ParseFault}
 use Rattle.netkat_parser.specs.Grammar.{IsText, Where}
 use Rattle.netkat_parser.specs.Places.{HasFault, place_behind}
-use Rattle.topology_model.specs.declared.fault.TopoFault.TheVariants.{NoEdge}
-use Rattle.document_text.specs.declared.fault.Fault.{Fault}
-use Rattle.document_text.specs.declared.fault.Fault.TheVariants.{BadLine, NoPolicy, Limit, Text, Topology}
 use Rattle.document_text.specs.declared.fault.DocFault.{DocFault}
 use Rattle.document_text.specs.Documents.{Doc, Outcome, Accepted, Refused}
 use Rattle.document_text.specs.States.{State, start, is_empty, has_edge, with_policy, doc_of_state}
@@ -21,12 +20,12 @@ pub data Mode : Type 0 where
   Block : State → ℕ → List ℕ → Mode
 
 -- refused at a line
-abbrev pub refused_at : ℕ → Fault → Outcome
+abbrev pub refused_at : ℕ → TextFault → Outcome
 refused_at n f = Refused (record { fault = f; line = n; column = 1 })
 
 -- refused inside a policy's text
 abbrev pub refused_in : ParseFault → Outcome
-refused_in f = Refused (record { fault = Text f.fault; line = f.line; column = f.column })
+refused_in f = Refused (record { fault = f.fault; line = f.line; column = f.column })
 
 -- the place at which a line begins
 abbrev pub line_start : ℕ → Place
@@ -59,7 +58,7 @@ Goes Go n o (Block s begin text) line = Chosen (is_end (words_of line)) (Closes 
 abbrev pub finished : State → ℕ → Outcome
 finished s n =
     if s.inside then refused_at n BadLine else
-    if not (has_edge s.layout) then refused_at n (Topology NoEdge) else
+    if not (has_edge s.layout) then refused_at n NoEdge else
     if is_empty s.policies then refused_at n NoPolicy else Accepted (doc_of_state s)
 
 -- the place of the fault is behind the text

@@ -1,6 +1,5 @@
 pub mod Answers
 pub mod Documents
-pub mod Faults
 pub mod Grammar
 pub mod Laws
 pub mod Lines

@@ -2,17 +2,14 @@
 use Rattle.std.specs.Prelude.{ℕ, Bool, true, not, ◌==◌, ◌&&◌, ◌||◌, nat_le, List, [], ◌∷◌, codes, Option, None, Some, is_some, if◌then◌else◌, Result, Ok, Err, option_map, option_and_then}
 use Rattle.std.specs.List.{list_all}
 use Rattle.std.specs.Str.{bytes_eq}
+use Rattle.nk_values.specs.declared.fault.TextFault.{TextFault}
+use Rattle.nk_values.specs.declared.fault.TextFault.TheVariants.{BadLine, NoEdge, NoPolicy, NotEdge, StampRange, TooFewStamps, UnknownName, UnknownPort, UnknownSwitch, ValueRange}
 use Rattle.nk_values.specs.declared.field.Field.TheVariants.{Sw, Pt}
-use Rattle.netkat_parser.specs.declared.fault.Fault.TheVariants.{UnknownName, ValueRange}
 use Rattle.topology_model.specs.Layouts.{place_of, has_switch, has_port, is_linked}
 use Rattle.topology_model.specs.Lines.{with_line, line_fault}
 use Rattle.topology_model.specs.declared.line.TopoLine.{TopoLine}
 use Rattle.topology_model.specs.declared.line.TopoLine.TheVariants as topology
-use Rattle.topology_model.specs.declared.fault.TopoFault.{TopoFault}
-use Rattle.topology_model.specs.declared.fault.TopoFault.TheVariants.{UnknownSwitch, UnknownPort, NoEdge}
 use Rattle.document_text.specs.declared.document.PacketLine.{PacketLine}
-use Rattle.document_text.specs.declared.fault.Fault.{Fault}
-use Rattle.document_text.specs.declared.fault.Fault.TheVariants.{BadLine, NoPolicy, NotEdge, StampRange, TooFewStamps, Text, Topology}
 use Rattle.document_text.specs.declared.told.Kind.{Kind}
 use Rattle.document_text.specs.declared.told.Kind.TheVariants.{Switch, Link, Setting, Policy, Packet, Schedule}
 use Rattle.document_text.specs.States.{State, place_of_kind, is_late, is_empty, has_edge}
@@ -21,11 +18,11 @@ use Rattle.document_text.specs.Packets.{Given, is_value, given_at, with_words}
 use Rattle.document_text.specs.Schedules.{refused_if, formed}
 
 -- with one more line of the topology
-abbrev pub placed_by : State → Option TopoFault → Result State Fault
+abbrev pub placed_by : State → Option TextFault → Result State TextFault
 placed_by s None = Ok s
-placed_by s (Some f) = Err (Topology f)
+placed_by s (Some f) = Err f
 
-abbrev pub placed : State → Kind → TopoLine → Result State Fault
+abbrev pub placed : State → Kind → TopoLine → Result State TextFault
 placed s k l = placed_by (record s { reached = k; layout = with_line s.layout l }) (line_fault s.layout l)
 
 -- `switch S ports B1 B2 ..`
@@ -34,11 +31,11 @@ switch_form (w ∷ p ∷ b ∷ bs) =
     if bytes_eq p (codes "ports") then option_and_then (λ sw. option_map (λ ports. (sw, ports)) (numerals (b ∷ bs))) (numeral w) else None
 switch_form _ = None
 
-abbrev pub switch_line : State → List (List ℕ) → Result State Fault
+abbrev pub switch_line : State → List (List ℕ) → Result State TextFault
 switch_line s ws =
     formed (switch_form ws) (λ x.
     refused_if (is_late s Switch) BadLine
-    (refused_if (not (is_value Sw x.0 && list_all (is_value Pt) x.1)) (Text ValueRange)
+    (refused_if (not (is_value Sw x.0 && list_all (is_value Pt) x.1)) ValueRange
     (placed s Switch (topology.Switch x.0 x.1))))
 
 -- `link S:B S:B`
@@ -50,19 +47,19 @@ link_form _ = None
 abbrev pub is_end_value : ℕ × ℕ → Bool
 is_end_value e = is_value Sw e.0 && is_value Pt e.1
 
-abbrev pub link_line : State → List (List ℕ) → Result State Fault
+abbrev pub link_line : State → List (List ℕ) → Result State TextFault
 link_line s ws =
     formed (link_form ws) (λ x.
     refused_if (is_late s Link) BadLine
-    (refused_if (not (is_end_value x.0 && is_end_value x.1)) (Text ValueRange)
+    (refused_if (not (is_end_value x.0 && is_end_value x.1)) ValueRange
     (placed s Link (topology.Link x.0 x.1))))
 
 -- behind the topology, which has to have an edge port
-abbrev pub behind_topology : {A : Type 0} → State → Result A Fault → Result A Fault
-behind_topology s r = refused_if (not (has_edge s.layout)) (Topology NoEdge) r
+abbrev pub behind_topology : {A : Type 0} → State → Result A TextFault → Result A TextFault
+behind_topology s r = refused_if (not (has_edge s.layout)) NoEdge r
 
 -- a setting, unless it was given before
-abbrev pub unset : State → Bool → Result State Fault → Result State Fault
+abbrev pub unset : State → Bool → Result State TextFault → Result State TextFault
 unset s given r = refused_if (is_late s Setting || given) BadLine (behind_topology s r)
 
 abbrev pub one_numeral : List (List ℕ) → Option ℕ
@@ -74,23 +71,23 @@ two_numerals (a ∷ b ∷ []) = option_and_then (λ m. option_map (λ n. (m, n))
 two_numerals _ = None
 
 -- `hops N`, 1 to 1,000
-abbrev pub hops_line : State → List (List ℕ) → Result State Fault
+abbrev pub hops_line : State → List (List ℕ) → Result State TextFault
 hops_line s ws =
     formed (one_numeral ws) (λ n.
     unset s (is_some s.hops)
-    (refused_if (not (nat_le 1 n && nat_le n 1000)) (Text ValueRange)
+    (refused_if (not (nat_le 1 n && nat_le n 1000)) ValueRange
     (Ok (record s { reached = Setting; hops = Some n }))))
 
 -- `capacity N`, 1 to 200,000
-abbrev pub capacity_line : State → List (List ℕ) → Result State Fault
+abbrev pub capacity_line : State → List (List ℕ) → Result State TextFault
 capacity_line s ws =
     formed (one_numeral ws) (λ n.
     unset s (is_some s.capacity)
-    (refused_if (not (nat_le 1 n && nat_le n 200000)) (Text ValueRange)
+    (refused_if (not (nat_le 1 n && nat_le n 200000)) ValueRange
     (Ok (record s { reached = Setting; capacity = Some n }))))
 
 -- `stamps LO HI`, two or more of 1 to 4094
-abbrev pub stamps_line : State → List (List ℕ) → Result State Fault
+abbrev pub stamps_line : State → List (List ℕ) → Result State TextFault
 stamps_line s ws =
     formed (two_numerals ws) (λ x.
     unset s (is_some s.stamps)
@@ -99,12 +96,12 @@ stamps_line s ws =
     (Ok (record s { reached = Setting; stamps = Some x })))))
 
 -- `policy` alone, which begins a policy's text
-abbrev pub policy_line : State → List (List ℕ) → Result State Fault
+abbrev pub policy_line : State → List (List ℕ) → Result State TextFault
 policy_line s [] = refused_if (is_late s Policy) BadLine (behind_topology s (Ok (record s { reached = Policy })))
 policy_line s _ = Err BadLine
 
 -- behind a policy
-abbrev pub behind_policies : {A : Type 0} → State → Result A Fault → Result A Fault
+abbrev pub behind_policies : {A : Type 0} → State → Result A TextFault → Result A TextFault
 behind_policies s r = behind_topology s (refused_if (is_empty s.policies) NoPolicy r)
 
 -- `packet S:B`, and words with the packet's values
@@ -113,23 +110,23 @@ packet_form [] = None
 packet_form (w ∷ ws) = option_and_then (λ e. option_map (λ g. (e, g)) (with_words (given_at e) ws)) (end_of w)
 
 -- a declared port without a link
-abbrev pub at_edge : {A : Type 0} → State → ℕ × ℕ → Result A Fault → Result A Fault
+abbrev pub at_edge : {A : Type 0} → State → ℕ × ℕ → Result A TextFault → Result A TextFault
 at_edge s e r =
-    refused_if (not (has_switch s.layout.switches e.0)) (Topology UnknownSwitch)
-    (refused_if (not (has_port s.layout.switches (place_of e))) (Topology UnknownPort)
+    refused_if (not (has_switch s.layout.switches e.0)) UnknownSwitch
+    (refused_if (not (has_port s.layout.switches (place_of e))) UnknownPort
     (refused_if (is_linked s.layout (place_of e)) NotEdge r))
 
-abbrev pub packet_line : State → List (List ℕ) → Result PacketLine Fault
+abbrev pub packet_line : State → List (List ℕ) → Result PacketLine TextFault
 packet_line s ws =
     formed (packet_form ws) (λ x.
     refused_if (is_late s Packet) BadLine
     (behind_policies s
-    (refused_if x.1.unknown (Text UnknownName)
-    (refused_if (not (is_end_value x.0) || x.1.outside) (Text ValueRange)
+    (refused_if x.1.unknown UnknownName
+    (refused_if (not (is_end_value x.0) || x.1.outside) ValueRange
     (at_edge s x.0 (Ok (record { packet = x.1.packet; tag = x.1.tag })))))))
 
 -- `schedule` alone, once
-abbrev pub schedule_line : State → List (List ℕ) → Result State Fault
+abbrev pub schedule_line : State → List (List ℕ) → Result State TextFault
 schedule_line s [] =
     refused_if (nat_le 5 (place_of_kind s.reached)) BadLine (behind_policies s (Ok (record s { reached = Schedule; inside = true })))
 schedule_line s _ = Err BadLine

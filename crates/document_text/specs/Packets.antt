@@ -4,11 +4,11 @@ use Rattle.std.specs.List.{list_any, list_all, find, before_first, after_first}
 use Rattle.std.specs.Char.{is_ascii_alphabetic, is_ascii_alphanumeric}
 use Rattle.std.specs.Str.{bytes_eq}
 use Rattle.nk_values.specs.declared.field.Field.{Field}
-use Rattle.nk_values.specs.declared.field.Field.TheVariants.{EthTyp, IpProto, EthSrc, EthDst, Ip4Src, Ip4Dst, TcpSrcPort, TcpDstPort}
+use Rattle.nk_values.specs.declared.field.Field.TheVariants.{EthTyp}
 use Rattle.nk_values.specs.declared.packet.Packet.{Packet}
 use Rattle.nk_values.specs.Packets.{with_value}
 use Rattle.nk_values.specs.Ranges.{place, least_value, greatest}
-use Rattle.nk_syntax.specs.Prints.{name_of}
+use Rattle.nk_values.specs.Names.{name_of, header_fields}
 use Rattle.netkat_parser.specs.Numbers.{number}
 use Rattle.netkat_parser.specs.Signs.{is_run_byte}
 use Rattle.document_text.specs.Texts.{numeral}
@@ -20,10 +20,6 @@ is_value f n = nat_le (least_value f) n && nat_le n (greatest f) && not ((place 
 -- a VLAN id
 abbrev pub is_vlan_id : ℕ → Bool
 is_vlan_id n = nat_le 1 n && nat_le n 4094
-
--- the fields of a header, in field order
-abbrev pub header_fields : List Field
-header_fields = EthTyp ∷ IpProto ∷ EthSrc ∷ EthDst ∷ Ip4Src ∷ Ip4Dst ∷ TcpSrcPort ∷ TcpDstPort ∷ []
 
 -- a letter, then letters and digits
 abbrev pub is_name : List ℕ → Bool

@@ -1,10 +1,10 @@
 -- One line behind others.
 use Rattle.std.specs.Prelude.{ℕ, Bool, false, not, ◌&&◌, ◌||◌, nat_le, List, [], ◌∷◌, ◌++◌, length, codes, if◌then◌else◌, Result, Ok, Err}
 use Rattle.std.specs.Str.{bytes_eq}
+use Rattle.nk_values.specs.declared.fault.TextFault.{TextFault}
+use Rattle.nk_values.specs.declared.fault.TextFault.TheVariants.{BadLine, Limit}
 use Rattle.document_text.specs.declared.document.Event.{Event}
 use Rattle.document_text.specs.declared.document.PacketLine.{PacketLine}
-use Rattle.document_text.specs.declared.fault.Fault.{Fault}
-use Rattle.document_text.specs.declared.fault.Fault.TheVariants.{BadLine, Limit}
 use Rattle.document_text.specs.declared.told.Kind.TheVariants.{Packet}
 use Rattle.document_text.specs.declared.head.Head.{Head}
 use Rattle.document_text.specs.declared.head.Head.TheVariants as head
@@ -18,7 +18,7 @@ pub data Step : Type 0 where
   Next : State → Step
   Enters : PacketLine → State → Step
   Opens : State → Step
-  Stops : Fault → Step
+  Stops : TextFault → Step
 
 -- what the first word of a line says that it is
 abbrev pub head_of : List ℕ → Head
@@ -38,20 +38,20 @@ is_too_many s head.Policy ws = nat_le 64 (length s.policies) || event_too_many s
 is_too_many s head.Packet ws = nat_le 10000 (length s.packets) || event_too_many s ws
 is_too_many s _ ws = event_too_many s ws
 
-abbrev pub next : Result State Fault → Step
+abbrev pub next : Result State TextFault → Step
 next (Ok s) = Next s
 next (Err f) = Stops f
 
-abbrev pub opens : Result State Fault → Step
+abbrev pub opens : Result State TextFault → Step
 opens (Ok s) = Opens s
 opens (Err f) = Stops f
 
-abbrev pub enters : State → Result PacketLine Fault → Step
+abbrev pub enters : State → Result PacketLine TextFault → Step
 enters s (Ok p) = Enters p (record s { reached = Packet; packets = s.packets ++ p ∷ [] })
 enters s (Err f) = Stops f
 
 -- a line of the schedule, which has this number
-abbrev pub happens : State → ℕ → Result Event Fault → Step
+abbrev pub happens : State → ℕ → Result Event TextFault → Step
 happens s n (Ok e) = Next (record s { events = s.events ++ record { line = n; event = e } ∷ [] })
 happens s n (Err f) = Stops f
 

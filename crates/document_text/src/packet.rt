@@ -4,27 +4,24 @@ ghost use Rattle.std.specs.List.{find, list_all};
 ghost use Rattle.std.specs.Char.{is_ascii_alphanumeric};
 ghost use Rattle.netkat_parser.specs.Signs.{is_run_byte};
 ghost use Rattle.std.specs.Str.{bytes_eq};
-ghost use Rattle.nk_syntax.specs.Prints.{name_of};
+ghost use Rattle.nk_values.specs.Names.{name_of, header_fields};
 ghost use Rattle.document_text.specs.declared.document.PacketLine.{PacketLine as Line};
-ghost use Rattle.document_text.specs.Packets.{header_fields, is_name, is_run, pair_of, plain_packet, given_at, with_tag, with_number, with_field, with_named, with_word, with_words};
+ghost use Rattle.document_text.specs.Packets.{is_name, is_run, pair_of, plain_packet, given_at, with_tag, with_number, with_field, with_named, with_word, with_words};
 ghost use Rattle.document_text.specs.Lines.{packet_form, packet_line, at_edge};
 ghost use Rattle.document_text.specs.Answers.{texts, state_of, given_of, Forms, Gives, Lets, Matches};
 
 use crate::document::PacketLine;
-use crate::fault::{Fault, Stop};
+use crate::fault::Stop;
 use crate::head::is_text;
 use crate::reader::Reader;
 use crate::told::Kind;
 use crate::topology::end_in_range;
 use crate::words::{end_of, number};
 use indexmap::IndexSet;
-use netkat_parser::fault::Fault as TextFault;
-use netkat_parser::number::{cut, has_form, number as value_of};
-use netkat_parser::sign::is_run_byte;
-use nk_syntax::field_name;
-use nk_values::{Field, Header, Packet, Tag};
+use netkat_parser::{cut, has_form, is_run_byte, number_of};
+use nk_values::{Field, GREATEST_VLAN_ID, Header, IPV4_TYPE, Packet, Tag, TextFault};
 use std::alloc::Global;
-use topology_model::{End, TopoFault};
+use topology_model::End;
 
 /// What the words so far give: their names, the packet and its tag, whether a name is not listed, and
 /// whether a value is out of its range.
@@ -42,20 +39,20 @@ pub fn packet_line(reader: &Reader, alloc: Global, words: &[&[u8]]) -> Result<Pa
     ensures { Matches (λ p. p) (packet_line (state_of reader.now) (texts words.now)) result }
 {
     let Some((first, rest)) = words.split_first() else {
-        return Err(Stop::Fault(Fault::BadLine));
+        return Err(Stop::Fault(TextFault::BadLine));
     };
     let numbers = end_of(first)?;
     let given = with_words(Given::new(alloc, numbers), rest)?;
     if reader.is_late(Kind::Packet) {
-        return Err(Stop::Fault(Fault::BadLine));
+        return Err(Stop::Fault(TextFault::BadLine));
     }
     reader.behind_policies(alloc)?;
     if given.unknown {
-        return Err(Stop::Fault(Fault::Text(TextFault::UnknownName)));
+        return Err(Stop::Fault(TextFault::UnknownName));
     }
     let end = end_in_range(numbers)?;
     if given.outside {
-        return Err(Stop::Fault(Fault::Text(TextFault::ValueRange)));
+        return Err(Stop::Fault(TextFault::ValueRange));
     }
     at_edge(reader, end)?;
     Ok(PacketLine {
@@ -69,11 +66,11 @@ fn at_edge(reader: &Reader, end: End) -> Result<(), Stop>
     ensures { Lets {A = Line} (at_edge (state_of reader.now) end) result }
 {
     if !reader.draft.has_switch(end.0) {
-        Err(Stop::Fault(Fault::Topology(TopoFault::UnknownSwitch)))
+        Err(Stop::Fault(TextFault::UnknownSwitch))
     } else if !reader.draft.has_port(end) {
-        Err(Stop::Fault(Fault::Topology(TopoFault::UnknownPort)))
+        Err(Stop::Fault(TextFault::UnknownPort))
     } else if reader.draft.is_linked(end) {
-        Err(Stop::Fault(Fault::NotEdge))
+        Err(Stop::Fault(TextFault::NotEdge))
     } else {
         Ok(())
     }
@@ -110,7 +107,7 @@ impl<'a> Given<'a> {
     {
         let (name, run) = pair_of(word)?;
         if self.names.contains(&name) {
-            return Err(Stop::Fault(Fault::BadLine));
+            return Err(Stop::Fault(TextFault::BadLine));
         }
         self.names.insert(name)?;
         self.put(name, run)
@@ -137,7 +134,7 @@ impl<'a> Given<'a> {
     fn put_tag(&mut self, id: u64)
         ensures { given_of self.new ≡ with_tag (given_of self.old) id }
     {
-        if id < 1 || id > 4094 {
+        if id < 1 || id > u64::from(GREATEST_VLAN_ID) {
             self.outside = true;
         } else if let Some(tag) = Tag::vlan(id as u16) {
             self.tag = tag;
@@ -147,11 +144,11 @@ impl<'a> Given<'a> {
     fn put_value(&mut self, field: Field, run: &[u8]) -> Result<(), Stop>
         ensures { Gives (with_field (given_of self.old) (Some field) run.now) (given_of self.new) result }
     {
-        match value_of(field, run) {
+        match number_of(field, run) {
             Some(n) => self.put_number(field, n),
             None => {
                 if !has_form(field, run) {
-                    return Err(Stop::Fault(Fault::BadLine));
+                    return Err(Stop::Fault(TextFault::BadLine));
                 }
                 self.outside = true;
             }
@@ -178,7 +175,7 @@ fn plain_packet(end: (u64, u64)) -> Packet
         sw: end.0,
         pt: end.1,
         header: Header {
-            eth_typ: 2048,
+            eth_typ: IPV4_TYPE,
             ip_proto: 0,
             eth_src: 0,
             eth_dst: 0,
@@ -198,7 +195,7 @@ fn pair_of(word: &[u8]) -> Result<(&[u8], &[u8]), Stop>
     if is_name(name) && is_run(run) {
         Ok((name, run))
     } else {
-        Err(Stop::Fault(Fault::BadLine))
+        Err(Stop::Fault(TextFault::BadLine))
     }
 }
 
@@ -232,18 +229,8 @@ fn are_run_bytes(text: &[u8]) -> bool
 fn header_field(name: &[u8]) -> Option<Field>
     ensures { result ≡ find (λ f. bytes_eq name.now (name_of f)) header_fields }
 {
-    let fields = [
-        Field::EthTyp,
-        Field::IpProto,
-        Field::EthSrc,
-        Field::EthDst,
-        Field::Ip4Src,
-        Field::Ip4Dst,
-        Field::TcpSrcPort,
-        Field::TcpDstPort,
-    ];
-    fields
+    Field::HEADER
         .iter()
         .copied()
-        .find(|field| is_text(name, field_name(*field)))
+        .find(|field| is_text(name, field.name()))
 }

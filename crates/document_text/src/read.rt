@@ -8,14 +8,12 @@ ghost use Rattle.document_text.specs.Grammar as grammar;
 ghost use Rattle.document_text.specs.Answers.{Answers, IsAnswer, Cuts};
 
 use crate::document::Document;
-use crate::fault::{DocumentError, Fault};
+use crate::fault::DocumentError;
 use crate::reader::Reader;
 use crate::take::refused;
 use crate::turn::turn;
+use nk_values::{MOST_DOCUMENT_BYTES, TextFault};
 use std::alloc::Global;
-
-/// The most bytes that a document has.
-pub const MOST_BYTES: usize = 4_194_304;
 
 /// Reads a whole text as a document, or tells its first fault. Lines end with LF, or with CR and LF;
 /// the last LF may be missing. `#` begins a comment up to the line's end, and words are separated by
@@ -37,11 +35,11 @@ pub fn read_document(alloc: Global, text: &[u8]) -> Result<Document, DocumentErr
     // The other way round: want of memory aside, the answer is what the text is.
     ensures each { (o : Outcome) → IsReading text.now o → IsAnswer o result }
 {
-    if text.len() <= MOST_BYTES {
+    if text.len() <= MOST_DOCUMENT_BYTES {
         return read_lines(alloc, text);
     }
-    let line = line_behind(&text[..MOST_BYTES]);
-    let whole = read_lines(alloc, &text[..MOST_BYTES + 1]);
+    let line = line_behind(&text[..MOST_DOCUMENT_BYTES]);
+    let whole = read_lines(alloc, &text[..MOST_DOCUMENT_BYTES + 1]);
     Err(cut_off(whole, line))
 }
 
@@ -52,7 +50,7 @@ fn cut_off(whole: Result<Document, DocumentError>, line: u64) -> DocumentError
     match whole {
         Err(DocumentError::Fault(fault)) if fault.line < line => DocumentError::Fault(fault),
         Err(DocumentError::Memory) => DocumentError::Memory,
-        _ => refused(line, Fault::Limit),
+        _ => refused(line, TextFault::Limit),
     }
 }
 

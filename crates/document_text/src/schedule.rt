@@ -7,27 +7,24 @@ ghost use Rattle.document_text.specs.Packets.{is_vlan_id};
 ghost use Rattle.document_text.specs.Answers.{texts, state_of, Matches, Ranges, NamesSwitch};
 
 use crate::document::Event;
-use crate::fault::{Fault, Stop};
+use crate::fault::Stop;
 use crate::head::is_text;
 use crate::reader::Reader;
 use crate::told::Kind;
 use crate::topology::switch_of;
 use crate::words::number;
-use netkat_parser::fault::Fault as TextFault;
+use nk_values::{GREATEST_VLAN_ID, TextFault};
 use std::alloc::Global;
-use topology_model::TopoFault;
 
 // The greatest place of a flow mod or a flight.
 const LAST_INDEX: u64 = 0xffff_ffff;
-
-const LAST_STAMP: u64 = 4094;
 
 /// Takes `schedule`, behind which events stand.
 pub fn schedule_line(reader: Reader, alloc: Global, words: &[&[u8]]) -> Result<Reader, Stop>
     ensures { Matches state_of (schedule_line (state_of reader) (texts words.now)) result }
 {
     if !words.is_empty() || reader.told.reached.place() >= 5 {
-        return Err(Stop::Fault(Fault::BadLine));
+        return Err(Stop::Fault(TextFault::BadLine));
     }
     reader.behind_policies(alloc)?;
     let mut reader = reader;
@@ -48,7 +45,7 @@ pub fn event_of(reader: &Reader, words: &[&[u8]]) -> Result<Event, Stop>
             let index = number(second)?;
             event_of_two(reader, word, sw, index)
         }
-        _ => Err(Stop::Fault(Fault::BadLine)),
+        _ => Err(Stop::Fault(TextFault::BadLine)),
     }
 }
 
@@ -62,7 +59,7 @@ fn event_alone(word: &[u8]) -> Result<Event, Stop>
     } else if is_text(word, "flow") {
         Ok(Event::Flow)
     } else {
-        Err(Stop::Fault(Fault::BadLine))
+        Err(Stop::Fault(TextFault::BadLine))
     }
 }
 
@@ -89,7 +86,7 @@ fn event_of_one(reader: &Reader, word: &[u8], number: u64) -> Result<Event, Stop
     } else if is_text(word, "drained") {
         Ok(Event::Drained(stamp_of(number)?))
     } else {
-        Err(Stop::Fault(Fault::BadLine))
+        Err(Stop::Fault(TextFault::BadLine))
     }
 }
 
@@ -100,7 +97,7 @@ fn arrive(reader: &Reader, number: u64) -> Result<Event, Stop>
     if number >= 1 && number <= reader.told.packets.len() as u64 {
         Ok(Event::Arrive(number as usize))
     } else {
-        Err(Stop::Fault(Fault::BadLine))
+        Err(Stop::Fault(TextFault::BadLine))
     }
 }
 
@@ -109,7 +106,7 @@ fn event_of_two(reader: &Reader, word: &[u8], sw: u64, index: u64) -> Result<Eve
     ensures { Matches (λ e. e) (event_of_two (state_of reader.now) word.now sw index) result }
 {
     if !is_text(word, "apply") {
-        return Err(Stop::Fault(Fault::BadLine));
+        return Err(Stop::Fault(TextFault::BadLine));
     }
     let index = index_of(index)?;
     Ok(Event::Apply(declared(reader, sw)?, index))
@@ -123,7 +120,7 @@ fn declared(reader: &Reader, number: u64) -> Result<u16, Stop>
     if reader.draft.has_switch(sw) {
         Ok(sw)
     } else {
-        Err(Stop::Fault(Fault::Topology(TopoFault::UnknownSwitch)))
+        Err(Stop::Fault(TextFault::UnknownSwitch))
     }
 }
 
@@ -134,16 +131,16 @@ fn index_of(number: u64) -> Result<u32, Stop>
     if number <= LAST_INDEX {
         Ok(number as u32)
     } else {
-        Err(Stop::Fault(Fault::Text(TextFault::ValueRange)))
+        Err(Stop::Fault(TextFault::ValueRange))
     }
 }
 
 fn stamp_of(number: u64) -> Result<u16, Stop>
     ensures { Ranges (is_vlan_id number) (λ n. n ≡ number) result }
 {
-    if number >= 1 && number <= LAST_STAMP {
+    if number >= 1 && number <= u64::from(GREATEST_VLAN_ID) {
         Ok(number as u16)
     } else {
-        Err(Stop::Fault(Fault::Text(TextFault::ValueRange)))
+        Err(Stop::Fault(TextFault::ValueRange))
     }
 }

@@ -4,19 +4,17 @@ ghost use Rattle.document_text.specs.States.{State, has_edge};
 ghost use Rattle.document_text.specs.Lines.{unset, one_numeral, two_numerals, hops_line, capacity_line, stamps_line, policy_line};
 ghost use Rattle.document_text.specs.Answers.{texts, state_of, Forms, Matches, Lets};
 
-use crate::fault::{Fault, Stop};
+use crate::fault::Stop;
 use crate::reader::Reader;
 use crate::told::Kind;
 use crate::words::number;
-use netkat_parser::fault::Fault as TextFault;
+use nk_values::{GREATEST_VLAN_ID, TextFault};
 use std::alloc::Global;
 
-// The greatest hop limit and capacity, and the greatest stamp.
+// The greatest hop limit and capacity.
 const MOST_HOPS: u64 = 1000;
 
 const MOST_ROWS: u64 = 200_000;
-
-const LAST_STAMP: u64 = 4094;
 
 // Stops where a setting may not stand, or was given before.
 fn unset(reader: &Reader, alloc: Global, given: bool) -> Result<(), Stop>
@@ -24,7 +22,7 @@ fn unset(reader: &Reader, alloc: Global, given: bool) -> Result<(), Stop>
     ensures edge { OnOk result (has_edge reader.now.draft ≡ true) }
 {
     if reader.is_late(Kind::Setting) || given {
-        return Err(Stop::Fault(Fault::BadLine));
+        return Err(Stop::Fault(TextFault::BadLine));
     }
     reader.behind_topology(alloc)
 }
@@ -34,7 +32,7 @@ fn one_numeral(words: &[&[u8]]) -> Result<u64, Stop>
 {
     match words {
         [word] => number(word),
-        _ => Err(Stop::Fault(Fault::BadLine)),
+        _ => Err(Stop::Fault(TextFault::BadLine)),
     }
 }
 
@@ -47,7 +45,7 @@ fn two_numerals(words: &[&[u8]]) -> Result<(u64, u64), Stop>
             let b = number(second)?;
             Ok((a, b))
         }
-        _ => Err(Stop::Fault(Fault::BadLine)),
+        _ => Err(Stop::Fault(TextFault::BadLine)),
     }
 }
 
@@ -58,7 +56,7 @@ pub fn hops_line(reader: Reader, alloc: Global, words: &[&[u8]]) -> Result<Reade
     let hops = one_numeral(words)?;
     unset(&reader, alloc, reader.told.hops.is_some())?;
     if hops < 1 || hops > MOST_HOPS {
-        return Err(Stop::Fault(Fault::Text(TextFault::ValueRange)));
+        return Err(Stop::Fault(TextFault::ValueRange));
     }
     let mut reader = reader;
     reader.told.hops = Some(hops as u32);
@@ -73,7 +71,7 @@ pub fn capacity_line(reader: Reader, alloc: Global, words: &[&[u8]]) -> Result<R
     let capacity = one_numeral(words)?;
     unset(&reader, alloc, reader.told.capacity.is_some())?;
     if capacity < 1 || capacity > MOST_ROWS {
-        return Err(Stop::Fault(Fault::Text(TextFault::ValueRange)));
+        return Err(Stop::Fault(TextFault::ValueRange));
     }
     let mut reader = reader;
     reader.told.capacity = Some(capacity as u32);
@@ -87,11 +85,11 @@ pub fn stamps_line(reader: Reader, alloc: Global, words: &[&[u8]]) -> Result<Rea
 {
     let (low, high) = two_numerals(words)?;
     unset(&reader, alloc, reader.told.stamps.is_some())?;
-    if low < 1 || low > high || high > LAST_STAMP {
-        return Err(Stop::Fault(Fault::StampRange));
+    if low < 1 || low > high || high > u64::from(GREATEST_VLAN_ID) {
+        return Err(Stop::Fault(TextFault::StampRange));
     }
     if low == high {
-        return Err(Stop::Fault(Fault::TooFewStamps));
+        return Err(Stop::Fault(TextFault::TooFewStamps));
     }
     let mut reader = reader;
     reader.told.stamps = Some((low as u16, high as u16));
@@ -104,7 +102,7 @@ pub fn policy_line(reader: Reader, alloc: Global, words: &[&[u8]]) -> Result<Rea
     ensures { Matches state_of (policy_line (state_of reader) (texts words.now)) result }
 {
     if !words.is_empty() || reader.is_late(Kind::Policy) {
-        return Err(Stop::Fault(Fault::BadLine));
+        return Err(Stop::Fault(TextFault::BadLine));
     }
     reader.behind_topology(alloc)?;
     let mut reader = reader;

@@ -7,7 +7,7 @@ ghost use Rattle.document_text.specs.Answers.{state_of, texts, Takes};
 ghost use Rattle.document_text.specs.declared.fault.DocumentError.TheVariants as to;
 
 use crate::document::{Document, ScheduleLine, Settings};
-use crate::fault::{DocFault, DocumentError, Fault, Stop};
+use crate::fault::{DocFault, DocumentError, Stop};
 use crate::head::{Head, head_of};
 use crate::packet::packet_line;
 use crate::reader::{Reader, Taken};
@@ -16,9 +16,9 @@ use crate::setting::{capacity_line, hops_line, policy_line, stamps_line};
 use crate::told::{Kind, Told};
 use crate::topology::{link_line, switch_line};
 use crate::words::is_end;
-use nk_values::well_shaped;
+use nk_values::{GREATEST_VLAN_ID, TextFault, well_shaped};
 use std::alloc::Global;
-use topology_model::{Draft, LineError, TopoFault, Topology};
+use topology_model::{Draft, LineError, Topology};
 
 // The most policies, packets and events of a document.
 const MOST_POLICIES: usize = 64;
@@ -61,7 +61,7 @@ impl Reader {
         if self.told.reached.place() >= 2 || !self.draft.edges(alloc)?.is_empty() {
             Ok(())
         } else {
-            Err(Stop::Fault(Fault::Topology(TopoFault::NoEdge)))
+            Err(Stop::Fault(TextFault::NoEdge))
         }
     }
 
@@ -73,7 +73,7 @@ impl Reader {
     {
         self.behind_topology(alloc)?;
         if self.told.policies.is_empty() {
-            return Err(Stop::Fault(Fault::NoPolicy));
+            return Err(Stop::Fault(TextFault::NoPolicy));
         }
         Ok(())
     }
@@ -87,7 +87,7 @@ impl Reader {
         };
         let head = head_of(first);
         if self.is_too_many(head, words) {
-            return Err(Stop::Fault(Fault::Limit));
+            return Err(Stop::Fault(TextFault::Limit));
         }
         if self.told.inside {
             return scheduled(self, line, words);
@@ -120,7 +120,7 @@ impl Reader {
             Head::Policy => Ok(Taken::Opening(policy_line(self, alloc, words)?)),
             Head::Packet => enters(self, alloc, words),
             Head::Schedule => Ok(Taken::Line(schedule_line(self, alloc, words)?)),
-            Head::Unlisted => Err(Stop::Fault(Fault::BadLine)),
+            Head::Unlisted => Err(Stop::Fault(TextFault::BadLine)),
         }
     }
 
@@ -129,16 +129,16 @@ impl Reader {
         ensures { IsAnswer (finished (state_of self) line) result }
     {
         if self.told.inside {
-            return Err(refused(line, Fault::BadLine));
+            return Err(refused(line, TextFault::BadLine));
         }
         let Reader { draft, told } = self;
         let topology = match Topology::finish(alloc, draft) {
             Ok(topology) => topology,
-            Err(LineError::Fault(fault)) => return Err(refused(line, Fault::Topology(fault))),
+            Err(LineError::Fault(fault)) => return Err(refused(line, fault)),
             Err(LineError::Memory) => return Err(DocumentError::Memory),
         };
         if told.policies.is_empty() {
-            return Err(refused(line, Fault::NoPolicy));
+            return Err(refused(line, TextFault::NoPolicy));
         }
         Ok(Document {
             topology,
@@ -147,7 +147,7 @@ impl Reader {
             settings: Settings {
                 hops: told.hops.unwrap_or(64),
                 capacity: told.capacity.unwrap_or(200_000),
-                stamps: told.stamps.unwrap_or((1, 4094)),
+                stamps: told.stamps.unwrap_or((1, GREATEST_VLAN_ID)),
             },
             schedule: told.events,
         })
@@ -155,7 +155,7 @@ impl Reader {
 }
 
 /// Refused at a line.
-pub fn refused(line: u64, fault: Fault) -> DocumentError
+pub fn refused(line: u64, fault: TextFault) -> DocumentError
     ensures { result ≡ to.Fault (record { fault = fault; line = line; column = 1 }) }
 {
     DocumentError::Fault(DocFault {
@@ -185,7 +185,7 @@ fn enters(reader: Reader, alloc: Global, words: &[&[u8]]) -> Result<Taken, Stop>
 {
     let line = packet_line(&reader, alloc, words)?;
     if !well_shaped(&line.packet) {
-        return Err(Stop::Fault(Fault::BadLine));
+        return Err(Stop::Fault(TextFault::BadLine));
     }
     let mut reader = reader;
     reader.told.packets.push(line)?;

@@ -8,13 +8,12 @@ ghost use Rattle.document_text.specs.States.{place_of_kind};
 ghost use Rattle.document_text.specs.Lines.{switch_form, switch_line, link_form, link_line, is_end_value, placed};
 ghost use Rattle.document_text.specs.Answers.{texts, state_of, Forms, Matches, Ranges};
 
-use crate::fault::{Fault, Stop};
+use crate::fault::Stop;
 use crate::head::is_text;
 use crate::reader::Reader;
 use crate::told::Kind;
 use crate::words::{end_of, number, numbers};
-use netkat_parser::fault::Fault as TextFault;
-use nk_values::Field;
+use nk_values::{Field, TextFault};
 use std::alloc::Global;
 use topology_model::{End, LineError, Ports, TopoLine};
 
@@ -24,11 +23,11 @@ pub fn switch_line(reader: Reader, alloc: Global, words: &[&[u8]]) -> Result<Rea
 {
     let (number, numbers) = switch_form(alloc, words)?;
     if reader.is_late(Kind::Switch) {
-        return Err(Stop::Fault(Fault::BadLine));
+        return Err(Stop::Fault(TextFault::BadLine));
     }
     let sw = switch_of(number)?;
     let in_range = ports_of(alloc, &numbers)?;
-    let ports = Ports::new(in_range);
+    let ports = Ports::of(in_range);
     placed(reader, alloc, Kind::Switch, &TopoLine::Switch { sw, ports })
 }
 
@@ -42,7 +41,7 @@ fn switch_form(alloc: Global, words: &[&[u8]]) -> Result<(u64, Vec<u64>), Stop>
             let numbers = numbers(alloc, &words[2..])?;
             Ok((sw, numbers))
         }
-        _ => Err(Stop::Fault(Fault::BadLine)),
+        _ => Err(Stop::Fault(TextFault::BadLine)),
     }
 }
 
@@ -64,7 +63,7 @@ pub fn switch_of(number: u64) -> Result<u16, Stop>
     if Field::Sw.is_value(number) {
         Ok(number as u16)
     } else {
-        Err(Stop::Fault(Fault::Text(TextFault::ValueRange)))
+        Err(Stop::Fault(TextFault::ValueRange))
     }
 }
 
@@ -75,7 +74,7 @@ pub fn port_of(number: u64) -> Result<u16, Stop>
     if Field::Pt.is_value(number) {
         Ok(number as u16)
     } else {
-        Err(Stop::Fault(Fault::Text(TextFault::ValueRange)))
+        Err(Stop::Fault(TextFault::ValueRange))
     }
 }
 
@@ -94,7 +93,7 @@ pub fn link_line(reader: Reader, alloc: Global, words: &[&[u8]]) -> Result<Reade
 {
     let (first, second) = link_form(words)?;
     if reader.is_late(Kind::Link) {
-        return Err(Stop::Fault(Fault::BadLine));
+        return Err(Stop::Fault(TextFault::BadLine));
     }
     let a = end_in_range(first)?;
     let b = end_in_range(second)?;
@@ -111,7 +110,7 @@ fn link_form(words: &[&[u8]]) -> Result<((u64, u64), (u64, u64)), Stop>
             let b = end_of(second)?;
             Ok((a, b))
         }
-        _ => Err(Stop::Fault(Fault::BadLine)),
+        _ => Err(Stop::Fault(TextFault::BadLine)),
     }
 }
 
@@ -127,7 +126,7 @@ fn placed(reader: Reader, alloc: Global, kind: Kind, line: &TopoLine) -> Result<
             told.reached = kind;
             Ok(Reader { draft, told })
         }
-        Err(LineError::Fault(fault)) => Err(Stop::Fault(Fault::Topology(fault))),
+        Err(LineError::Fault(fault)) => Err(Stop::Fault(fault)),
         Err(LineError::Memory) => Err(Stop::Memory),
     }
 }

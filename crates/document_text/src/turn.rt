@@ -1,17 +1,16 @@
 // One line of a document, or a policy's text with its first and its last line.
 ghost use Rattle.std.specs.Prelude.{◌≡◌, ◌≤◌, ◌<◌, ◌+◌, ◌^◌, Some, length, IfOk, MatchBool};
 ghost use Rattle.document_text.specs.declared.fault.DocumentError.TheVariants as to;
-ghost use Rattle.document_text.specs.declared.fault.Fault.TheVariants.{Text};
 ghost use Rattle.document_text.specs.Grammar.{line_start, IsBehind};
 ghost use Rattle.document_text.specs.Answers.{state_of, AddsPolicy, LacksAnswer, Closes, Turns};
 
 use crate::block::{Block, block_of};
-use crate::fault::{DocFault, DocumentError, Fault, Stop};
+use crate::fault::{DocFault, DocumentError, Stop};
 use crate::reader::{Reader, Taken};
 use crate::take::refused;
 use crate::words::{first_len, words};
-use netkat_parser::parse::place_behind;
-use netkat_parser::{ParseError, ParseFault, Place, parse_policy_at};
+use netkat_parser::{ParseError, ParseFault, Place, parse_policy_at, place_behind};
+use nk_values::TextFault;
 use std::alloc::Global;
 
 /// Takes the first line, or a policy from its first line to its last, and tells the number and the
@@ -92,10 +91,10 @@ fn unclosed(alloc: Global, begin: u64, lines: u64, text: &[u8]) -> DocumentError
     let fault = match parse_policy_at(alloc, text, line_start(begin)) {
         Err(ParseError::Fault(fault)) => fault,
         Err(ParseError::Memory) => return DocumentError::Memory,
-        Ok(_) => return refused(begin + lines, Fault::BadLine),
+        Ok(_) => return refused(begin + lines, TextFault::BadLine),
     };
     if is_behind(begin, text, fault) {
-        return refused(begin + lines, Fault::BadLine);
+        return refused(begin + lines, TextFault::BadLine);
     }
     refused_in(fault)
 }
@@ -118,10 +117,10 @@ fn line_start(line: u64) -> Place
 
 // Refused inside a policy's text.
 fn refused_in(fault: ParseFault) -> DocumentError
-    ensures { result ≡ to.Fault (record { fault = Text fault.fault; line = fault.line; column = fault.column }) }
+    ensures { result ≡ to.Fault (record { fault = fault.fault; line = fault.line; column = fault.column }) }
 {
     DocumentError::Fault(DocFault {
-        fault: Fault::Text(fault.fault),
+        fault: fault.fault,
         line: fault.line,
         column: fault.column,
     })

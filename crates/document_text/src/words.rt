@@ -3,9 +3,10 @@ ghost use Rattle.std.specs.Prelude.{◌≡◌, ◌≤◌, ◌<◌, [], ◌∷◌
 ghost use Rattle.document_text.specs.Texts.{first_len, is_over, content_len, is_blank, piece_len, is_filled, words_of, is_end, numeral, numerals, end_of};
 ghost use Rattle.document_text.specs.Answers.{texts, Forms};
 
-use crate::fault::{Fault, Stop};
+use crate::fault::Stop;
 use crate::head::is_text;
-use netkat_parser::number::{GREATEST, cut, numeral as parsed};
+use netkat_parser::{GREATEST, cut, numeral as parsed};
+use nk_values::TextFault;
 use std::alloc::{AllocError, Global};
 
 /// How many bytes the first line has, with the LF that ends it.
@@ -115,7 +116,7 @@ pub fn number(word: &[u8]) -> Result<u64, Stop>
 {
     match numeral(word) {
         Some(number) => Ok(number),
-        None => Err(Stop::Fault(Fault::BadLine)),
+        None => Err(Stop::Fault(TextFault::BadLine)),
     }
 }
 
@@ -127,7 +128,7 @@ pub fn numbers(alloc: Global, words: &[&[u8]]) -> Result<Vec<u64>, Stop>
     for word in words {
         match numeral(word) {
             Some(number) => all.push(number)?,
-            None => return Err(Stop::Fault(Fault::BadLine)),
+            None => return Err(Stop::Fault(TextFault::BadLine)),
         }
     }
     Ok(all)

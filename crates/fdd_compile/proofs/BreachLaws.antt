@@ -1,5 +1,5 @@
 -- How a search for breaches goes on at a test.
-use Rattle.std.proofs.Common.{◌≡◌, ◌≢◌, ◌+◌, ◌*◌, inl, inr, refl, ap, sym, ◌∙◌, subst, arith, List}
+use Rattle.std.proofs.Common.{◌≡◌, ◌+◌, ◌*◌, inl, inr, refl, ap, sym, ◌∙◌, subst, arith, List}
 use Rattle.std.proofs.lemmas.Bool.Decides.{eqb_tells}
 use Rattle.nk_values.specs.declared.field.Field.{Field}
 use Rattle.nk_values.specs.declared.packet.Packet.{Packet}
@@ -11,10 +11,10 @@ use Rattle.nk_values.specs.Ranges.{place, IsValue}
 use Rattle.nk_values.specs.Ranks.{step, rank}
 use Rattle.nk_values.proofs.LitLaws.{lit_small, lit_is_value}
 use Rattle.nk_values.proofs.PacketLaws.{get-with_same, get-with_other, field_cases}
-use Rattle.fdd_nodes.specs.Cells.{free, fill}
+use Rattle.fdd_nodes.specs.Cells.{fill, IsOpen}
 use Rattle.fdd_nodes.specs.Known.{Bars}
 use Rattle.fdd_nodes.specs.Trees.{Tree, Node, leaf_at}
-use Rattle.fdd_nodes.proofs.CellLaws.{lit_not_free, holds_fixed, agrees_with, fill_fixed, fill_free}
+use Rattle.fdd_nodes.proofs.CellLaws.{tells_open, lit_not_free, holds_fixed, agrees_with, fill_fixed, fill_open}
 use Rattle.fdd_nodes.proofs.SplitLaws.{leaf_at-then, leaf_at-else}
 use Rattle.fdd_differ.specs.declared.frame.Frame.{Frame}
 use Rattle.fdd_differ.specs.Frames.{Leaves}
@@ -61,9 +61,9 @@ safe_no k c l t e n he = record {
   sets_none = λ p a v s. he.sets_none p a v (of_else k l t e p (λ z. n.other (sym (a.at (lit_field l) n.fixed) ∙ z)) s);
 }
 
-keeps_with : (c q : Packet) (l : Lit) → get c (lit_field l) ≡ free → ((f : Field) → get (put l c) f ≢ free → get q f ≡ get (put l c) f) → (f : Field) → get c f ≢ free → get q f ≡ get c f
+keeps_with : (c q : Packet) (l : Lit) → IsOpen c (lit_field l) → ((f : Field) → ¬ IsOpen (put l c) f → get q f ≡ get (put l c) f) → (f : Field) → ¬ IsOpen c f → get q f ≡ get c f
 keeps_with c q l o h f n = elim (field_cases (lit_field l) f) [
-  | inl e ↦ absurd (n (subst (λ (g : Field). get c g ≡ free) e o))
+  | inl e ↦ absurd (n (subst (λ (g : Field). IsOpen c g) e o))
   | inr d ↦ let e = get-with_other c (lit_field l) f (lit_value l) d in h f (λ k. n (sym e ∙ k)) ∙ e
 ]
 
@@ -80,7 +80,7 @@ fits_with k c l v h = record {
 }
 
 -- a breach where the test holds
-pub breaches_then : (k : Frame) (c : Packet) (l : Lit) (t e : Tree) (q : Packet) → get c (lit_field l) ≡ free → Leaves k (lit_field l) (lit_value l) → Breaches k (put l c) t q → Breaches k c (Node l t e) q
+pub breaches_then : (k : Frame) (c : Packet) (l : Lit) (t e : Tree) (q : Packet) → IsOpen c (lit_field l) → Leaves k (lit_field l) (lit_value l) → Breaches k (put l c) t q → Breaches k c (Node l t e) q
 breaches_then k c l t e q o v h =
     let same = get-with_same c (lit_field l) (lit_value l) in
     let at_l : Holds q l = h.keeps (lit_field l) (λ z. lit_not_free l (sym same ∙ z)) ∙ same in
@@ -103,14 +103,14 @@ breaches_then k c l t e q o v h =
     }
 
 -- a breach where it does not
-pub breaches_else : (k : Frame) (c : Packet) (l : Lit) (t e : Tree) (q : Packet) → get c (lit_field l) ≡ free → Breaches k c e q → Breaches k c (Node l t e) q
+pub breaches_else : (k : Frame) (c : Packet) (l : Lit) (t e : Tree) (q : Packet) → IsOpen c (lit_field l) → Breaches k c e q → Breaches k c (Node l t e) q
 breaches_else k c l t e q o h = record {
   keeps = h.keeps;
   fits = h.fits;
   beyond = λ j ord m om em. let below = h.beyond (rank l + 1) ord.2 m om em in omega (arith, ord.0, below);
   sets = λ j ord g fresh.
-      let n : ¬ Holds (fill q g) l = λ z. elim (eqb_tells (get q (lit_field l)) free) [
-        | inl y ↦ fresh l (inl refl) (sym (fill_free q g (lit_field l) y.1) ∙ z)
+      let n : ¬ Holds (fill q g) l = λ z. elim (tells_open q (lit_field l)) [
+        | inl y ↦ fresh l (inl refl) (sym (fill_open q g (lit_field l) y.1) ∙ z)
         | inr y ↦ let below = h.beyond (rank l + 1) ord.2 l o (sym (fill_fixed q g (lit_field l) y.1) ∙ z) in omega (arith, below)
       ] in
       sets_else k l t e (fill q g) n (h.sets (rank l + 1) ord.2 g (λ m i. fresh m (inr (inr i))));

@@ -17,9 +17,9 @@ use Rattle.fdd_nodes.specs.declared.fdd.Fdd.{Fdd}
 use Rattle.fdd_nodes.specs.Fdds.{tree_of}
 use Rattle.fdd_nodes.specs.Trees.{Tree}
 use Rattle.fdd_ops.specs.Operations.{AssignmentOf}
-use Rattle.fdd_star.specs.declared.fault.StarFault.{StarFault}
-use Rattle.fdd_star.specs.declared.fault.StarFault.TheVariants.{Memory, Deep}
-use Rattle.fdd_star.specs.Stars.{StarOf, IsFaultOf}
+use Rattle.fdd_star.specs.declared.fault.StarError.{StarError}
+use Rattle.fdd_star.specs.declared.fault.StarError.TheVariants.{Fault, Memory}
+use Rattle.fdd_star.specs.Stars.{StarOf, IsErrorOf}
 use Rattle.fdd_compile.specs.Builds.{BuiltOf, BuiltAll}
 use Rattle.fdd_compile.specs.Deep.{HasNoDeep, HaveNoDeep, IsFirstDeep, TellsDeep, TellsDeepOf}
 use Rattle.fdd_compile.specs.Filters.{FilterOf}
@@ -99,30 +99,30 @@ built_star_of p b part r e flat h s = subst (λ (t : Term). BuiltOf t r) (sym (a
 
 -- faults
 
-tells_more : (p : Term) (q : Term) → ((pk out : Packet) → IsFirstDeep p pk out → IsFirstDeep q pk out) → (e : StarFault) → TellsDeep p e → TellsDeep q e
+tells_more : (p : Term) (q : Term) → ((pk out : Packet) → IsFirstDeep p pk out → IsFirstDeep q pk out) → (e : StarError) → TellsDeep p e → TellsDeep q e
 tells_more p q f Memory h = h
-tells_more p q f (Deep d) h = f d.packet d.output h
+tells_more p q f (Fault d) h = f d.packet d.output h
 
-pub deep_in_sum : (p : Pol) (ps : Pols) (e : StarFault) → p ≡ pol.Sum ps → TellsDeepOf (terms_of ps) e → TellsDeep (term_of p) e
+pub deep_in_sum : (p : Pol) (ps : Pols) (e : StarError) → p ≡ pol.Sum ps → TellsDeepOf (terms_of ps) e → TellsDeep (term_of p) e
 deep_in_sum p ps e ep h = subst (λ (t : Term). TellsDeep t e) (sym (ap term_of ep ∙ term_of-sum ps)) (of_row e h) where
-  of_row : (e : StarFault) → TellsDeepOf (terms_of ps) e → TellsDeep (Sum (terms_of ps)) e
+  of_row : (e : StarError) → TellsDeepOf (terms_of ps) e → TellsDeep (Sum (terms_of ps)) e
   of_row Memory k = k
-  of_row (Deep d) k = k
+  of_row (Fault d) k = k
 
-pub deep_in_seq : (p : Pol) (ps : Pols) (e : StarFault) → p ≡ pol.Seq ps → TellsDeepOf (terms_of ps) e → TellsDeep (term_of p) e
+pub deep_in_seq : (p : Pol) (ps : Pols) (e : StarError) → p ≡ pol.Seq ps → TellsDeepOf (terms_of ps) e → TellsDeep (term_of p) e
 deep_in_seq p ps e ep h = subst (λ (t : Term). TellsDeep t e) (sym (ap term_of ep ∙ term_of-seq ps)) (of_row e h) where
-  of_row : (e : StarFault) → TellsDeepOf (terms_of ps) e → TellsDeep (Seq (terms_of ps)) e
+  of_row : (e : StarError) → TellsDeepOf (terms_of ps) e → TellsDeep (Seq (terms_of ps)) e
   of_row Memory k = k
-  of_row (Deep d) k = k
+  of_row (Fault d) k = k
 
-pub deep_in_star : (p : Pol) (b : Box Pol Global) (e : StarFault) → p ≡ pol.Star b → TellsDeep (term_of b.value) e → TellsDeep (term_of p) e
+pub deep_in_star : (p : Pol) (b : Box Pol Global) (e : StarError) → p ≡ pol.Star b → TellsDeep (term_of b.value) e → TellsDeep (term_of p) e
 deep_in_star p b e ep h = subst (λ (t : Term). TellsDeep t e) (sym (ap term_of ep ∙ term_of-star b)) (tells_more (term_of b.value) (Star (term_of b.value)) (λ pk out k. inl k) e h)
 
-pub deep_here : (p : Pol) (b : Box Pol Global) (part : Tree) (e : StarFault) → p ≡ pol.Star b → BuiltOf (term_of b.value) part → IsFaultOf part e → TellsDeep (term_of p) e
+pub deep_here : (p : Pol) (b : Box Pol Global) (part : Tree) (e : StarError) → p ≡ pol.Star b → BuiltOf (term_of b.value) part → IsErrorOf part e → TellsDeep (term_of p) e
 deep_here p b part e ep h k = subst (λ (t : Term). TellsDeep t e) (sym (ap term_of ep ∙ term_of-star b)) (told e k) where
-  told : (e : StarFault) → IsFaultOf part e → TellsDeep (Star (term_of b.value)) e
+  told : (e : StarError) → IsErrorOf part e → TellsDeep (Star (term_of b.value)) e
   told Memory k = k
-  told (Deep d) k = deep_star (term_of b.value) part d.packet d.output h k
+  told (Fault d) k = deep_star (term_of b.value) part d.packet d.output h k
 
 -- rows
 
@@ -132,18 +132,18 @@ drop_item items i x h e = ap (λ (ys : List Pol). term_row (map term_of ys)) (dr
 -- what is left from an item on tells of the whole
 pub record Goes (ps : Pols) (left : List Pol) : Type 0 where
   pub shallow : HaveNoDeep (term_row (map term_of left)) → HaveNoDeep (terms_of ps)
-  pub deep : (e : StarFault) → TellsDeepOf (term_row (map term_of left)) e → TellsDeepOf (terms_of ps) e
+  pub deep : (e : StarError) → TellsDeepOf (term_row (map term_of left)) e → TellsDeepOf (terms_of ps) e
 
 pub goes_from : (ps : Pols) (items : List Pol) → items ≡ ps.items.items → Goes ps items
 goes_from ps items e = subst (λ (x : List Pol). Goes ps x) (sym e) (record { shallow = λ h. h; deep = λ f h. h })
 
-later : (p : Term) (row : Terms) → HasNoDeep p → (e : StarFault) → TellsDeepOf row e → TellsDeepOf (term p row) e
+later : (p : Term) (row : Terms) → HasNoDeep p → (e : StarError) → TellsDeepOf row e → TellsDeepOf (term p row) e
 later p row n Memory h = h
-later p row n (Deep d) h = inr (n, h)
+later p row n (Fault d) h = inr (n, h)
 
-here : (p : Term) (row : Terms) (e : StarFault) → TellsDeep p e → TellsDeepOf (term p row) e
+here : (p : Term) (row : Terms) (e : StarError) → TellsDeep p e → TellsDeepOf (term p row) e
 here p row Memory h = h
-here p row (Deep d) h = inl h
+here p row (Fault d) h = inl h
 
 pub goes_on : (ps : Pols) (items : List Pol) (i : ℕ) (x : Pol) → i < length items → x ≡ get_or items i x → HasNoDeep (term_of x) → Goes ps (drop i items) → Goes ps (drop (i + 1) items)
 goes_on ps items i x h ex n g =
@@ -154,6 +154,6 @@ goes_on ps items i x h ex n g =
       deep = λ f k. g.deep f (subst (λ (row : Terms). TellsDeepOf row f) (sym e) (later (term_of x) rest n f k));
     }
 
-pub goes_wrong : (ps : Pols) (items : List Pol) (i : ℕ) (x : Pol) (f : StarFault) → i < length items → x ≡ get_or items i x → TellsDeep (term_of x) f → Goes ps (drop i items) → TellsDeepOf (terms_of ps) f
+pub goes_wrong : (ps : Pols) (items : List Pol) (i : ℕ) (x : Pol) (f : StarError) → i < length items → x ≡ get_or items i x → TellsDeep (term_of x) f → Goes ps (drop i items) → TellsDeepOf (terms_of ps) f
 goes_wrong ps items i x f h ex k g =
     g.deep f (subst (λ (row : Terms). TellsDeepOf row f) (sym (drop_item items i x h ex)) (here (term_of x) (term_row (map term_of (drop (i + 1) items))) f k))

@@ -11,9 +11,9 @@ use Rattle.nk_syntax.specs.Terms.{term}
 use Rattle.nk_syntax.specs.Views.{guard_row, guard_of, term_row, term_of}
 use Rattle.nk_syntax.specs.declared.pred.Pred.{Pred}
 use Rattle.nk_syntax.specs.declared.pol.Pol.{Pol}
-use Rattle.fdd_nodes.proofs.NameLaws as nodes
 use Rattle.fdd_nodes.proofs.NameLaws.{once_shorter}
-use Rattle.fdd_compile.specs.Gains.{EachOnce, Gains}
+use Rattle.fdd_nodes.specs.Names.{EachOnce}
+use Rattle.fdd_compile.specs.Gains.{Gains}
 use Rattle.fdd_compile.specs.Named.{GuardTests, GuardsTest, TermNames, TermsName, AreFewNamed}
 
 pub gains_known : (l : Lit) (old : List Lit) → IsIn old l → Gains (λ f n. (lit_field l ≡ f) × (lit_value l ≡ n)) old old
@@ -109,12 +109,8 @@ terms_to items i x h e f n k =
 pub few_of_list : (N : Field → ℕ → Type 0) (names : List Lit) → Gains N [] names → length names ≤ 2000 → AreFewNamed N
 few_of_list N names g h = record { names = names; bound = h; all = g.has }
 
-to-once : (ls : List Lit) → EachOnce ls → nodes.EachOnce ls
-to-once [] o = tt
-to-once (l ∷ ls) o = (o.0, to-once ls o.1)
-
 -- the gained list is no longer than any that has all that is named
 pub list_of_few : (N : Field → ℕ → Type 0) (names : List Lit) → Gains N [] names → AreFewNamed N → length names ≤ 2000
 list_of_few N names g few =
-    let k = once_shorter names few.names (to-once names (g.once tt)) (λ m i. elim (g.only m i) [ inl n ↦ absurd n | inr w ↦ few.all m w ]) in
+    let k = once_shorter names few.names (g.once tt) (λ m i. elim (g.only m i) [ inl n ↦ absurd n | inr w ↦ few.all m w ]) in
     omega (arith, k, few.bound)

@@ -12,10 +12,10 @@ use Rattle.nk_values.specs.Packets.{get, with_value, IsInRange, IsWellShaped}
 use Rattle.nk_values.specs.Ranges.{least_literal, IsValue}
 use Rattle.nk_values.proofs.LitLaws.{lit_is_value}
 use Rattle.nk_values.proofs.PacketLaws.{get-with_same, get-with_other, field_cases}
-use Rattle.fdd_nodes.specs.Cells.{free, open_cell, fill}
+use Rattle.fdd_nodes.specs.Cells.{open_cell, fill, IsOpen}
 use Rattle.fdd_nodes.specs.Names.{literals}
 use Rattle.fdd_nodes.specs.Trees.{Tree, Leaf, Node, leaf_at, apply, Assigns, IsSetBy, IsOrderedFrom}
-use Rattle.fdd_nodes.proofs.CellLaws.{get-open, fill_fixed, fill_free}
+use Rattle.fdd_nodes.proofs.CellLaws.{tells_open, get-open, fill_fixed, fill_open}
 use Rattle.fdd_nodes.proofs.MakesLaws.{source, outcome, among_lists, at_field}
 use Rattle.fdd_nodes.proofs.NameLaws.{tests_literal}
 use Rattle.fdd_nodes.proofs.SplitLaws.{leaf_at-then, leaf_at-else}
@@ -58,7 +58,7 @@ frame_fits Tcp = fits_put Tcp (with_value open_cell EthTyp 2048) IpProto 6 (prot
 frame_fits Udp = fits_put Udp (with_value open_cell EthTyp 2048) IpProto 17 (protocol_value 17 (omega arith)) refl (fits_put Udp open_cell EthTyp 2048 ip_value refl (open_fits Udp))
 
 -- a fresh packet is right for each kind where its cell is open
-fresh_left : (k : Frame) (g : Packet) (ls : List Lit) → IsFreshOf ls g → (f : Field) → get (frame_cell k) f ≡ free → Leaves k f (get g f)
+fresh_left : (k : Frame) (g : Packet) (ls : List Lit) → IsFreshOf ls g → (f : Field) → IsOpen (frame_cell k) f → Leaves k f (get g f)
 fresh_left NoIp g ls h f o = left_by_kind NoIp g h.no_ip h.shaped f
 fresh_left OtherIp g ls h EthTyp o = absurd (omega (arith, o))
 fresh_left OtherIp g ls h IpProto o = let z = (h.shaped.ip_only h.no_ip).0 in (λ e. omega (arith, e, z), λ e. omega (arith, e, z))
@@ -72,19 +72,19 @@ fresh_left k g ls h f o = tt
 
 -- a cell within that of a kind, filled, is a well-shaped packet of the kind
 
-fill_left : (k : Frame) (q g : Packet) (ls : List Lit) → ((f : Field) → get (frame_cell k) f ≢ free → get q f ≡ get (frame_cell k) f) → Fits k q → IsFreshOf ls g → (f : Field) → Leaves k f (get (fill q g) f)
-fill_left k q g ls keeps fits h f = elim (eqb_tells (get q f) free) [
+fill_left : (k : Frame) (q g : Packet) (ls : List Lit) → ((f : Field) → ¬ IsOpen (frame_cell k) f → get q f ≡ get (frame_cell k) f) → Fits k q → IsFreshOf ls g → (f : Field) → Leaves k f (get (fill q g) f)
+fill_left k q g ls keeps fits h f = elim (tells_open q f) [
   | inr n ↦ subst (Leaves k f) (sym (fill_fixed q g f n.1)) (fits.left f n.1)
-  | inl y ↦ subst (Leaves k f) (sym (fill_free q g f y.1)) (fresh_left k g ls h f (elim (eqb_tells (get (frame_cell k) f) free) [
+  | inl y ↦ subst (Leaves k f) (sym (fill_open q g f y.1)) (fresh_left k g ls h f (elim (tells_open (frame_cell k) f) [
     | inl z ↦ z.1
     | inr n ↦ absurd (n.1 (sym (keeps f n.1) ∙ y.1))
   ]))
 ]
 
 fill_values : (k : Frame) (q g : Packet) → Fits k q → IsInRange g → IsInRange (fill q g)
-fill_values k q g fits r = λ f. elim (eqb_tells (get q f) free) [
+fill_values k q g fits r = λ f. elim (tells_open q f) [
   | inr n ↦ subst (IsValue f) (sym (fill_fixed q g f n.1)) (fits.value f n.1)
-  | inl y ↦ subst (IsValue f) (sym (fill_free q g f y.1)) (r f)
+  | inl y ↦ subst (IsValue f) (sym (fill_open q g f y.1)) (r f)
 ]
 
 pub breach_of : (k : Frame) (t : Tree) (q g : Packet) → IsOrderedFrom 0 t → Breaches k (frame_cell k) t q → IsFreshOf (literals t) g → IsBreach k t (fill q g)

@@ -1,5 +1,5 @@
 -- How a diagram is searched for results that are not well shaped: kind by kind, cell by cell.
-use Rattle.std.specs.Prelude.{◌≡◌, ◌≢◌, ℕ, ◌≤◌, ◌⊎◌, List, [], ◌∷◌}
+use Rattle.std.specs.Prelude.{◌≡◌, ℕ, ◌≤◌, ◌⊎◌, List, [], ◌∷◌}
 use Rattle.nk_values.specs.declared.field.Field.{Field}
 use Rattle.nk_values.specs.declared.packet.Packet.{Packet}
 use Rattle.nk_values.specs.declared.lit.Lit.{Lit}
@@ -8,7 +8,7 @@ use Rattle.nk_values.specs.Lits.{lit_field}
 use Rattle.nk_values.specs.Packets.{get, IsWellShaped}
 use Rattle.nk_values.specs.Ranges.{IsValue}
 use Rattle.nk_values.specs.Ranks.{rank}
-use Rattle.fdd_nodes.specs.Cells.{free, Agrees, fill}
+use Rattle.fdd_nodes.specs.Cells.{Agrees, fill, IsOpen}
 use Rattle.fdd_nodes.specs.Trees.{Tree, leaf_at, Tests, IsOrderedFrom}
 use Rattle.fdd_differ.specs.declared.frame.Frame.{Frame}
 use Rattle.fdd_differ.specs.Frames.{IsFrame, Lacks, Leaves}
@@ -24,8 +24,8 @@ SetsLacking k (c ∷ cs) = CopySetsLacking k c ⊎ SetsLacking k cs
 
 -- what the cell fixes is what well-shaped packets of the kind may hold
 pub record Fits (k : Frame) (c : Packet) : Type 0 where
-  pub value : (f : Field) → get c f ≢ free → IsValue f (get c f)
-  pub left : (f : Field) → get c f ≢ free → Leaves k f (get c f)
+  pub value : (f : Field) → ¬ IsOpen c f → IsValue f (get c f)
+  pub left : (f : Field) → ¬ IsOpen c f → Leaves k f (get c f)
 
 -- no well-shaped packet of the kind in the cell gets a field that it lacks
 pub record IsSafe (k : Frame) (c : Packet) (t : Tree) : Type 0 where
@@ -34,9 +34,9 @@ pub record IsSafe (k : Frame) (c : Packet) (t : Tree) : Type 0 where
 -- Within the cell c, q is a cell whose packets with values that no test names get a field that the kind lacks. What q
 -- fixes beside c comes from the tests.
 pub record Breaches (k : Frame) (c : Packet) (t : Tree) (q : Packet) : Type 0 where
-  pub keeps : (f : Field) → get c f ≢ free → get q f ≡ get c f
+  pub keeps : (f : Field) → ¬ IsOpen c f → get q f ≡ get c f
   pub fits : Fits k c → Fits k q
-  pub beyond : (j : ℕ) → IsOrderedFrom j t → (m : Lit) → get c (lit_field m) ≡ free → Holds q m → j ≤ rank m
+  pub beyond : (j : ℕ) → IsOrderedFrom j t → (m : Lit) → IsOpen c (lit_field m) → Holds q m → j ≤ rank m
   pub sets : (j : ℕ) → IsOrderedFrom j t → (g : Packet) → ((m : Lit) → Tests t m → ¬ Holds g m) → SetsLacking k (leaf_at t (fill q g))
 
 -- a well-shaped packet of the kind gets a field that it lacks

@@ -1,14 +1,10 @@
 -- Lists of literals that gain what is named.
-use Rattle.std.specs.Prelude.{◌⊎◌, ℕ, List, [], ◌∷◌}
+use Rattle.std.specs.Prelude.{◌⊎◌, ℕ, List}
 use Rattle.nk_values.specs.declared.field.Field.{Field}
 use Rattle.nk_values.specs.declared.lit.Lit.{Lit}
 use Rattle.nk_values.specs.Lits.{lit_field, lit_value}
 use Rattle.nk_values.specs.Members.{IsIn}
-
--- no literal twice
-abbrev pub EachOnce : List Lit → Type 0
-EachOnce [] = Unit {0}
-EachOnce (l ∷ ls) = (¬ IsIn ls l) × EachOnce ls
+use Rattle.fdd_nodes.specs.Names.{EachOnce}
 
 -- new has what old has, and each literal that is named, and nothing else, and none twice
 pub record Gains (Names : Field → ℕ → Type 0) (old new : List Lit) : Type 0 where

@@ -11,14 +11,14 @@ use crate::filters::filter;
 use crate::folds::{sequence_of_all, union_of_all};
 use fdd_nodes::Fdd;
 use fdd_ops::assign;
-use fdd_star::{StarFault, star};
+use fdd_star::{StarError, star};
 use nk_syntax::{Pol, Pols};
 use std::alloc::{AllocError, Global};
 
 /// The diagram of a policy without `dup`, or the first star that is deep: inner ones before outer ones, and left to
 /// right.
 #[cycle(build)]
-pub fn build(alloc: Global, pol: &Pol) -> Result<Fdd, StarFault>
+pub fn build(alloc: Global, pol: &Pol) -> Result<Fdd, StarError>
     requires flat { IsFlat (term_of pol.now) }
     requires few { AreFewNamed (TermNames (term_of pol.now)) }
     ensures { MatchResult result (λ r. BuiltOf (term_of pol.now) (tree_of r)) (λ e. TellsDeep (term_of pol.now) e) }
@@ -43,7 +43,7 @@ pub fn build(alloc: Global, pol: &Pol) -> Result<Fdd, StarFault>
 }
 
 #[cycle(build)]
-fn builds(alloc: Global, pols: &Pols) -> Result<Vec<Fdd>, StarFault>
+fn builds(alloc: Global, pols: &Pols) -> Result<Vec<Fdd>, StarError>
     requires flat { AreFlat (terms_of pols.now) }
     requires few { AreFewNamed (TermsName (terms_of pols.now)) }
     ensures { MatchResult result (λ rs. BuiltAll (map term_of pols.now.items.items) (terms_of pols.now) (map tree_of rs.items)) (λ e. TellsDeepOf (terms_of pols.now) e) }

@@ -1,19 +1,19 @@
 // Compiled policies.
-ghost use Rattle.std.specs.Prelude.{MatchResult};
+ghost use Rattle.std.specs.Prelude.{MatchResult, OnOk};
 ghost use Rattle.nk_syntax.specs.Views.{term_of};
-ghost use Rattle.fdd_compile.specs.Compiles.{CompiledOf, Refuses};
+ghost use Rattle.fdd_compile.specs.Compiles.{CompiledOf, IsFaultless, Refuses};
 ghost use Rattle.fdd_compile.specs.Named.{AreFewNamed, TermNames};
 ghost use Rattle.fdd_compile.specs.Places.{diagram_of};
 
 use crate::build::build;
-use crate::fault::{CompileError, CompileFault};
+use crate::fault::CompileError;
 use crate::guarded::unguarded;
 use crate::leftmost::leftmost_fault;
 use crate::literal::literal;
 use fdd_nodes::Fdd;
 use fdd_ops::cofactor;
 use nk_syntax::Pol;
-use nk_values::Field;
+use nk_values::{CompileFault, Field};
 use std::alloc::{AllocError, Global};
 
 /// A policy's normal diagram.
@@ -51,7 +51,8 @@ impl Compiled {
 /// to ethTyp or ipProto; the first star that is deep; a well-shaped packet with a result that is not.
 pub fn compile(alloc: Global, pol: &Pol) -> Result<Compiled, CompileError>
     requires { AreFewNamed (TermNames (term_of pol.now)) }
-    ensures { MatchResult result (λ c. CompiledOf (term_of pol.now) (diagram_of c)) (λ e. Refuses (term_of pol.now) e) }
+    ensures told { MatchResult result (λ c. CompiledOf (term_of pol.now) (diagram_of c)) (λ e. Refuses (term_of pol.now) e) }
+    ensures faultless { OnOk result (IsFaultless (term_of pol.now)) }
 {
     if let Some(fault) = leftmost_fault(pol) {
         return Err(CompileError::Fault(fault));

@@ -1,22 +1,19 @@
-// Policies compiled to diagrams.
+//! Policies compiled to diagrams (ICFP 2015, section 3), and which policies have none that a switch can follow.
 #![tactic(auto)]
 
-pub mod build;
-pub mod compiled;
-pub mod fault;
-pub mod filters;
-pub mod folds;
-pub mod guarded;
-pub mod leftmost;
+mod build;
+mod compiled;
+mod fault;
+mod filters;
+mod folds;
+mod guarded;
+mod leftmost;
 mod literal;
-pub mod named;
-#[cfg(test)]
-mod table;
-#[cfg(test)]
-mod tests;
+mod named;
 
 pub use compiled::{Compiled, compile};
-pub use fault::{CompileError, CompileFault};
+pub use fault::CompileError;
 pub use guarded::unguarded;
 pub use leftmost::leftmost_fault;
 pub use named::names_few;
+pub use nk_values::CompileFault;

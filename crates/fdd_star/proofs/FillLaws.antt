@@ -10,8 +10,8 @@ use Rattle.nk_values.specs.Members.{IsIn}
 use Rattle.nk_values.specs.Packets.{get}
 use Rattle.nk_values.proofs.PacketLaws.{get-with_same, get-with_other, field_cases, same_packet}
 use Rattle.fdd_nodes.specs.Trees.{Tree, Leaf, Node, leaf_at, apply, answers, IsSetBy, Tests, Assigns}
-use Rattle.fdd_nodes.specs.Cells.{free, Agrees, IsFresh, fill}
-use Rattle.fdd_nodes.proofs.CellLaws.{lit_not_free, fill_fixed, fill_free}
+use Rattle.fdd_nodes.specs.Cells.{Agrees, IsFresh, fill, IsOpen}
+use Rattle.fdd_nodes.proofs.CellLaws.{tells_open, lit_not_free, fill_fixed, fill_open}
 use Rattle.fdd_nodes.proofs.MakesLaws.{source, outcome, among_lists}
 use Rattle.fdd_nodes.proofs.SplitLaws.{leaf_at-then, leaf_at-else}
 use Rattle.fdd_star.specs.Asks.{Asks}
@@ -19,8 +19,8 @@ use Rattle.fdd_star.specs.Stars.{Turns}
 
 -- a packet of the cell, filled into the cell's, is itself
 pub fill_agrees : (c pk : Packet) → Agrees c pk → fill c pk ≡ pk
-fill_agrees c pk h = same_packet (fill c pk) pk (λ f. elim (eqb_tells (get c f) free) [
-  | inl y ↦ fill_free c pk f y.1
+fill_agrees c pk h = same_packet (fill c pk) pk (λ f. elim (tells_open c f) [
+  | inl y ↦ fill_open c pk f y.1
   | inr n ↦ fill_fixed c pk f n.1 ∙ sym (h.at f n.1)
 ])
 
@@ -33,8 +33,8 @@ put_fill l q pk = same_packet (put l (fill q pk)) (fill (put l q) pk) (λ f. eli
       (get-with_same (fill q pk) (lit_field l) (lit_value l) ∙ sym s ∙ sym (fill_fixed (put l q) pk (lit_field l) (λ z. lit_not_free l (sym s ∙ z))))
   | inr d ↦
       let s = get-with_other q (lit_field l) f (lit_value l) d in
-      get-with_other (fill q pk) (lit_field l) f (lit_value l) d ∙ elim (eqb_tells (get q f) free) [
-        | inl y ↦ fill_free q pk f y.1 ∙ sym (fill_free (put l q) pk f (s ∙ y.1))
+      get-with_other (fill q pk) (lit_field l) f (lit_value l) d ∙ elim (tells_open q f) [
+        | inl y ↦ fill_open q pk f y.1 ∙ sym (fill_open (put l q) pk f (s ∙ y.1))
         | inr n ↦ fill_fixed q pk f n.1 ∙ sym s ∙ sym (fill_fixed (put l q) pk f (λ z. n.1 (sym s ∙ z)))
       ]
 ])
@@ -50,10 +50,10 @@ Escapes t q pk = (m : Lit) → Asks t q m → ¬ Holds pk m
 -- such a packet comes to the same leaf
 leaf_fill : (t : Tree) (q pk : Packet) → Escapes t q pk → leaf_at t (fill q pk) ≡ leaf_at t q
 leaf_fill (Leaf cs) q pk h = refl
-leaf_fill (Node l t e) q pk h = elim (eqb_tells (get q (lit_field l)) free) [
+leaf_fill (Node l t e) q pk h = elim (tells_open q (lit_field l)) [
   | inl y ↦
       let out : ¬ Holds q l = λ z. lit_not_free l (sym z ∙ y.1) in
-      let away : ¬ Holds (fill q pk) l = λ z. h l (inl (y.1, refl)) (sym (fill_free q pk (lit_field l) y.1) ∙ z) in
+      let away : ¬ Holds (fill q pk) l = λ z. h l (inl (y.1, refl)) (sym (fill_open q pk (lit_field l) y.1) ∙ z) in
       leaf_at-else l t e (fill q pk) away ∙ leaf_fill e q pk (λ m k. h m (inr (inr (out, k)))) ∙ sym (leaf_at-else l t e q out)
   | inr n ↦ elim (eqb_tells (get q (lit_field l)) (lit_value l)) [
     | inl z ↦ leaf_at-then l t e (fill q pk) (fill_fixed q pk (lit_field l) n.1 ∙ z.1) ∙ leaf_fill t q pk (λ m k. h m (inr (inl (z.1, k)))) ∙ sym (leaf_at-then l t e q z.1)
@@ -103,10 +103,10 @@ asks_tests (Node l t e) q m h = elim h [
 ]
 
 -- and of a field that nothing fixes
-pub asks_free : (t : Tree) (q : Packet) (m : Lit) → Asks t q m → get q (lit_field m) ≡ free
+pub asks_free : (t : Tree) (q : Packet) (m : Lit) → Asks t q m → IsOpen q (lit_field m)
 asks_free (Leaf cs) q m h = absurd h
 asks_free (Node l t e) q m h = elim h [
-  | inl k ↦ subst (λ (x : Lit). get q (lit_field x) ≡ free) k.1 k.0
+  | inl k ↦ subst (λ (x : Lit). IsOpen q (lit_field x)) k.1 k.0
   | inr k ↦ elim k [ inl w ↦ asks_free t q m w.1 | inr w ↦ asks_free e q m w.1 ]
 ]
 
@@ -151,14 +151,14 @@ keeps_turns t (suc n) q r h f = elim (keeps_turns t n h.0 r h.2 f) [
 ]
 
 -- turns leave no field open that was fixed
-pub turns_free : (t : Tree) (n : ℕ) (q r : Packet) → Turns t n q r → (f : Field) → get r f ≡ free → get q f ≡ free
+pub turns_free : (t : Tree) (n : ℕ) (q r : Packet) → Turns t n q r → (f : Field) → IsOpen r f → IsOpen q f
 turns_free t n q r h f y = elim (keeps_turns t n q r h f) [
   | inl e ↦ sym e ∙ y
   | inr w ↦ absurd (lit_not_free w.0 (sym w.3 ∙ y))
 ]
 
 -- what a fresh packet holds is not what turns put into a field that other turns leave open
-told_apart : (t : Tree) (n k : ℕ) (q r s g : Packet) (f : Field) → IsFresh g t → Turns t n q r → Turns t k q s → get r f ≡ free → get s f ≢ free → get g f ≢ get s f
+told_apart : (t : Tree) (n k : ℕ) (q r s g : Packet) (f : Field) → IsFresh g t → Turns t n q r → Turns t k q s → IsOpen r f → ¬ IsOpen s f → get g f ≢ get s f
 told_apart t n k q r s g f fresh hr hs y z e = elim (keeps_turns t k q s hs f) [
   | inl d ↦ z (d ∙ turns_free t n q r hr f y)
   | inr w ↦ fresh.assigned w.0 w.1 (ap (λ h. get g h) w.2 ∙ e ∙ w.3)
@@ -168,13 +168,13 @@ told_apart t n k q r s g f fresh hr hs y z e = elim (keeps_turns t k q s hs f) [
 pub filled_once : (t : Tree) (n k : ℕ) (q r s g : Packet) → IsFresh g t → Turns t n q r → Turns t k q s → fill r g ≡ fill s g → r ≡ s
 filled_once t n k q r s g fresh hr hs e = same_packet r s (λ f.
     let ef : get (fill r g) f ≡ get (fill s g) f = ap (λ z. get z f) e in
-    elim (eqb_tells (get r f) free) [
-      | inl y ↦ elim (eqb_tells (get s f) free) [
+    elim (tells_open r f) [
+      | inl y ↦ elim (tells_open s f) [
         | inl z ↦ y.1 ∙ sym z.1
-        | inr z ↦ absurd (told_apart t n k q r s g f fresh hr hs y.1 z.1 (sym (fill_free r g f y.1) ∙ ef ∙ fill_fixed s g f z.1))
+        | inr z ↦ absurd (told_apart t n k q r s g f fresh hr hs y.1 z.1 (sym (fill_open r g f y.1) ∙ ef ∙ fill_fixed s g f z.1))
       ]
-      | inr y ↦ elim (eqb_tells (get s f) free) [
-        | inl z ↦ absurd (told_apart t k n q s r g f fresh hs hr z.1 y.1 (sym (fill_free s g f z.1) ∙ sym ef ∙ fill_fixed r g f y.1))
+      | inr y ↦ elim (tells_open s f) [
+        | inl z ↦ absurd (told_apart t k n q s r g f fresh hs hr z.1 y.1 (sym (fill_open s g f z.1) ∙ sym ef ∙ fill_fixed r g f y.1))
         | inr z ↦ sym (fill_fixed r g f y.1) ∙ ef ∙ fill_fixed s g f z.1
       ]
     ])

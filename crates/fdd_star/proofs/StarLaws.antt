@@ -1,18 +1,15 @@
 -- The star of a diagram, cell by cell.
-use Rattle.std.proofs.Common.{◌≡◌, ◌≢◌, ℕ, zero, suc, ◌+◌, ◌<◌, inl, inr, refl, ap, sym, ◌∙◌, subst, arith, Bool, List, [], ◌∷◌, ◌++◌, length, if◌then◌else◌, ◌==◌}
-use Rattle.std.proofs.lemmas.Bool.{eq-eqb, ne_eqb}
+use Rattle.std.proofs.Common.{◌≡◌, zero, suc, ◌<◌, inl, inr, refl, ap, sym, ◌∙◌, subst, arith, List, [], ◌∷◌, ◌++◌, length}
 use Rattle.std.proofs.lemmas.Bool.Decides.{eqb_tells}
-use Rattle.nk_values.specs.declared.field.Field.{Field}
-use Rattle.nk_values.specs.declared.field.Field.TheVariants.{Sw, Pt, EthTyp, IpProto, EthSrc, EthDst, Ip4Src, Ip4Dst, TcpSrcPort, TcpDstPort}
 use Rattle.nk_values.specs.declared.packet.Packet.{Packet}
 use Rattle.nk_values.specs.declared.lit.Lit.{Lit}
 use Rattle.nk_values.specs.Held.{Holds, put}
 use Rattle.nk_values.specs.Lits.{lit_field, lit_value}
 use Rattle.nk_values.specs.Members.{IsIn, SameMembers}
-use Rattle.nk_values.specs.Packets.{get, with_value}
+use Rattle.nk_values.specs.Packets.{get}
 use Rattle.nk_values.proofs.MemberLaws.{in-left, in-right, in-either}
 use Rattle.fdd_nodes.specs.Trees.{Tree, Leaf, Node, apply, outcomes, IsSetBy, Tests}
-use Rattle.fdd_nodes.specs.Cells.{free, open_cell, fill}
+use Rattle.fdd_nodes.specs.Cells.{open_cell, fill}
 use Rattle.fdd_nodes.specs.Copies.{Puts}
 use Rattle.std.specs.List.{Contains}
 use Rattle.std.specs.List.Sorted.{IsPermutation}
@@ -25,7 +22,7 @@ use Rattle.fdd_ops.specs.Operations.{ChoiceOf}
 use Rattle.fdd_star.specs.declared.reach.Reach.{Reach}
 use Rattle.fdd_star.specs.Asks.{Asks}
 use Rattle.fdd_star.specs.Reaches.{copies_of, asked_of, IsClosed, IsNamedBy, Misses, StarBut}
-use Rattle.fdd_star.specs.Stars.{Turns, StarOf}
+use Rattle.fdd_star.specs.Stars.{Turns, StarOf, IsShallow}
 use Rattle.fdd_star.proofs.FillLaws.{EscapesAll, fill_agrees, apply_fill, turns_filled, filled_turns}
 
 -- what names no more than p does names few values
@@ -111,37 +108,9 @@ star_of p r h = record {
   assigns = h.names.assigns;
 }
 
--- how many fields a cell leaves open
-
-abbrev pub one_if_free : ℕ → ℕ
-one_if_free n = if n == free then 1 else 0
-
-abbrev pub open_fields : Packet → ℕ
-open_fields c =
-    one_if_free c.sw + one_if_free c.pt + one_if_free c.header.eth_typ + one_if_free c.header.ip_proto + one_if_free c.header.eth_src
-    + one_if_free c.header.eth_dst + one_if_free c.header.ip4_src + one_if_free c.header.ip4_dst + one_if_free c.header.tcp_src_port + one_if_free c.header.tcp_dst_port
-
-free_one : (n : ℕ) → n ≡ free → one_if_free n ≡ 1
-free_one n e = ap (λ (b : Bool). if b then 1 else 0) (eq-eqb n free e)
-
-other_none : (n : ℕ) → n ≢ free → one_if_free n ≡ 0
-other_none n e = ap (λ (b : Bool). if b then 1 else 0) (ne_eqb n free e)
-
-fewer_with : (c : Packet) (f : Field) (n : ℕ) → get c f ≡ free → n ≢ free → open_fields (with_value c f n) < open_fields c
-fewer_with c Sw n e d = let a = free_one _ e in let b = other_none n d in omega (arith, a, b)
-fewer_with c Pt n e d = let a = free_one _ e in let b = other_none n d in omega (arith, a, b)
-fewer_with c EthTyp n e d = let a = free_one _ e in let b = other_none n d in omega (arith, a, b)
-fewer_with c IpProto n e d = let a = free_one _ e in let b = other_none n d in omega (arith, a, b)
-fewer_with c EthSrc n e d = let a = free_one _ e in let b = other_none n d in omega (arith, a, b)
-fewer_with c EthDst n e d = let a = free_one _ e in let b = other_none n d in omega (arith, a, b)
-fewer_with c Ip4Src n e d = let a = free_one _ e in let b = other_none n d in omega (arith, a, b)
-fewer_with c Ip4Dst n e d = let a = free_one _ e in let b = other_none n d in omega (arith, a, b)
-fewer_with c TcpSrcPort n e d = let a = free_one _ e in let b = other_none n d in omega (arith, a, b)
-fewer_with c TcpDstPort n e d = let a = free_one _ e in let b = other_none n d in omega (arith, a, b)
-
--- fixing a field leaves fewer
-pub fewer_open : (c : Packet) (l : Lit) → get c (lit_field l) ≡ free → open_fields (put l c) < open_fields c
-fewer_open c l e = fewer_with c (lit_field l) (lit_value l) e (lit_not_free l)
+-- what has a star is not deep
+pub star_shallow : (p r : Tree) → StarOf p r → IsShallow p
+star_shallow p r s pk out d = d.late (s.made pk out (s.all d.made.0 pk out d.in_range d.made.2))
 
 -- a leaf with one copy more
 

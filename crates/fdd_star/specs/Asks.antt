@@ -1,20 +1,20 @@
 -- What a diagram asks of a packet, and visits.
-use Rattle.std.specs.Prelude.{◌≡◌, ◌⊎◌, List, [], ◌∷◌}
+use Rattle.std.specs.Prelude.{◌≡◌, ◌⊎◌, List, []}
 use Rattle.nk_values.specs.declared.packet.Packet.{Packet}
 use Rattle.nk_values.specs.declared.lit.Lit.{Lit}
 use Rattle.nk_values.specs.Held.{Holds}
 use Rattle.nk_values.specs.Lits.{lit_field}
 use Rattle.nk_values.specs.Members.{IsIn}
-use Rattle.nk_values.specs.Packets.{get}
-use Rattle.fdd_nodes.specs.Cells.{free}
+use Rattle.fdd_nodes.specs.Cells.{IsOpen}
 use Rattle.fdd_nodes.specs.Trees.{Tree, Leaf, Node, leaf_at, tree}
 use Rattle.fdd_star.specs.declared.visits.Visit.{Visit}
 use Rattle.fdd_star.specs.declared.visits.Visits.{Visits}
+use Rattle.fdd_star.specs.Kept.{EachIs}
 
 -- the literal is tested on the packet's path, at a field that nothing fixes
 abbrev pub Asks : Tree → Packet → Lit → Type 0
 Asks (Leaf cs) q m = ⊥
-Asks (Node l t e) q m = ((get q (lit_field l) ≡ free) × (l ≡ m)) ⊎ ((Holds q l × Asks t q m) ⊎ ((¬ Holds q l) × Asks e q m))
+Asks (Node l t e) q m = ((IsOpen q (lit_field l)) × (l ≡ m)) ⊎ ((Holds q l × Asks t q m) ⊎ ((¬ Holds q l) × Asks e q m))
 
 -- new has what is asked on the packet's path, beside what old has
 pub record AsksMore (t : Tree) (q : Packet) (old new : List Lit) : Type 0 where
@@ -25,7 +25,7 @@ pub record AsksMore (t : Tree) (q : Packet) (old new : List Lit) : Type 0 where
 -- the first test is of a field that nothing fixes
 abbrev pub AsksFirst : Packet → Tree → Type 0
 AsksFirst q (Leaf cs) = Unit {0}
-AsksFirst q (Node l t e) = get q (lit_field l) ≡ free
+AsksFirst q (Node l t e) = IsOpen q (lit_field l)
 
 -- r is what is left of a on the packet's path, from the first test on of a field that nothing fixes
 pub record IsOpenPart (q : Packet) (a r : Tree) : Type 0 where
@@ -39,14 +39,9 @@ pub record IsVisitOf (t : Tree) (q : Packet) (v : Visit) : Type 0 where
   pub leaf : v.leaf.now ≡ leaf_at t q
   pub asked : AsksMore t q [] v.asked.items
 
--- each packet has its visit
-abbrev pub AreRight : Tree → List (Packet × Visit) → Type 0
-AreRight t [] = Unit {0}
-AreRight t (e ∷ es) = IsVisitOf t e.0 e.1 × AreRight t es
-
 -- the visits are those of the diagram's root
 pub record AreVisits (v : Visits) : Type 0 where
-  pub right : AreRight (tree v.root.now) v.known.entries
+  pub right : EachIs (IsVisitOf (tree v.root.now)) v.known.entries
 
 -- the diagram is the same, and so what is known of it is right
 pub record GoOn (old new : Visits) : Type 0 where

@@ -1,3 +1,5 @@
 pub mod Asks
+pub mod Kept
+pub mod Parts
 pub mod Reaches
 pub mod Stars

@@ -5,9 +5,8 @@ use Rattle.nk_values.specs.declared.lit.Lit.{Lit}
 use Rattle.nk_values.specs.Held.{Holds}
 use Rattle.nk_values.specs.Lits.{lit_field}
 use Rattle.nk_values.specs.Members.{IsIn}
-use Rattle.nk_values.specs.Packets.{get}
 use Rattle.fdd_nodes.specs.Trees.{Tree, apply, outcomes, answers, Tests, Assigns}
-use Rattle.fdd_nodes.specs.Cells.{free, Agrees}
+use Rattle.fdd_nodes.specs.Cells.{Agrees, IsOpen}
 use Rattle.fdd_nodes.specs.Normals.{IsNormal}
 use Rattle.fdd_star.specs.declared.reach.Reach.{Reach}
 use Rattle.fdd_star.specs.Asks.{Asks}
@@ -73,7 +72,7 @@ pub record Turned (p : Tree) (c : Packet) (n place : ℕ) (r : Reach) : Type 0 w
   pub late : (x : List Lit) → IsIn (drop place (copies_of r)) x → ¬ Fewer p n c (apply x c)
   pub named : (x : List Lit) (m : Lit) → IsIn (copies_of r) x → IsIn x m → Assigns p m
   pub asks : (x : List Lit) (m : Lit) → IsIn (take place (copies_of r)) x → Asks p (apply x c) m → IsIn (asked_of r) m
-  pub is_open : (m : Lit) → IsIn (asked_of r) m → get c (lit_field m) ≡ free
+  pub is_open : (m : Lit) → IsIn (asked_of r) m → IsOpen c (lit_field m)
   pub tests : (m : Lit) → IsIn (asked_of r) m → Tests p m
 
 -- All that any number of turns reach from the cell's packet is reached in 512; what was asked on the way is of fields that
@@ -83,7 +82,7 @@ pub record IsClosed (p : Tree) (c : Packet) (r : Reach) : Type 0 where
   pub all : (n : ℕ) (q : Packet) → Turns p n c q → IsIn (outcomes (copies_of r) c) q
   pub named : (x : List Lit) (m : Lit) → IsIn (copies_of r) x → IsIn x m → Assigns p m
   pub asks : (x : List Lit) (m : Lit) → IsIn (copies_of r) x → Asks p (apply x c) m → IsIn (asked_of r) m
-  pub is_open : (m : Lit) → IsIn (asked_of r) m → get c (lit_field m) ≡ free
+  pub is_open : (m : Lit) → IsIn (asked_of r) m → IsOpen c (lit_field m)
   pub tests : (m : Lit) → IsIn (asked_of r) m → Tests p m
 
 -- a names only what p names

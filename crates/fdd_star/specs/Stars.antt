@@ -6,8 +6,8 @@ use Rattle.nk_values.specs.Members.{IsIn}
 use Rattle.nk_values.specs.Packets.{IsInRange}
 use Rattle.fdd_nodes.specs.Trees.{Tree, answers, Tests, Assigns}
 use Rattle.fdd_nodes.specs.Normals.{IsNormal}
-use Rattle.fdd_star.specs.declared.fault.StarFault.{StarFault}
-use Rattle.fdd_star.specs.declared.fault.StarFault.TheVariants.{Memory, Deep}
+use Rattle.fdd_star.specs.declared.fault.StarError.{StarError}
+use Rattle.fdd_star.specs.declared.fault.StarError.TheVariants.{Fault, Memory}
 
 -- out is what p makes of a packet in exactly n turns
 abbrev pub Turns : Tree → ℕ → Packet → Packet → Type 0
@@ -33,7 +33,11 @@ pub record IsDeep (p : Tree) (pk out : Packet) : Type 0 where
   pub made : AtMost p 513 pk out
   pub late : ¬ AtMost p 512 pk out
 
+-- all that any number of turns of p make of a packet in range, 512 turns do
+abbrev pub IsShallow : Tree → Type 0
+IsShallow p = (pk out : Packet) → ¬ IsDeep p pk out
+
 -- nothing is said of memory
-abbrev pub IsFaultOf : Tree → StarFault → Type 0
-IsFaultOf p Memory = Unit {0}
-IsFaultOf p (Deep d) = IsDeep p d.packet d.output
+abbrev pub IsErrorOf : Tree → StarError → Type 0
+IsErrorOf p (Fault f) = IsDeep p f.packet f.output
+IsErrorOf p Memory = Unit {0}

@@ -2,27 +2,27 @@
 use nk_values::Packet;
 use std::alloc::AllocError;
 
-/// A packet, and an output of it that takes 513 turns.
-#[derive(Clone, Copy, Debug, PartialEq, Eq)]
-pub struct StarDeep {
+/// Why a star can't be made: a packet, and an output of it that takes 513 turns.
+#[derive(Clone, Copy)]
+pub struct StarFault {
     pub packet: Packet,
     pub output: Packet,
 }
 
-/// Memory ran out, or some output takes more than 512 turns.
-#[derive(Debug, Drop)]
-pub enum StarFault {
+/// A star can't be made, or memory ran out.
+#[derive(Drop)]
+pub enum StarError {
+    Fault(StarFault),
     Memory,
-    Deep(StarDeep),
 }
 
-impl From<AllocError> for StarFault {
+impl From<AllocError> for StarError {
     ghost use Rattle.std.specs.Prelude.{◌≡◌};
-    ghost use Rattle.fdd_star.specs.declared.fault.StarFault.TheVariants.{Memory};
+    ghost use Rattle.fdd_star.specs.declared.fault.StarError.TheVariants.{Memory};
 
     ghost from_gives = { λ _ e. e ≡ Memory };
 
     fn from(_: AllocError) -> Self {
-        StarFault::Memory
+        StarError::Memory
     }
 }

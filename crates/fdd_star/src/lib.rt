@@ -1,13 +1,11 @@
-// Stars: the finite repetition of a diagram (ICFP 2015, section 3).
+//! Stars: the finite repetition of a diagram (ICFP 2015, section 3).
 #![tactic(auto)]
 
-pub mod fault;
+mod fault;
+mod parts;
 mod reach;
-pub mod repetition;
+mod repetition;
 mod visits;
 
-pub use fault::{StarDeep, StarFault};
+pub use fault::{StarError, StarFault};
 pub use repetition::star;
-
-#[cfg(test)]
-mod tests;

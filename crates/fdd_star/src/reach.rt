@@ -1,5 +1,5 @@
 // What the repetition of a diagram reaches from the packet of a cell.
-use crate::fault::{StarDeep, StarFault};
+use crate::fault::{StarError, StarFault};
 use crate::visits::{Visit, Visits};
 use fdd_differ::unnamed;
 use fdd_nodes::{Assignments, Cell, Fdd};
@@ -25,7 +25,7 @@ impl Reach {
     ghost use Rattle.fdd_nodes.specs.Trees.{Tree, tree, apply};
     ghost use Rattle.fdd_star.specs.Asks.{AreVisits, GoOn, IsVisitOf};
     ghost use Rattle.fdd_star.specs.Reaches.{copies_of, Starts, IsTold, Notes, AsksAll, Grows, IsClosed};
-    ghost use Rattle.fdd_star.specs.Stars.{IsFaultOf};
+    ghost use Rattle.fdd_star.specs.Stars.{IsErrorOf};
 
     /// What any number of turns reach, or an output that takes 513 turns.
     pub(crate) fn of(
@@ -33,12 +33,12 @@ impl Reach {
         p: &Fdd,
         visits: &mut Visits,
         cell: &Cell,
-    ) -> Result<Reach, StarFault>
+    ) -> Result<Reach, StarError>
         requires valid { IsValid cell.now }
         requires visits { AreVisits visits.old }
         requires root { tree visits.old.root.now ≡ tree_of p.now }
         ensures visits { OnOk result (GoOn visits.old visits.new) }
-        ensures reach { MatchResult result (λ r. IsClosed (tree_of p.now) cell.now r) (λ e. IsFaultOf (tree_of p.now) e) }
+        ensures reach { MatchResult result (λ r. IsClosed (tree_of p.now) cell.now r) (λ e. IsErrorOf (tree_of p.now) e) }
     {
         let mut all = Reach::start(alloc, cell)?;
         let mut from = 0;
@@ -56,7 +56,7 @@ impl Reach {
                 let other = unnamed(p.root());
                 let packet = cell.filled(&other);
                 let output = cell.after(late).filled(&other);
-                Err(StarFault::Deep(StarDeep { packet, output }))
+                Err(StarError::Fault(StarFault { packet, output }))
             }
         }
     }

@@ -5,10 +5,12 @@ ghost use Rattle.fdd_nodes.specs.Cells.{IsValid};
 ghost use Rattle.fdd_nodes.specs.Fdds.{tree_of};
 ghost use Rattle.fdd_nodes.specs.Trees.{tree};
 ghost use Rattle.fdd_star.specs.Asks.{AreVisits, GoOn};
+ghost use Rattle.fdd_star.specs.Parts.{base_of, AreParts, GoesOn};
 ghost use Rattle.fdd_star.specs.Reaches.{StarBut};
-ghost use Rattle.fdd_star.specs.Stars.{StarOf, IsFaultOf};
+ghost use Rattle.fdd_star.specs.Stars.{StarOf, IsErrorOf, IsShallow};
 
-use crate::fault::StarFault;
+use crate::fault::StarError;
+use crate::parts::Parts;
 use crate::reach::Reach;
 use crate::visits::Visits;
 use fdd_nodes::{Assignments, Cell, Fdd, Leaf, Node};
@@ -19,22 +21,33 @@ use std::alloc::{AllocError, Global};
 ///
 /// From the packet of a cell, which holds what is fixed and nothing that the diagram names elsewhere, the turns are made
 /// one by one, each on what the one before added. Each test that is asked of a field left open parts the cell: what any
-/// number of turns give where it holds is found anew. 512 turns are made at most; where one more would add something, the
+/// number of turns give where it holds is found once for each cell. 512 turns are made at most; where one more would add something, the
 /// fault has a packet and an output that show it.
-pub fn star(alloc: Global, p: &Fdd) -> Result<Fdd, StarFault>
-    ensures { MatchResult result (λ r. StarOf (tree_of p.now) (tree_of r)) (λ e. IsFaultOf (tree_of p.now) e) }
+pub fn star(alloc: Global, p: &Fdd) -> Result<Fdd, StarError>
+    ensures star { MatchResult result (λ r. StarOf (tree_of p.now) (tree_of r)) (λ e. IsErrorOf (tree_of p.now) e) }
+    ensures never_deep { OnOk result (IsShallow (tree_of p.now)) }
 {
     let mut visits = Visits::new(alloc, p.root());
-    star_in(alloc, p, &mut visits, &Cell::open())
+    let mut parts = Parts::new(alloc, p);
+    star_in(alloc, p, &mut visits, &mut parts, &Cell::open())
 }
 
 // The star on the packets of a cell.
-fn star_in(alloc: Global, p: &Fdd, visits: &mut Visits, cell: &Cell) -> Result<Fdd, StarFault>
+fn star_in(
+    alloc: Global,
+    p: &Fdd,
+    visits: &mut Visits,
+    parts: &mut Parts,
+    cell: &Cell,
+) -> Result<Fdd, StarError>
     requires valid { IsValid cell.now }
     requires visits { AreVisits visits.old }
     requires root { tree visits.old.root.now ≡ tree_of p.now }
+    requires parts { AreParts parts.old }
+    requires base { base_of parts.old ≡ tree_of p.now }
     ensures visits { OnOk result (GoOn visits.old visits.new) }
-    ensures star { MatchResult result (λ r. StarBut (tree_of p.now) cell.now [] (tree_of r)) (λ e. IsFaultOf (tree_of p.now) e) }
+    ensures parts { OnOk result (GoesOn parts.old parts.new) }
+    ensures star { MatchResult result (λ r. StarBut (tree_of p.now) cell.now [] (tree_of r)) (λ e. IsErrorOf (tree_of p.now) e) }
 {
     let Reach {
         mut copies,
@@ -45,8 +58,14 @@ fn star_in(alloc: Global, p: &Fdd, visits: &mut Visits, cell: &Cell) -> Result<F
     let leaf = gathered(alloc, &copies)?;
     let mut all = Fdd::new(Node::Leaf(leaf));
     while let Some(l) = asked.pop_last() {
-        let part = star_in(alloc, p, visits, &cell.with(&l))?;
-        all = choice(alloc, l, &part, all)?;
+        let inner = cell.with(&l);
+        if let Some(part) = parts.get(&inner) {
+            all = choice(alloc, l, part, all)?;
+        } else {
+            let part = star_in(alloc, p, visits, parts, &inner)?;
+            all = choice(alloc, l, &part, all)?;
+            parts.keep(&inner, part)?;
+        }
     }
     Ok(all)
 }

@@ -6,7 +6,8 @@ use Rattle.nk_values.specs.declared.field.Field.TheVariants.{Sw, Pt, EthTyp, IpP
 use Rattle.nk_values.specs.Ranges.{IsLiteralOf}
 use Rattle.nk_syntax.specs.Terms.{Term, Filter, Test, Assign, Dup, One, Zero}
 use Rattle.nk_syntax.specs.Terms as to
-use Rattle.nk_syntax.specs.Prints.{name_of, bracketed, pair_text}
+use Rattle.nk_syntax.specs.Prints.{bracketed, pair_text}
+use Rattle.nk_values.specs.Names.{name_of}
 use Rattle.netkat_parser.specs.declared.sign.Sign.{Sign}
 use Rattle.netkat_parser.specs.declared.sign.Sign.TheVariants as to_sign
 use Rattle.netkat_parser.specs.declared.sign.Sign.TheVariants.{Skip, Name, Equals, Becomes, Plus, Semicolon, Open, Close}

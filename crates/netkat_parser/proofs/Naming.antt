@@ -3,17 +3,17 @@ use Rattle.std.proofs.Common.{◌≡◌, ℕ, ◌+◌, ◌≤◌, inl, inr, Bool
 use Rattle.std.proofs.lemmas.Bool.Decides.{nat_tests}
 use Rattle.nk_values.specs.declared.field.Field.{Field}
 use Rattle.nk_values.specs.declared.field.Field.TheVariants.{IpProto}
-use Rattle.nk_values.specs.Ranges.{place, IsLiteralOf}
-use Rattle.nk_syntax.specs.Terms.{Guard, Guards, One, Zero, Test, Or, And, Not, no_guards, guard, Term, Terms, Filter, Assign, Sum, Seq, Star, Dup, no_terms, term}
+use Rattle.nk_values.specs.Ranges.{place}
+use Rattle.nk_syntax.specs.Terms.{Test, Term, Terms, Filter, Assign, Sum, Seq, Star, Dup, no_terms, term}
 use Rattle.nk_syntax.specs.Views.{term_row}
-use Rattle.netkat_parser.specs.declared.fault.Fault.TheVariants as fault
+use Rattle.nk_values.specs.declared.fault.TextFault.TheVariants as fault
 use Rattle.netkat_parser.specs.declared.sign.Sign.{Sign}
 use Rattle.netkat_parser.specs.declared.sign.Sign.TheVariants as sign
 use Rattle.netkat_parser.specs.Signs.{past, run, past_run}
 use Rattle.netkat_parser.specs.Signs as signs
 use Rattle.netkat_parser.specs.Numbers.{number}
 use Rattle.netkat_parser.specs.Printed.{IsRoomy, guard_named, guards_named, term_named, terms_named}
-use Rattle.netkat_parser.specs.Grammar.{Spot, Got, Read, Bad, step, strays, gathered, negated, taken, all_taken, sum_of, seq_of, closed, closed_by, starred, starred_by, ended, ended_by, start, Where, is_named, is_too_many, with_pair, protos, literal, IsNumber, IsRun, IsPair, IsLeaf, IsPolicy, AreSummands, IsSequence, AreFactors, IsUnary, IsAtom, IsReading, IsText, sum, last_summand, more_summands, sequence, last_factor, more_factors, negation, post, bracket, leaf}
+use Rattle.netkat_parser.specs.Grammar.{Spot, Got, Read, Bad, step, gathered, negated, taken, all_taken, sum_of, seq_of, closed, closed_by, starred, starred_by, ended, ended_by, start, is_named, is_too_many, with_pair, protos, literal, IsNumber, IsRun, IsPair, IsLeaf, IsPolicy, AreSummands, IsSequence, AreFactors, IsUnary, IsAtom, IsText, sum, last_summand, more_summands, sequence, last_factor, more_factors, negation, post, bracket, leaf}
 use Rattle.netkat_parser.proofs.Rooms.{protos-push}
 
 abbrev Names : Type 0

@@ -2,7 +2,7 @@
 use Rattle.std.proofs.Common.{◌≡◌, ℕ, List, ◌++◌, false, sym, ap, ◌∙◌, subst}
 use Rattle.std.proofs.lemmas.List.{append_cancel_right}
 use Rattle.nk_syntax.specs.Terms.{Term}
-use Rattle.netkat_parser.specs.declared.fault.Fault.{Fault}
+use Rattle.nk_values.specs.declared.fault.TextFault.{TextFault}
 use Rattle.netkat_parser.specs.declared.fault.Place.{Place}
 use Rattle.netkat_parser.specs.declared.fault.ParseFault.{ParseFault}
 use Rattle.netkat_parser.specs.declared.sign.Sign.TheVariants.{End}
@@ -17,10 +17,10 @@ whole-text text p s h e = (s, (Read p s, h, sym (ap (ended_by p s) e)))
 pub no-both : (begin : Place) (text : List ℕ) (p : Term) (f : ParseFault) → IsText text p → HasFault begin text f → ⊥
 no-both begin text p f h k = let e = reading-one text (Read p h.0) (Bad f.fault k.at) h.1 k.first in cc
 
-faults : (f g : Fault) (at at' : List ℕ) → ◌≡◌ {A = Got Term} (Bad f at) (Bad g at') → f ≡ g
+faults : (f g : TextFault) (at at' : List ℕ) → ◌≡◌ {A = Got Term} (Bad f at) (Bad g at') → f ≡ g
 faults f g at at' e = cc
 
-ats : (f g : Fault) (at at' : List ℕ) → ◌≡◌ {A = Got Term} (Bad f at) (Bad g at') → at ≡ at'
+ats : (f g : TextFault) (at at' : List ℕ) → ◌≡◌ {A = Got Term} (Bad f at) (Bad g at') → at ≡ at'
 ats f g at at' e = cc
 
 pub fault-one : (begin : Place) (text : List ℕ) (f g : ParseFault) → HasFault begin text f → HasFault begin text g → f ≡ g

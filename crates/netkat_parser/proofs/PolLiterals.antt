@@ -1,6 +1,5 @@
 -- Each number in a policy is a literal of its field.
-use Rattle.std.proofs.Common.{◌≡◌, List, [], ◌∷◌, map, sym, subst}
-use Rattle.nk_syntax.specs.Terms.{Guard, Term}
+use Rattle.std.proofs.Common.{List, [], ◌∷◌, map, sym, subst}
 use Rattle.nk_syntax.specs.Views.{guard_of, guards_of, guard_row, term_of, terms_of, term_row}
 use Rattle.nk_syntax.specs.declared.pred.Pred.{Pred}
 use Rattle.nk_syntax.specs.declared.pred.Preds.{Preds}

@@ -3,8 +3,8 @@ use Rattle.std.proofs.Common.{◌≡◌, ◌≢◌, ℕ, ◌+◌, Bool, true, fa
 use Rattle.std.specs.Borrow.{Bor}
 use Rattle.nk_values.specs.declared.field.Field.{Field}
 use Rattle.nk_syntax.specs.Terms.{Term, Star}
-use Rattle.netkat_parser.specs.declared.fault.Fault as fault_type
-use Rattle.netkat_parser.specs.declared.fault.Fault.TheVariants as fault
+use Rattle.nk_values.specs.declared.fault.TextFault as fault_type
+use Rattle.nk_values.specs.declared.fault.TextFault.TheVariants as fault
 use Rattle.netkat_parser.specs.declared.sign.Sign.{Sign}
 use Rattle.netkat_parser.specs.declared.sign.Sign.TheVariants as to_sign
 use Rattle.netkat_parser.specs.declared.sign.Sign.TheVariants.{Plus, Semicolon, Close}
@@ -64,7 +64,7 @@ module _ (depth : ℕ) (inside : Bool) (s here : Spot) (ps : List Term)
   pub end-summands : (p : Term) (t : Spot) → IsSequence depth inside here (Read p t) → sign t.text ≢ Plus → IsPolicy depth inside s (Read (sum_of (ps ++ p ∷ [])) t)
   end-summands p t h ne = sum depth inside s (Read (ps ++ p ∷ []) t) (read (Read (p ∷ []) t) (last_summand depth inside here (Read p t) h ne))
 
-  pub bad-summand : (f : fault_type.Fault) (at : List ℕ) → IsSequence depth inside here (Bad f at) → IsPolicy depth inside s (Bad f at)
+  pub bad-summand : (f : fault_type.TextFault) (at : List ℕ) → IsSequence depth inside here (Bad f at) → IsPolicy depth inside s (Bad f at)
   bad-summand f at h = sum depth inside s (Bad f at) (read (Bad f at) (last_summand depth inside here (Bad f at) h tt))
 
 -- the factors likewise
@@ -77,5 +77,5 @@ module _ (depth : ℕ) (inside : Bool) (s here : Spot) (ps : List Term)
   pub end-factors : (p : Term) (t : Spot) → IsUnary depth inside here (Read p t) → sign t.text ≢ Semicolon → IsSequence depth inside s (Read (seq_of (ps ++ p ∷ [])) t)
   end-factors p t h ne = sequence depth inside s (Read (ps ++ p ∷ []) t) (read (Read (p ∷ []) t) (last_factor depth inside here (Read p t) h ne))
 
-  pub bad-factor : (f : fault_type.Fault) (at : List ℕ) → IsUnary depth inside here (Bad f at) → IsSequence depth inside s (Bad f at)
+  pub bad-factor : (f : fault_type.TextFault) (at : List ℕ) → IsUnary depth inside here (Bad f at) → IsSequence depth inside s (Bad f at)
   bad-factor f at h = sequence depth inside s (Bad f at) (read (Bad f at) (last_factor depth inside here (Bad f at) h tt))

@@ -4,8 +4,6 @@ use Rattle.std.proofs.lemmas.Bool.{eq-eqb, eqb-true}
 use Rattle.std.proofs.lemmas.List.{map-append}
 use Rattle.indexmap.specs.IndexSet.{insert_key}
 use Rattle.std.specs.List.{list_any}
-use Rattle.nk_values.specs.declared.field.Field.{Field}
-use Rattle.nk_values.specs.declared.field.Field.TheVariants.{Sw, Pt, EthTyp, IpProto, EthSrc, EthDst, Ip4Src, Ip4Dst, TcpSrcPort, TcpDstPort}
 use Rattle.nk_values.specs.Ranges.{place}
 use Rattle.nk_values.specs.declared.lit.Lit.{Lit}
 use Rattle.nk_values.specs.Lits.{lit_field, lit_value}

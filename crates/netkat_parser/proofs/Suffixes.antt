@@ -3,7 +3,7 @@ use Rattle.std.proofs.Common.{◌≡◌, ℕ, ◌+◌, ◌-◌, ◌≤◌, inl, 
 use Rattle.std.proofs.lemmas.List.{take-append-drop, take_at}
 use Rattle.nk_values.specs.declared.field.Field.{Field}
 use Rattle.nk_syntax.specs.Terms.{Term, Filter, Test, Assign}
-use Rattle.netkat_parser.specs.declared.fault.Fault as fault_type
+use Rattle.nk_values.specs.declared.fault.TextFault as fault_type
 use Rattle.netkat_parser.specs.declared.sign.Sign.{Sign}
 use Rattle.netkat_parser.specs.declared.sign.Sign.TheVariants as to_sign
 use Rattle.netkat_parser.specs.declared.sign.Sign.TheVariants.{Dup, Name, Equals, Becomes, Close, Star, End}
@@ -159,7 +159,7 @@ ends-reading text o h =
     (ends-ended text h.0 (ends-trans (ahead false text) text h.0 (end-ahead false text) (ends-policy 0 false (start text) h.0 h.1)))
 
 -- the text from a fault on is the end of the text
-pub end-fault : (text : List ℕ) (f : fault_type.Fault) (at : List ℕ) → IsReading text (Bad f at) → IsEnd at text
+pub end-fault : (text : List ℕ) (f : fault_type.TextFault) (at : List ℕ) → IsReading text (Bad f at) → IsEnd at text
 end-fault text f at h = ends-reading text (Bad f at) h
 
 pub end-short : (at text : List ℕ) → IsEnd at text → length at ≤ length text

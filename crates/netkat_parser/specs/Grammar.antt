@@ -12,8 +12,8 @@ use Rattle.nk_values.specs.Ranges.{place, IsLiteralOf}
 use Rattle.nk_syntax.specs.Terms.{Guard, Guards, One, Zero, Test, Or, And, no_guards, guard, Term, Terms, Filter, Assign, Sum, Seq, Dup, no_terms, term}
 use Rattle.nk_syntax.specs.Terms as to
 use Rattle.nk_syntax.specs.Views.{term_row}
-use Rattle.netkat_parser.specs.declared.fault.Fault.{Fault}
-use Rattle.netkat_parser.specs.declared.fault.Fault.TheVariants as fault
+use Rattle.nk_values.specs.declared.fault.TextFault.{TextFault}
+use Rattle.nk_values.specs.declared.fault.TextFault.TheVariants as fault
 use Rattle.netkat_parser.specs.declared.sign.Sign.{Sign}
 use Rattle.netkat_parser.specs.declared.sign.Sign.TheVariants as to_sign
 use Rattle.netkat_parser.specs.declared.sign.Sign.TheVariants.{Name, Equals, Becomes, Plus, Semicolon, Star, Open, Close, End}
@@ -28,7 +28,7 @@ pub record Spot : Type 0 where
 -- what was read, and the spot behind it; or a fault, and the text from it on
 pub data Got (A : Type 0) : Type 0 where
   Read : A → Spot → Got A
-  Bad : Fault → List ℕ → Got A
+  Bad : TextFault → List ℕ → Got A
 
 -- at the first sign of a text
 abbrev pub start : List ℕ → Spot
@@ -39,7 +39,7 @@ abbrev pub step : Spot → Spot
 step s = record { text = past s.text; named = s.named }
 
 -- the fault of a sign where the grammar has no place for it, with so many brackets and nots open
-abbrev pub stray : ℕ → Sign → Fault
+abbrev pub stray : ℕ → Sign → TextFault
 stray depth to_sign.Strange = fault.BadChar
 stray depth to_sign.Unlisted = fault.UnknownName
 stray depth Open = if nat_le 200 depth then fault.TooDeep else fault.Unexpected

@@ -1,5 +1,4 @@
 pub mod Answers
-pub mod Faults
 pub mod Grammar
 pub mod Laws
 pub mod Numbers

@@ -4,8 +4,7 @@ use Rattle.std.specs.List.{find, prefix_len, take_while}
 use Rattle.std.specs.Char.{is_ascii_alphabetic, is_ascii_alphanumeric}
 use Rattle.std.specs.Str.{bytes_eq}
 use Rattle.nk_values.specs.declared.field.Field.{Field}
-use Rattle.nk_values.specs.declared.field.Field.TheVariants.{Sw, Pt, EthTyp, IpProto, EthSrc, EthDst, Ip4Src, Ip4Dst, TcpSrcPort, TcpDstPort}
-use Rattle.nk_syntax.specs.Prints.{name_of}
+use Rattle.nk_values.specs.Names.{name_of, all_fields}
 use Rattle.netkat_parser.specs.declared.sign.Sign.{Sign}
 use Rattle.netkat_parser.specs.declared.sign.Sign.TheVariants.{Skip, Drop, Dup, Not, Name, Equals, Becomes, Plus, Semicolon, Star, Open, Close, End, Unlisted, Strange}
 
@@ -19,10 +18,6 @@ ahead in_comment [] = []
 ahead true (b ∷ bs) = ahead (not (b == 10)) bs
 ahead false (b ∷ bs) = if is_blank b then ahead false bs else if b == 35 then ahead true bs else b ∷ bs
 
--- the fields in field order
-abbrev pub fields : List Field
-fields = Sw ∷ Pt ∷ EthTyp ∷ IpProto ∷ EthSrc ∷ EthDst ∷ Ip4Src ∷ Ip4Dst ∷ TcpSrcPort ∷ TcpDstPort ∷ []
-
 abbrev pub field_sign : Option Field → Sign
 field_sign None = Unlisted
 field_sign (Some f) = Name f
@@ -32,7 +27,7 @@ abbrev pub word : List ℕ → Sign
 word w =
     if bytes_eq w (codes "skip") then Skip else if bytes_eq w (codes "drop") then Drop else
     if bytes_eq w (codes "dup") then Dup else if bytes_eq w (codes "not") then Not else
-    field_sign (find (λ f. bytes_eq w (name_of f)) fields)
+    field_sign (find (λ f. bytes_eq w (name_of f)) all_fields)
 
 -- the sign of a byte that is no letter: `+`, `;`, `*`, `(`, `)` or `=`
 abbrev pub mark : ℕ → Sign

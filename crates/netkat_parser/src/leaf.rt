@@ -8,26 +8,25 @@ ghost use Rattle.netkat_parser.specs.Answers.{spot, Gives, GivesLit};
 ghost use Rattle.netkat_parser.specs.Pairs.{pairs};
 ghost use Rattle.netkat_parser.specs.declared.sign.Sign.TheVariants.{Not, Open};
 
-use crate::fault::Fault;
 use crate::named::Named;
 use crate::number::literal;
 use crate::sign::{Sign, first_sign, past, split_run};
 use crate::stop::Stop;
 use nk_syntax::{Pol, Pols, Pred};
-use nk_values::{Field, Lit};
+use nk_values::{Field, Lit, TextFault};
 
 // How many brackets and nots may be open.
 const MOST_OPEN: u32 = 200;
 
 /// The fault of a sign where the grammar has no place for it.
-pub fn stray(depth: u32, sign: Sign) -> Fault
+pub fn stray(depth: u32, sign: Sign) -> TextFault
     ensures { result ≡ stray depth sign }
 {
     match sign {
-        Sign::Strange => Fault::BadChar,
-        Sign::Unlisted => Fault::UnknownName,
-        Sign::Open | Sign::Not if depth >= MOST_OPEN => Fault::TooDeep,
-        _ => Fault::Unexpected,
+        Sign::Strange => TextFault::BadChar,
+        Sign::Unlisted => TextFault::UnknownName,
+        Sign::Open | Sign::Not if depth >= MOST_OPEN => TextFault::TooDeep,
+        _ => TextFault::Unexpected,
     }
 }
 
@@ -58,7 +57,7 @@ pub fn leaf<'a>(
     match first_sign(text) {
         Sign::Skip => Ok((Pol::Filter(Pred::One), past(text))),
         Sign::Drop => Ok((Pol::Filter(Pred::Zero), past(text))),
-        Sign::Dup if inside => Err(Stop::Fault(Fault::NotPredicate, text)),
+        Sign::Dup if inside => Err(Stop::Fault(TextFault::NotPredicate, text)),
         Sign::Dup => Ok((Pol::Dup, past(text))),
         Sign::Name(field) => pair(named, depth, inside, field, past(text)),
         sign => Err(Stop::Fault(stray(depth, sign), text)),
@@ -81,7 +80,7 @@ fn pair<'a>(
             let (lit, rest) = value(named, depth, field, past(text))?;
             Ok((Pol::Filter(Pred::Test(lit)), rest))
         }
-        Sign::Becomes if inside => Err(Stop::Fault(Fault::NotPredicate, text)),
+        Sign::Becomes if inside => Err(Stop::Fault(TextFault::NotPredicate, text)),
         Sign::Becomes => {
             let (lit, rest) = value(named, depth, field, past(text))?;
             Ok((Pol::Assign(lit), rest))
@@ -106,12 +105,12 @@ fn value<'a>(
         return Err(Stop::Fault(stray(depth, first_sign(text)), text));
     }
     let Some(lit) = literal(field, run) else {
-        return Err(Stop::Fault(Fault::ValueRange, text));
+        return Err(Stop::Fault(TextFault::ValueRange, text));
     };
     if named.name(lit)? {
         Ok((lit, rest))
     } else {
-        Err(Stop::Fault(Fault::TooManyValues, text))
+        Err(Stop::Fault(TextFault::TooManyValues, text))
     }
 }
 

@@ -1,18 +1,19 @@
-// Policies from their text.
+//! Policies from their text.
 #![tactic(auto)]
 
-pub mod fault;
-pub mod laws;
+mod fault;
+mod laws;
 mod leaf;
 mod named;
-pub mod number;
-pub mod parse;
+mod number;
+mod parse;
 mod parser;
-pub mod sign;
+mod sign;
 mod stop;
 mod taken;
-#[cfg(test)]
-mod tests;
 
-pub use fault::{Fault, ParseError, ParseFault, Place};
-pub use parse::{parse_policy, parse_policy_at};
+pub use fault::{ParseError, ParseFault, Place};
+pub use laws::{names_few, one_reading, read_back};
+pub use number::{GREATEST, cut, has_form, number_of, numeral};
+pub use parse::{parse_policy, parse_policy_at, place_behind};
+pub use sign::is_run_byte;

@@ -32,14 +32,14 @@ impl Part {
 pub fn literal(field: Field, run: &[u8]) -> Option<Lit>
     ensures { IsWritten field run.now result }
 {
-    match number(field, run) {
+    match number_of(field, run) {
         Some(n) => Lit::new(field, n),
         None => None,
     }
 }
 
 /// The number that a run writes for a field, where it is at most the greatest of any field.
-pub fn number(field: Field, run: &[u8]) -> Option<u64>
+pub fn number_of(field: Field, run: &[u8]) -> Option<u64>
     ensures { IsUpTo GREATEST (number field run.now) result }
 {
     match behind_0x(run) {

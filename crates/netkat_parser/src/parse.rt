@@ -8,13 +8,14 @@ ghost use Rattle.netkat_parser.specs.Answers.{ReadsAll};
 ghost use Rattle.netkat_parser.specs.declared.fault.ParseError.{ParseError as Error};
 ghost use Rattle.netkat_parser.specs.declared.fault.ParseFault.{ParseFault as Located};
 
-use crate::fault::{Fault, ParseError, ParseFault, Place};
+use crate::fault::{ParseError, ParseFault, Place};
 use crate::leaf::stray;
 use crate::named::Named;
 use crate::parser::policy;
 use crate::sign::{Sign, ahead, first_sign};
 use crate::stop::Stop;
 use nk_syntax::Pol;
+use nk_values::TextFault;
 use std::alloc::Global;
 
 /// Reads a whole text as a policy, or tells its first fault. Lines and columns count from 1,
@@ -73,7 +74,7 @@ fn whole(alloc: Global, text: &[u8]) -> Result<Pol, Stop<'_>>
 }
 
 // The fault with its place, where `at` is the text from there on.
-fn located(text: &[u8], begin: Place, fault: Fault, at: &[u8]) -> ParseFault
+fn located(text: &[u8], begin: Place, fault: TextFault, at: &[u8]) -> ParseFault
     requires lines { begin.line + length text.now < 2 ^ 64 }
     requires columns { begin.column + length text.now < 2 ^ 64 }
     requires first { IsReading text.now (Bad fault at.now) }

@@ -5,13 +5,13 @@ ghost use Rattle.netkat_parser.specs.Grammar.{IsPolicy, IsSequence, IsUnary, IsA
 ghost use Rattle.netkat_parser.specs.Answers.{spot, Gives};
 ghost use Rattle.netkat_parser.specs.Pairs.{pairs};
 
-use crate::fault::Fault;
 use crate::leaf::{leaf, opens_bracket, opens_not, seq, stray, sum};
 use crate::named::Named;
 use crate::sign::{Sign, first_sign, past};
 use crate::stop::Stop;
 use crate::taken::taken;
 use nk_syntax::{Pol, Pred};
+use nk_values::TextFault;
 use std::alloc::Global;
 
 /// A chain of `+`.
@@ -81,7 +81,7 @@ fn unary<'a>(
     }
     let (pol, rest) = atom(alloc, named, depth, inside, text)?;
     match first_sign(rest) {
-        Sign::Star if inside => Err(Stop::Fault(Fault::NotPredicate, rest)),
+        Sign::Star if inside => Err(Stop::Fault(TextFault::NotPredicate, rest)),
         Sign::Star => Ok((Pol::Star(Box::new(alloc, pol)?), past(rest))),
         _ => Ok((pol, rest)),
     }

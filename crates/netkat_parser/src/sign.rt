@@ -4,10 +4,9 @@ ghost use Rattle.netkat_parser.specs.declared.sign.Sign.TheVariants.{End};
 ghost use Rattle.std.specs.List.{prefix_len, find};
 ghost use Rattle.std.specs.Str.{bytes_eq};
 ghost use Rattle.std.specs.Char.{is_ascii_alphanumeric};
-ghost use Rattle.nk_syntax.specs.Prints.{name_of};
-ghost use Rattle.netkat_parser.specs.Signs.{is_blank, ahead, fields, word, mark, is_becomes, sign, sign_len, past, is_run_byte, run, past_run};
+ghost use Rattle.nk_values.specs.Names.{name_of, all_fields};
+ghost use Rattle.netkat_parser.specs.Signs.{is_blank, ahead, word, mark, is_becomes, sign, sign_len, past, is_run_byte, run, past_run};
 
-use nk_syntax::field_name;
 use nk_values::Field;
 
 /// A token. `End` is the end of the text, `Unlisted` a name that is not listed, `Strange` a byte
@@ -180,24 +179,12 @@ fn word(name: &[u8]) -> Sign
 }
 
 fn field_named(name: &[u8]) -> Option<Field>
-    ensures { result ≡ find (λ f. bytes_eq name.now (name_of f)) fields }
+    ensures { result ≡ find (λ f. bytes_eq name.now (name_of f)) all_fields }
 {
-    let fields = [
-        Field::Sw,
-        Field::Pt,
-        Field::EthTyp,
-        Field::IpProto,
-        Field::EthSrc,
-        Field::EthDst,
-        Field::Ip4Src,
-        Field::Ip4Dst,
-        Field::TcpSrcPort,
-        Field::TcpDstPort,
-    ];
-    fields
+    Field::ALL
         .iter()
         .copied()
-        .find(|field| is_text(name, field_name(*field)))
+        .find(|field| is_text(name, field.name()))
 }
 
 fn is_text(bytes: &[u8], text: &str) -> bool

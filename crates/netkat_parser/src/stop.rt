@@ -2,13 +2,13 @@
 ghost use Rattle.std.specs.Prelude.{◌≡◌};
 ghost use Rattle.netkat_parser.specs.declared.stop.Stop.TheVariants.{Memory};
 
-use crate::fault::Fault;
+use nk_values::TextFault;
 use std::alloc::{AllocError, AllocFailed};
 
 /// A fault and the text from it on, or want of memory.
 #[derive(Clone, Copy, Debug)]
 pub enum Stop<'a> {
-    Fault(Fault, &'a [u8]),
+    Fault(TextFault, &'a [u8]),
     Memory,
 }
 

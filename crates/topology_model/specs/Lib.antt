@@ -1,7 +1,6 @@
 pub mod Causes
 pub mod Drafts
 pub mod Ends
-pub mod Faults
 pub mod Layouts
 pub mod Lines
 pub mod Topologies

@@ -8,8 +8,8 @@ use Rattle.topology_model.specs.Layouts.{Layout, place_of, both_ways, has_switch
 use Rattle.topology_model.specs.declared.line.Site.{Site}
 use Rattle.topology_model.specs.declared.line.TopoLine.{TopoLine}
 use Rattle.topology_model.specs.declared.line.TopoLine.TheVariants.{Switch, Link}
-use Rattle.topology_model.specs.declared.fault.TopoFault.{TopoFault}
-use Rattle.topology_model.specs.declared.fault.TopoFault.TheVariants.{DupSwitch, UnknownSwitch, UnknownPort, PortUsedTwice, TooMany, NoEdge}
+use Rattle.nk_values.specs.declared.fault.TextFault.{TextFault}
+use Rattle.nk_values.specs.declared.fault.TextFault.TheVariants.{DupSwitch, UnknownSwitch, UnknownPort, PortUsedTwice, TooMany, NoEdge}
 
 -- the numbers of an end are a packet's
 abbrev pub IsEnd : ℕ × ℕ → Type 0
@@ -43,7 +43,7 @@ has_repeat [] = false
 has_repeat (n ∷ ns) = list_any (λ m. m == n) ns || has_repeat ns
 
 -- The fault of a line behind those that declared this much; where it has several, the first of them in this order.
-abbrev pub line_fault : Layout → TopoLine → Option TopoFault
+abbrev pub line_fault : Layout → TopoLine → Option TextFault
 line_fault t (Switch sw ports) =
     if has_switch t.switches sw then Some DupSwitch
     else (if nat_le 256 (length t.switches) || nat_lt 256 (length ports) then Some TooMany
@@ -56,15 +56,15 @@ line_fault t (Link a b) =
     else None))
 
 -- the fault at a place of the list: that of its line, and behind the last line that there is no edge port
-abbrev pub fault_from : Layout → Option TopoLine → Option TopoFault
+abbrev pub fault_from : Layout → Option TopoLine → Option TextFault
 fault_from t (Some l) = line_fault t l
 fault_from t None = no_edge (edges_of t)
   where
-    no_edge : List Place → Option TopoFault
+    no_edge : List Place → Option TextFault
     no_edge [] = Some NoEdge
     no_edge (a ∷ as') = None
 
-abbrev pub fault_at : List TopoLine → ℕ → Option TopoFault
+abbrev pub fault_at : List TopoLine → ℕ → Option TextFault
 fault_at lines k = fault_from (layout_of (take k lines)) (slice_get lines k)
 
 -- no place is at fault
@@ -72,6 +72,6 @@ abbrev pub IsFaultless : List TopoLine → Type 0
 IsFaultless lines = (k : ℕ) → fault_at lines k ≡ None
 
 -- this fault is at this place, and none is before it
-pub record IsFirstFault (lines : List TopoLine) (fault : TopoFault) (place : ℕ) : Type 0 where
+pub record IsFirstFault (lines : List TopoLine) (fault : TextFault) (place : ℕ) : Type 0 where
   pub here : fault_at lines place ≡ Some fault
   pub before : (k : ℕ) → k < place → fault_at lines k ≡ None

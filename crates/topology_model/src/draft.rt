@@ -4,11 +4,17 @@ ghost use Rattle.std.specs.List.{flat_map};
 ghost use Rattle.topology_model.specs.Layouts.{place_of, place_in, has_switch, has_port, far_end, is_linked, is_edge, places_at, edges_of};
 ghost use Rattle.topology_model.specs.Lines.{has_repeat};
 
-use crate::fault::{LineError, TopoFault};
+use crate::fault::LineError;
 use crate::line::{End, Ports, Site, TopoLine};
+use nk_values::{List, TextFault};
 use std::alloc::{AllocError, Global};
 use std::collections::HashMap;
 use std::marker::Model;
+
+/// How many switches there may be, and how many ports a switch may have.
+pub const MOST_SWITCHES: usize = 256;
+
+pub const MOST_PORTS: usize = 256;
 
 /// The switches, ports and links of some lines without a fault. There need be no edge port yet.
 #[derive(Drop)]
@@ -110,7 +116,7 @@ impl Draft {
     }
 
     /// The fault of a line behind the lines so far, if it has one.
-    pub fn fault(&self, line: &TopoLine) -> Option<TopoFault>
+    pub fn fault(&self, line: &TopoLine) -> Option<TextFault>
         ensures { result ≡ line_fault self.now line.now }
     {
         match line {
@@ -120,30 +126,30 @@ impl Draft {
     }
 
     // The fault of a switch line.
-    fn switch_fault(&self, sw: u16, ports: &Ports) -> Option<TopoFault>
+    fn switch_fault(&self, sw: u16, ports: &Ports) -> Option<TextFault>
         ensures { result ≡ line_fault self.now (TopoLine.Switch sw ports.now) }
     {
         if self.has_switch(sw) {
-            Some(TopoFault::DupSwitch)
-        } else if self.switches.len() >= 256 || ports.as_slice().len() > 256 {
-            Some(TopoFault::TooMany)
+            Some(TextFault::DupSwitch)
+        } else if self.switches.len() >= MOST_SWITCHES || ports.len() > MOST_PORTS {
+            Some(TextFault::TooMany)
         } else if has_repeat(ports.as_slice()) {
-            Some(TopoFault::PortUsedTwice)
+            Some(TextFault::PortUsedTwice)
         } else {
             None
         }
     }
 
     // The fault of a link line.
-    fn link_fault(&self, a: End, b: End) -> Option<TopoFault>
+    fn link_fault(&self, a: End, b: End) -> Option<TextFault>
         ensures { result ≡ line_fault self.now (TopoLine.Link a b) }
     {
         if !(self.has_switch(a.0) && self.has_switch(b.0)) {
-            Some(TopoFault::UnknownSwitch)
+            Some(TextFault::UnknownSwitch)
         } else if !(self.has_port(a) && self.has_port(b)) {
-            Some(TopoFault::UnknownPort)
+            Some(TextFault::UnknownPort)
         } else if self.is_linked(a) || self.is_linked(b) || a == b {
-            Some(TopoFault::PortUsedTwice)
+            Some(TextFault::PortUsedTwice)
         } else {
             None
         }
@@ -205,7 +211,7 @@ impl Draft {
         } = self;
         put_edges(&mut far_ends, sw, ports.as_slice())?;
         places.insert(sw, switches.len())?;
-        let ports = ports.copy(alloc)?;
+        let ports = copied(alloc, ports)?;
         switches.push(Site { sw, ports })?;
         Ok(Draft {
             switches,
@@ -255,6 +261,13 @@ fn put_edges(
         far_ends.insert((sw, *port), None)?;
     }
     Ok(())
+}
+
+// The same ports.
+fn copied(alloc: Global, ports: &Ports) -> Result<Ports, AllocError>
+    ensures { IfOk result (λ p. p ≡ ports.now) }
+{
+    Ok(List::of(Vec::from_slice(alloc, ports.as_slice())?))
 }
 
 // Whether some number comes twice. There are few.

@@ -1,46 +1,13 @@
 // Why lines make no topology.
 ghost use Rattle.std.specs.Prelude.{◌≡◌};
-ghost use Rattle.topology_model.specs.Faults.{number_of};
 
+use nk_values::TextFault;
 use std::alloc::AllocError;
-
-/// What is wrong with a line, or with the lines as a whole.
-#[derive(Clone, Copy, Debug, PartialEq, Eq, Hash)]
-pub enum TopoFault {
-    /// A switch that was declared before.
-    DupSwitch,
-    /// A link to a switch that was not declared before.
-    UnknownSwitch,
-    /// A link to a port that its switch does not have.
-    UnknownPort,
-    /// A port twice in a switch line, or in two ends of links.
-    PortUsedTwice,
-    /// The 257th switch, or a switch with a 257th port.
-    TooMany,
-    /// No port without a link.
-    NoEdge,
-}
-
-impl TopoFault {
-    /// Its number, 31 to 36.
-    pub fn number(self) -> u8
-        ensures { result ≡ number_of self }
-    {
-        match self {
-            TopoFault::DupSwitch => 31,
-            TopoFault::UnknownSwitch => 32,
-            TopoFault::UnknownPort => 33,
-            TopoFault::PortUsedTwice => 34,
-            TopoFault::TooMany => 35,
-            TopoFault::NoEdge => 36,
-        }
-    }
-}
 
 /// Why a line could not be added.
 #[derive(Clone, Copy, Debug, PartialEq, Eq)]
 pub enum LineError {
-    Fault(TopoFault),
+    Fault(TextFault),
     Memory,
 }
 
@@ -73,7 +40,7 @@ impl LineError {
 /// (for `NoEdge` the list's length), or want of memory.
 #[derive(Clone, Copy, Debug, PartialEq, Eq)]
 pub enum TopoError {
-    Fault { fault: TopoFault, place: usize },
+    Fault { fault: TextFault, place: usize },
     Memory,
 }
 

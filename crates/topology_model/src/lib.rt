@@ -1,15 +1,13 @@
-// Topologies: switches with their ports, links and edge ports.
+//! Topologies: switches with their ports, links and edge ports.
 #![tactic(auto)]
 
-pub mod draft;
-pub mod fault;
-pub mod line;
-pub mod terms;
-#[cfg(test)]
-mod tests;
-pub mod topology;
+mod draft;
+mod fault;
+mod line;
+mod terms;
+mod topology;
 
-pub use draft::Draft;
-pub use fault::{LineError, TopoError, TopoFault};
+pub use draft::{Draft, MOST_PORTS, MOST_SWITCHES};
+pub use fault::{LineError, TopoError};
 pub use line::{End, Ports, Site, TopoLine};
 pub use topology::Topology;

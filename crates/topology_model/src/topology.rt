@@ -9,10 +9,11 @@ ghost use Rattle.topology_model.specs.Lines.{IsLineInRange, layout_of, fault_fro
 ghost use Rattle.topology_model.specs.Causes.{IsEndCause, IsCause};
 
 use crate::draft::Draft;
-use crate::fault::{LineError, TopoError, TopoFault};
+use crate::fault::{LineError, TopoError};
 use crate::line::{End, Site, TopoLine};
 use crate::terms::{going, standing_at};
 use nk_syntax::{Pol, Pols};
+use nk_values::TextFault;
 use std::alloc::{AllocError, Global};
 use std::marker::Model;
 
@@ -63,7 +64,7 @@ impl Topology {
     {
         let edges = draft.edges(alloc)?;
         if edges.is_empty() {
-            return Err(LineError::Fault(TopoFault::NoEdge));
+            return Err(LineError::Fault(TextFault::NoEdge));
         }
         Ok(Topology { draft, edges })
     }

@@ -44,7 +44,7 @@ pub build-returns-in_ok-part-in-Star : goal.build-returns-in_ok-part-in-Star
 build-returns-in_ok-part-in-Star t c =
     let built = subst (λ (p : Pol). BuiltOf (term_of p) (tree_of c.in_ok-part-in-Star.part)) c.deref-in-Star.ensures c.in_ok-part-in-Star.ensures in
     let flat = flat_star _ c.in-Star.inner c.in-Star.is c.requires.flat in
-    cases c.star.result _ _ _ _ c.star.ensures
+    cases c.star.result _ _ _ _ c.star.ensures.star
     (λ r s. built_star_of _ c.in-Star.inner _ _ c.in-Star.is flat built s)
     (λ e k. deep_here _ c.in-Star.inner _ e c.in-Star.is built k)
 

@@ -1,0 +1,11 @@
+use Rattle.std.proofs.Common.{ap, ◌∙◌}
+use Rattle.std.specs.Map.{lookup}
+use Rattle.nk_values.specs.declared.packet.Packet.{Packet}
+use Rattle.fdd_star.specs.Parts.{IsPart, base_of}
+use Rattle.fdd_star.proofs.EqualLaws.{packet_eq}
+use Rattle.fdd_star.proofs.KeptLaws.{found_right}
+use Rattle.fdd_star.proofs.parts.Parts.get.Goals as goal
+
+pub returns : goal.returns
+returns c =
+    found_right (IsPart (base_of c.args.self.now)) _ _ _ c.requires.right (c.get.ensures.value ∙ ap (λ (q : Packet). lookup (packet_eq q) c.args.self.now.known.entries) c.generic.ensures)
