@@ -138,14 +138,14 @@ mutual
   ends-summands depth inside s o (last_summand d i t q h e) = ends-gathered (λ p. p ∷ []) t.text q (ends-sequence d i t q h)
   ends-summands depth inside s o (more_summands d i t p u q h e k) = ends-more t u p q (ends-sequence d i t _ h) (ends-summands d i (step u) q k)
 
-  ends-sequence : (depth : ℕ) (inside : Bool) (s : Spot) (o : Got Term) → IsSequence depth inside s o → Ends s.text o
+  pub ends-sequence : (depth : ℕ) (inside : Bool) (s : Spot) (o : Got Term) → IsSequence depth inside s o → Ends s.text o
   ends-sequence depth inside s o (sequence d i t q h) = ends-gathered seq_of t.text q (ends-factors d i t q h)
 
   ends-factors : (depth : ℕ) (inside : Bool) (s : Spot) (o : Got (List Term)) → AreFactors depth inside s o → Ends s.text o
   ends-factors depth inside s o (last_factor d i t q h e) = ends-gathered (λ p. p ∷ []) t.text q (ends-unary d i t q h)
   ends-factors depth inside s o (more_factors d i t p u q h e k) = ends-more t u p q (ends-unary d i t _ h) (ends-factors d i (step u) q k)
 
-  ends-unary : (depth : ℕ) (inside : Bool) (s : Spot) (o : Got Term) → IsUnary depth inside s o → Ends s.text o
+  pub ends-unary : (depth : ℕ) (inside : Bool) (s : Spot) (o : Got Term) → IsUnary depth inside s o → Ends s.text o
   ends-unary depth inside s o (negation d i t q n h) = ends-gathered negated t.text q (ends-step t q (ends-unary (d + 1) true (step t) q h))
   ends-unary depth inside s o (post d i t q n h) = ends-starred i t.text q (ends-atom d i t q h)
 

@@ -1,9 +1,10 @@
 // Laws of the grammar, as contracts.
-ghost use Rattle.netkat_parser.specs.Laws.{NamesFew, OneOutcome, OneReading, ReadBack, ReadBackPol};
+ghost use Rattle.netkat_parser.specs.Laws.{NamesFew, OneOutcome, OneReading, SomeOutcome, ReadBack, ReadBackPol};
 
-/// A text has one outcome: one policy, or one fault at one place. So it has at most one reading.
+/// A text has exactly one outcome: it is read as one policy, or has one first fault at one place.
 pub fn one_reading()
     ensures outcome { OneOutcome }
+    ensures some { SomeOutcome }
     ensures reading { OneReading }
 {}
 

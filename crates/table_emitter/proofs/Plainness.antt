@@ -12,7 +12,7 @@ use Rattle.nk_values.proofs.Ranged.{whole}
 use Rattle.nk_syntax.specs.Terms.{Term, Terms, Filter, Assign, Sum, Seq, Star, Dup, no_terms, term}
 use Rattle.history_meaning.specs.Plain.{IsSettable, IsBare, AreBare, IsPlain}
 use Rattle.fdd_nodes.specs.Trees.{Tree}
-use Rattle.fdd_compile.specs.declared.fault.CompileFault.{CompileFault}
+use Rattle.nk_values.specs.declared.fault.CompileFault.{CompileFault}
 use Rattle.fdd_compile.specs.Compiles.{CompiledOf}
 use Rattle.fdd_compile.specs.Leftmost.{assignment_fault, first_of, leftmost, leftmost_of}
 use Rattle.fdd_compile.specs.Named.{TermAssigns, TermsAssign}

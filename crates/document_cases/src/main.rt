@@ -1,0 +1,75 @@
+//! Reads documents from standard input, each behind a line `== ..`, and prints that line and what the document
+//! says in short, or the line and the column of its first fault with the fault's number and name.
+//!
+//! The lines of a document are joined by LF, so the last one has none. `\r` stands for CR.
+#![tactic(auto)]
+
+use document_text::{Document, DocumentError, PacketLine, read_document};
+use nk_values::Field;
+use std::alloc::{AllocError, Global};
+use std::io;
+
+fn main(rt: HostRuntime) -> io::Result<()> {
+    let alloc = rt.alloc();
+    let text = io::read_to_string(alloc, rt.stdin())?;
+    for block in text.split("== ") {
+        if let Some((name, document)) = block.split_once("\n") {
+            let document = document.strip_suffix("\n").unwrap_or(document);
+            let bytes = document.replace(alloc, "\\r", "\r")?;
+            println!(rt; "== {name}\n{}", answer(alloc, &bytes)?)?;
+        }
+    }
+    Ok(())
+}
+
+// What a document says, or the place of its fault, its number and its name.
+fn answer(alloc: Global, document: &str) -> Result<String, AllocError> {
+    match read_document(alloc, document.as_bytes()) {
+        Ok(document) => told(alloc, &document),
+        Err(DocumentError::Fault(it)) => format!(in alloc;
+            "{}:{} {}",
+            it.line, it.column, it.fault
+        ),
+        Err(DocumentError::Memory) => Err(AllocError),
+    }
+}
+
+// The parts of a document: counts and settings, and then policies, packets and events, each in a line.
+fn told(alloc: Global, document: &Document) -> Result<String, AllocError> {
+    let topology = &document.topology;
+    let settings = document.settings;
+    let mut out = format!(in alloc;
+        "{} switches, {} links, {} edge ports; hops {}, capacity {}, stamps {} to {}",
+        topology.switches().len(),
+        topology.links().len(),
+        topology.edges().len(),
+        settings.hops,
+        settings.capacity,
+        settings.stamps.0,
+        settings.stamps.1
+    )?;
+    for policy in &document.policies {
+        let printed = policy.print(alloc)?;
+        out.push_str(&format!(in alloc; "\npolicy {printed}")?)?;
+    }
+    for packet in &document.packets {
+        out.push_str(&packet_text(alloc, packet)?)?;
+    }
+    for it in &document.schedule {
+        out.push_str(&format!(in alloc; "\nline {}: {:?}", it.line, it.event)?)?;
+    }
+    Ok(out)
+}
+
+// A packet in a line of its own: its place, its fields and its tag.
+fn packet_text(alloc: Global, line: &PacketLine) -> Result<String, AllocError> {
+    let packet = line.packet;
+    let mut out = format!(in alloc; "\npacket {}:{}", packet.sw, packet.pt)?;
+    for field in Field::HEADER {
+        out.push_str(&format!(in alloc; " {field}={}", packet.get(field))?)?;
+    }
+    if let Some(id) = line.tag.id() {
+        out.push_str(&format!(in alloc; " vlan={id}")?)?;
+    }
+    Ok(out)
+}

@@ -1,0 +1,65 @@
+// The results of a small star, by hand.
+use history_meaning::some_results;
+use nk_syntax::{Pol, Pols, Pred};
+use nk_values::{Field, Header, History, Lit, Packet};
+use std::alloc::{AllocError, Global};
+use std::process::Abort;
+use std::test::Fail;
+
+// A packet at port 1 of switch 1 for this destination.
+fn packet(eth_dst: u64) -> Packet {
+    let header = Header {
+        eth_typ: 2048,
+        ip_proto: 0,
+        eth_src: 0,
+        eth_dst,
+        ip4_src: 0,
+        ip4_dst: 0,
+        tcp_src_port: 0,
+        tcp_dst_port: 0,
+    };
+    Packet {
+        sw: 1,
+        pt: 1,
+        header,
+    }
+}
+
+// `ethDst=from; ethDst:=to`
+fn step(alloc: Global, from: Lit, to: Lit) -> Result<Pol, AllocError> {
+    let items = vec![in alloc; Pol::Filter(Pred::Test(from)), Pol::Assign(to)]?;
+    Ok(Pol::Seq(Pols { items }))
+}
+
+// `(ethDst=1; ethDst:=2 + ethDst=2; ethDst:=3)*; pt:=2`
+fn two_steps(alloc: Global, dst: [Lit; 3], port: Lit) -> Result<Pol, AllocError> {
+    let [one, two, three] = dst;
+    let items = vec![in alloc; step(alloc, one, two)?, step(alloc, two, three)?]?;
+    let sum = Pol::Sum(Pols { items });
+    let star = Pol::Star(Box::new(alloc, sum)?);
+    let items = vec![in alloc; star, Pol::Assign(port)]?;
+    Ok(Pol::Seq(Pols { items }))
+}
+
+// Compares the newest packets' destinations, in order.
+fn compare<R: Abort>(rt: &R, histories: &[History], destinations: &[u64]) {
+    assert_eq!(rt; histories.len(), destinations.len());
+    for (history, dst) in histories.iter().zip(destinations) {
+        assert_eq!(rt; history.newest().header.eth_dst, *dst);
+        assert_eq!(rt; history.newest().pt, 2);
+    }
+}
+
+#[test]
+fn takes_its_turns(rt: HostRuntime) -> Result<(), Fail> {
+    let alloc = rt.alloc();
+    let one = Lit::new(Field::EthDst, 1).ok_or("no literal")?;
+    let two = Lit::new(Field::EthDst, 2).ok_or("no literal")?;
+    let three = Lit::new(Field::EthDst, 3).ok_or("no literal")?;
+    let port = Lit::new(Field::Pt, 2).ok_or("no literal")?;
+    let pol = two_steps(alloc, [one, two, three], port)?;
+    let history = History::new(alloc, packet(1));
+    compare(&rt, &some_results(alloc, &pol, &history, 2)?, &[1, 2, 3]);
+    compare(&rt, &some_results(alloc, &pol, &history, 1)?, &[1, 2]);
+    Ok(())
+}
