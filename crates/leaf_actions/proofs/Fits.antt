@@ -21,13 +21,14 @@ use Rattle.fdd_nodes.specs.Trees.{apply}
 use Rattle.leaf_actions.specs.declared.route.Route.{Route}
 use Rattle.leaf_actions.specs.declared.view.PortView.{PortView}
 use Rattle.leaf_actions.specs.Chains.{Climbs}
-use Rattle.leaf_actions.specs.Listing.{setting, change, changed, retagged, port_number, listed}
+use Rattle.leaf_actions.specs.Listing.{setting, change, changed, retagged, port_number, listed, IsActionList}
 use Rattle.leaf_actions.specs.Settable.{settable}
 use Rattle.leaf_actions.proofs.Acted.{IsOut}
 use Rattle.leaf_actions.proofs.ActionLists.{Ready, is_out}
-use Rattle.leaf_actions.proofs.Chained.{Keeps, keeps_of}
+use Rattle.leaf_actions.proofs.ChainLaws.{chain_none}
+use Rattle.leaf_actions.proofs.Chained.{Keeps, keeps_of, climbs_of}
 use Rattle.leaf_actions.proofs.Fixed.{valid_apply, fixed_valid}
-use Rattle.leaf_actions.proofs.Routed.{listed_known}
+use Rattle.leaf_actions.proofs.Routed.{listed_known, listing_rises}
 
 abbrev Fit : List Action → Type 0
 Fit as' = AllByRecursion FitsAction as'
@@ -98,3 +99,13 @@ pub actions_fit : (w : Way) (v : PortView) (cs : List (List Lit)) (as' : List Ac
 actions_fit w v cs as' s ready =
     subst (λ (l : List Action). Fit l) (sym ready.actions)
     (listed_fit v (cell_on w) (cell_on w) v.kind ready.routes s (fixed_valid w) (λ r i. is_out v (cell_on w) cs r (listed_known v (cell_on w) cs ready.routes ready.listing r i)) ready.climbs)
+
+-- whatever lists the copies can be written
+pub list_fits : (w : Way) (v : PortView) (cs : List (List Lit)) (as' : List Action) → IsVlanId v.stamp → IsActionList w v cs as' → AllByRecursion FitsAction as'
+list_fits w v cs as' s list =
+    actions_fit w v cs as' s (record {
+      routes = list.routes;
+      listing = list.listing;
+      climbs = climbs_of (cell_on w) list.routes (listing_rises v (cell_on w) cs list.routes list.listing) (chain_none (cell_on w) list.routes list.chain);
+      actions = list.actions;
+    })

@@ -22,12 +22,11 @@ use Rattle.nk_values.proofs.LitLaws.{lit_small}
 use Rattle.nk_values.proofs.MemberLaws.{in-left, in-right, in-either}
 use Rattle.nk_values.proofs.PacketLaws.{get-with_same, get-with_other, field_cases}
 use Rattle.fdd_nodes.specs.Cells.{free, open_cell, Agrees}
-use Rattle.fdd_nodes.specs.Paths.{Way, IsOnPath, with_true, with_false}
+use Rattle.fdd_nodes.specs.Paths.{Way, IsOnPath, with_true, with_false, cell_on}
 use Rattle.fdd_nodes.specs.Trees.{Tree, Leaf, Node, apply, leaf_at, IsOrderedFrom}
 use Rattle.fdd_nodes.proofs.CellLaws.{lit_not_free}
 use Rattle.fdd_nodes.proofs.SplitLaws.{leaf_at-then, leaf_at-else, ordered_weaken}
 use Rattle.leaf_actions.specs.declared.view.PortView.{PortView}
-use Rattle.leaf_actions.specs.Changes.{fixed}
 use Rattle.leaf_actions.specs.Views.{arriving}
 use Rattle.leaf_actions.proofs.Fixed.{fixed_agrees}
 use Rattle.table_emitter.specs.Entries.{Entry, entry_of, entries, IsRowOf, AreRowsOf}
@@ -251,15 +250,15 @@ put_keeps x f g m n h e = elim (field_cases g f) [
 ]
 
 -- they keep what a true test fixes
-cell_keeps : (w : Way) (l : Lit) (y : Packet) → IsIn w.trues l → get (fixed w) (lit_field l) ≡ lit_value l → IsIn (cells_of (kinds_of w) (fixed w)) y → get y (lit_field l) ≡ lit_value l
+cell_keeps : (w : Way) (l : Lit) (y : Packet) → IsIn w.trues l → get (cell_on w) (lit_field l) ≡ lit_value l → IsIn (cells_of (kinds_of w) (cell_on w)) y → get y (lit_field l) ≡ lit_value l
 cell_keeps w l y k e i =
-    let typed : bars is_type 2048 w ≡ false → get (with_value (fixed w) EthTyp 2048) (lit_field l) ≡ lit_value l =
-    λ n. put_keeps (fixed w) (lit_field l) EthTyp 2048 (lit_value l) (λ d. sym (allowed is_type 2048 w l n k (ap is_type (sym d)))) e in
-    elim (cells_are (kinds_of w).ip (kinds_of w).ports (kinds_of w).no_ip (kinds_of w).no_tcp (kinds_of w).no_udp (fixed w) y i) [
+    let typed : bars is_type 2048 w ≡ false → get (with_value (cell_on w) EthTyp 2048) (lit_field l) ≡ lit_value l =
+    λ n. put_keeps (cell_on w) (lit_field l) EthTyp 2048 (lit_value l) (λ d. sym (allowed is_type 2048 w l n k (ap is_type (sym d)))) e in
+    elim (cells_are (kinds_of w).ip (kinds_of w).ports (kinds_of w).no_ip (kinds_of w).no_tcp (kinds_of w).no_udp (cell_on w) y i) [
       | inl d ↦ subst (λ (z : Packet). get z (lit_field l) ≡ lit_value l) d e
       | inr (n, inl d) ↦ subst (λ (z : Packet). get z (lit_field l) ≡ lit_value l) d (typed n)
-      | inr (n, inr (inl (a, d))) ↦ subst (λ (z : Packet). get z (lit_field l) ≡ lit_value l) d (put_keeps (with_value (fixed w) EthTyp 2048) (lit_field l) IpProto 6 (lit_value l) (λ d. sym (allowed is_protocol 6 w l a k (ap is_protocol (sym d)))) (typed n))
-      | inr (n, inr (inr (a, d))) ↦ subst (λ (z : Packet). get z (lit_field l) ≡ lit_value l) d (put_keeps (with_value (fixed w) EthTyp 2048) (lit_field l) IpProto 17 (lit_value l) (λ d. sym (allowed is_protocol 17 w l a k (ap is_protocol (sym d)))) (typed n))
+      | inr (n, inr (inl (a, d))) ↦ subst (λ (z : Packet). get z (lit_field l) ≡ lit_value l) d (put_keeps (with_value (cell_on w) EthTyp 2048) (lit_field l) IpProto 6 (lit_value l) (λ d. sym (allowed is_protocol 6 w l a k (ap is_protocol (sym d)))) (typed n))
+      | inr (n, inr (inr (a, d))) ↦ subst (λ (z : Packet). get z (lit_field l) ≡ lit_value l) d (put_keeps (with_value (cell_on w) EthTyp 2048) (lit_field l) IpProto 17 (lit_value l) (λ d. sym (allowed is_protocol 17 w l a k (ap is_protocol (sym d)))) (typed n))
     ]
 
 from_entry : (w : Way) (cs : List (List Lit)) (ys : List Packet) (e : Entry) → IsIn (map (entry_of w cs) ys) e → IsIn ys e.cell
@@ -268,17 +267,17 @@ from_entry w cs (y ∷ ys) e (inl d) = inl (ap (λ (x : Entry). x.cell) d)
 from_entry w cs (y ∷ ys) e (inr h) = inr (from_entry w cs ys e h)
 
 -- a packet that fails a true test of a path misses all rows of the path
-misses : (v : PortView) (p : Packet) (l : Lit) (t : Tree) (w : Way) → 2 ≤ place (lit_field l) → IsIn w.trues l → get (fixed w) (lit_field l) ≡ lit_value l → ¬ Holds p l → IsOrderedFrom (step * (place (lit_field l) + 1)) t →
+misses : (v : PortView) (p : Packet) (l : Lit) (t : Tree) (w : Way) → 2 ≤ place (lit_field l) → IsIn w.trues l → get (cell_on w) (lit_field l) ≡ lit_value l → ¬ Holds p l → IsOrderedFrom (step * (place (lit_field l) + 1)) t →
     (e : Entry) → IsIn (entries w t) e → hits (pattern_of v e.cell) (arriving v p) ≡ false
 misses v p l (Leaf cs) w n k f h o e i =
-    let g = cell_keeps w l e.cell k f (from_entry w cs (cells_of (kinds_of w) (fixed w)) e i) in
+    let g = cell_keeps w l e.cell k f (from_entry w cs (cells_of (kinds_of w) (cell_on w)) e i) in
     hits_not v e.cell p (lit_field l) n (λ d. lit_not_free l (sym g ∙ d)) (λ d. h (d ∙ g))
 misses v p l (Node m t e) w n k f h o d i =
     let small = lit_small m in
     let far : place (lit_field l) + 1 ≤ place (lit_field m) = omega (arith, o.0, small) in
     let other : lit_field m ≢ lit_field l = λ (q : lit_field m ≡ lit_field l). let r : place (lit_field m) ≡ place (lit_field l) = ap place q in omega (arith, r, far) in
     elim (in-either (entries (with_true w m) t) (entries (with_false w m) e) d i) [
-      | inl j ↦ misses v p l t (with_true w m) n (in-left w.trues (m ∷ []) l k) (ap (λ (x : Packet). get x (lit_field l)) (apply_more w.trues m open_cell) ∙ get-with_other (fixed w) (lit_field m) (lit_field l) (lit_value m) other ∙ f) h
+      | inl j ↦ misses v p l t (with_true w m) n (in-left w.trues (m ∷ []) l k) (ap (λ (x : Packet). get x (lit_field l)) (apply_more w.trues m open_cell) ∙ get-with_other (cell_on w) (lit_field m) (lit_field l) (lit_value m) other ∙ f) h
           (ordered_weaken t (step * (place (lit_field l) + 1)) (step * (place (lit_field m) + 1)) (omega (arith, far)) o.1) d j
       | inr j ↦ misses v p l e (with_false w m) n k f h (ordered_weaken e (step * (place (lit_field l) + 1)) (rank m + 1) (omega (arith, o.0)) o.2) d j
     ]
@@ -354,7 +353,7 @@ on_false w p l h k = record {
 
 pub finds : (v : PortView) (p : Packet) (t : Tree) (w : Way) (k : ℕ) → IsWellShaped p → IsOnPath w p → step * 2 ≤ k → IsOrderedFrom k t → Finds v p w t
 finds v p (Leaf cs) w k s h n o =
-    let r = in_cells v p w cs (kinds_of w).ip (kinds_of w).ports (kinds_of w).no_ip (kinds_of w).no_tcp (kinds_of w).no_udp (fixed w) (fixed_agrees w p h) (ip_there w p s h) (ports_there w p s h) in
+    let r = in_cells v p w cs (kinds_of w).ip (kinds_of w).ports (kinds_of w).no_ip (kinds_of w).no_tcp (kinds_of w).no_udp (cell_on w) (fixed_agrees w p h) (ip_there w p s h) (ports_there w p s h) in
     record { entry = entry_of w cs r.0; found = r.1; on = h; copies = refl }
 finds v p (Node l t e) w k s h n o =
     let small = lit_small l in
@@ -366,7 +365,7 @@ finds v p (Node l t e) w k s h n o =
           record {
             entry = r.entry;
             found = first_right v p (entries (with_true w l) t) (entries (with_false w l) e)
-                (misses v p l t (with_true w l) place_two (in-right w.trues (l ∷ []) l (inl refl)) (ap (λ (x : Packet). get x (lit_field l)) (apply_more w.trues l open_cell) ∙ get-with_same (fixed w) (lit_field l) (lit_value l)) y.1 o.1) ∙ r.found;
+                (misses v p l t (with_true w l) place_two (in-right w.trues (l ∷ []) l (inl refl)) (ap (λ (x : Packet). get x (lit_field l)) (apply_more w.trues l open_cell) ∙ get-with_same (cell_on w) (lit_field l) (lit_value l)) y.1 o.1) ∙ r.found;
             on = r.on;
             copies = r.copies ∙ sym (leaf_at-else l t e p y.1);
           }

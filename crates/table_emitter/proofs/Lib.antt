@@ -1,9 +1,12 @@
 pub mod Depths
 pub mod Finding
+pub mod Fits
 pub mod Hitting
 pub mod KindLaws
+pub mod Limits
 pub mod Listed
 pub mod Meaning
 pub mod PartLaws
 pub mod Plainness
 pub mod Switches
+pub mod Writable

@@ -5,4 +5,3 @@ pub mod Kinds
 pub mod Laws
 pub mod Parts
 pub mod Patterns
-pub mod Sizes

@@ -1,16 +1,15 @@
-// Flow tables of compiled policies.
+//! Flow tables of compiled policies (ICFP 2015, section 3.3), or the first reason why there are none.
 #![tactic(auto)]
 
-pub mod emitting;
-pub mod fault;
-pub mod kinds;
-pub mod laws;
+mod emitting;
+mod fault;
+mod kinds;
+mod laws;
 mod lists;
 mod parts;
 mod patterns;
 mod sizes;
-#[cfg(test)]
-mod tests;
 
 pub use emitting::emit;
 pub use fault::EmitError;
+pub use laws::parts_are_cofactors;

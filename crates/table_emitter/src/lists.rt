@@ -17,13 +17,9 @@ use crate::kinds::Kinds;
 use crate::patterns::{cells_of, pattern_of};
 use crate::sizes::are_small;
 use fdd_nodes::{Leaf, Node, Path};
-use leaf_actions::fields::fixed;
 use leaf_actions::{ActionsError, PortView, actions};
-use nk_values::{Actions, EmitFault, FieldSet, Packet, Pattern, Row, RowList};
+use nk_values::{Actions, EmitFault, FieldSet, MOST_PORT_ROWS, Pattern, Row, RowList};
 use std::alloc::{AllocError, Global};
-
-// The most rows that a port may have.
-const MOST: usize = 16_000;
 
 // The rows of a port: those of all paths of a diagram, with priorities from `top` down.
 pub(crate) fn list_port(
@@ -124,15 +120,16 @@ fn list_leaf(
     ensures rows { OnOk result (Adds view.now top (leaf_entries path.now leaf.now) rows.old rows.new) }
     ensures bars { IfErr result (Bars view.now (length rows.old) (leaf_entries path.now leaf.now)) }
 {
-    let cells = cells_of(alloc, kinds, fixed(path).generic())?;
-    if cells.is_empty() {
+    let mut cells = cells_of(alloc, kinds, path.cell())?;
+    let Some(last) = cells.pop() else {
         return Ok(());
-    }
+    };
     let made = row_actions(alloc, path, leaf, view)?;
     for cell in &cells {
-        push_row(alloc, pattern_of(view, cell), &made, view, top, rows)?;
+        let copied = made.copy(alloc)?;
+        push_row(pattern_of(view, cell), copied, view, top, rows)?;
     }
-    Ok(())
+    push_row(pattern_of(view, &last), made, view, top, rows)
 }
 
 // The actions of the rows of a path.
@@ -150,7 +147,7 @@ fn row_actions(
     let made = match actions(alloc, path, leaf, view) {
         Ok(made) => made,
         Err(ActionsError::Memory) => return Err(EmitError::Memory),
-        Err(ActionsError::Unordered(pair)) => {
+        Err(ActionsError::Fault(pair)) => {
             return Err(EmitError::Fault(EmitFault::Unordered {
                 sw: view.sw,
                 pt: view.pt,
@@ -177,20 +174,19 @@ fn row_actions(
 
 // Adds one row, if the port may have one more.
 fn push_row(
-    alloc: Global,
     pattern: Pattern,
-    made: &Actions,
+    actions: Actions,
     view: &PortView,
     top: u16,
     rows: &mut RowList,
 ) -> Result<(), EmitError>
     requires top { 16000 ≤ top }
-    ensures row { OnOk result (rows.new ≡ rows.old ++ record { pattern = pattern; priority = top - length rows.old; actions = made.now } ∷ []) }
+    ensures row { OnOk result (rows.new ≡ rows.old ++ record { pattern = pattern; priority = top - length rows.old; actions = actions } ∷ []) }
     ensures room { OnOk result (length rows.old < 16000) }
     ensures bars { IfErr result (BarsRow view.now (length rows.old)) }
 {
-    let count = rows.as_slice().len();
-    if count >= MOST {
+    let count = rows.len();
+    if count >= MOST_PORT_ROWS {
         return Err(EmitError::Fault(EmitFault::TooManyRows {
             sw: view.sw,
             pt: view.pt,
@@ -199,7 +195,7 @@ fn push_row(
     rows.push(Row {
         pattern,
         priority: top - count as u16,
-        actions: made.copy(alloc)?,
+        actions,
     })?;
     Ok(())
 }
