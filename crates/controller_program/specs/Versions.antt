@@ -8,6 +8,7 @@ use Rattle.document_text.specs.declared.document.Settings.{Settings}
 use Rattle.fdd_nodes.specs.Trees.{Tree}
 use Rattle.fdd_compile.specs.Compiles.{CompiledOf, IsFaultOf}
 use Rattle.policy_rows.specs.declared.version.Version.{Version}
+use Rattle.policy_rows.specs.Limits.{AreWithinLimits, AreWritable}
 use Rattle.policy_rows.specs.Means.{RowsMean}
 use Rattle.policy_rows.specs.Numbers.{stamp_at, band_at}
 use Rattle.table_emitter.specs.Emission.{IsEmitted, IsEmitFault}
@@ -18,13 +19,15 @@ use Rattle.report_text.specs.declared.fault.Fault.TheVariants as fault
 abbrev pub stamp_in : Settings → ℕ → ℕ
 stamp_in s k = stamp_at s.stamps.0 s.stamps.1 k
 
--- The policy behind k others with its rows: those of its diagram, which stand for it.
+-- The policy behind k others with its rows: those of its diagram, which stand for it, are within the limits, and can be written as messages.
 pub record IsVersion (t : Layout) (s : Settings) (k : ℕ) (p : Term) (v : Version) : Type 0 where
   pub policy : term_of v.pol ≡ p
   pub diagram : Tree
   pub compiled : CompiledOf p diagram
   pub rows : IsEmitted diagram t (stamp_in s k) (band_at k) v.rows
   pub means : RowsMean v.rows p t
+  pub limits : AreWithinLimits v.rows
+  pub writable : AreWritable v.rows
 
 -- the policies behind k others
 abbrev pub AreVersions : Layout → Settings → ℕ → List Term → List Version → Type 0
