@@ -1,12 +1,13 @@
 // What each command does to rows.
 ghost use Rattle.std.specs.Prelude.{◌≡◌, ◌<◌, ◌≤◌, true, false, length, slice_index_or, IfOk, IfSome, IfNone, OnOk, OnErr, Err};
 ghost use Rattle.nk_values.specs.declared.row.Row.{Row};
+ghost use Rattle.flow_table.specs.declared.table.ChangeError.TheVariants.{Fault};
 ghost use Rattle.nk_values.specs.Changes.{IsMeant, HasNone, HasOther, HasModified, LacksRoom};
 ghost use Rattle.nk_values.specs.Tables.{SameKey, IsNew, Distinct};
 ghost use Rattle.flow_table.specs.Changed.{IsKept, HasOne, IsModified, AreModified, AreAfter};
 
 use crate::meant::{is_meant, is_other};
-use crate::table::ChangeError;
+use crate::table::{ChangeError, ChangeFault};
 use nk_values::{Duplicate, FlowMod, Pattern, Row};
 use std::alloc::{AllocError, Global};
 
@@ -15,7 +16,7 @@ pub fn add(rows: &mut Vec<Row>, capacity: usize, row: Row) -> Result<(), ChangeE
     requires { Distinct rows.old.items }
     ensures ok { OnOk result (AreAfter (IsKept rows.old.items row) rows.new.items) }
     ensures room { OnOk result (¬ ((capacity ≤ length rows.old.items) × IsNew rows.old.items row.pattern row.priority)) }
-    ensures full { result ≡ Err ChangeError.Full → (capacity ≤ length rows.old.items) × IsNew rows.old.items row.pattern row.priority }
+    ensures full { result ≡ Err (Fault ChangeFault.Full) → (capacity ≤ length rows.old.items) × IsNew rows.old.items row.pattern row.priority }
     ensures err { OnErr result (rows.new.items ≡ rows.old.items) }
 {
     match key_place(rows, &row.pattern, row.priority) {
@@ -23,7 +24,7 @@ pub fn add(rows: &mut Vec<Row>, capacity: usize, row: Row) -> Result<(), ChangeE
             rows[place] = row;
             Ok(())
         }
-        None if rows.len() >= capacity => Err(ChangeError::Full),
+        None if rows.len() >= capacity => Err(ChangeError::Fault(ChangeFault::Full)),
         None => {
             rows.push(row)?;
             Ok(())
@@ -56,7 +57,7 @@ pub fn modify(
     requires own { (r : Row) → SameKey r change.now.pattern change.now.priority → IsMeant change.now r }
     ensures ok { OnOk result (AreAfter (HasModified rows.old.items change.now) rows.new.items) }
     ensures room { OnOk result (¬ (LacksRoom capacity rows.old.items change.now)) }
-    ensures full { result ≡ Err ChangeError.Full → LacksRoom capacity rows.old.items change.now }
+    ensures full { result ≡ Err (Fault ChangeFault.Full) → LacksRoom capacity rows.old.items change.now }
     ensures err { OnErr result (rows.new.items ≡ rows.old.items) }
 {
     if !has_one(rows, change) {

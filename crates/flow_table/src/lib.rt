@@ -12,4 +12,4 @@ pub use acting::act;
 pub use hitting::hits;
 pub use meant::is_meant;
 pub use narrowing::{narrower_hits, narrows};
-pub use table::{ChangeError, Table};
+pub use table::{ChangeError, ChangeFault, Table};

@@ -1,6 +1,7 @@
 // Tables of rows.
 ghost use Rattle.std.specs.Prelude.{◌≡◌, [], ◌∷◌, ◌++◌, OnOk, OnErr, IsOk, List, option_map, Ok, Err};
 ghost use Rattle.nk_values.specs.declared.row.Row.{Row};
+ghost use Rattle.flow_table.specs.declared.table.ChangeError.TheVariants.{Fault};
 ghost use Rattle.nk_values.specs.Patterns.{Incoming};
 ghost use Rattle.nk_values.specs.Tables.{FoundIn, Distinct};
 ghost use Rattle.flow_table.specs.Changed.{Removes};
@@ -30,11 +31,18 @@ impl Model for Table {
     ghost invariant = { λ t. Distinct t.rows.items };
 }
 
+/// What is wrong with a change of a table.
+#[derive(Clone, Copy, Debug, PartialEq, Eq)]
+pub enum ChangeFault {
+    /// The added row is new, and the table holds as many as it may.
+    Full,
+}
+
 /// Why a table was not changed.
 #[derive(Clone, Copy, Debug, PartialEq, Eq)]
 pub enum ChangeError {
-    /// The added row is new, and the table holds as many as it may.
-    Full,
+    Fault(ChangeFault),
+    /// Memory ran out.
     Memory,
 }
 
@@ -103,7 +111,7 @@ impl Table {
         ensures ok { OnOk result (IsChanged self.old.rows change.now self.new.rows) }
         ensures capacity { self.new.capacity ≡ self.old.capacity }
         ensures room { OnOk result (¬ (IsFull self.old.capacity self.old.rows change.now)) }
-        ensures full { result ≡ Err ChangeError.Full → IsFull self.old.capacity self.old.rows change.now }
+        ensures full { result ≡ Err (Fault ChangeFault.Full) → IsFull self.old.capacity self.old.rows change.now }
         ensures err { OnErr result (self.new ≡ self.old) }
         // A deletion takes no memory.
         ensures removal { Removes change.now.command → IsOk result }

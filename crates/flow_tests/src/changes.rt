@@ -1,5 +1,5 @@
 // Modifications and deletions, on a table of two rows.
-use flow_table::{ChangeError, Table};
+use flow_table::{ChangeError, ChangeFault, Table};
 use nk_values::{ANY_PORT, Action, Actions, Command, FlowMod, Pattern};
 use std::alloc::Global;
 
@@ -143,6 +143,6 @@ fn modified_nothing(alloc: Global) -> Result<(Option<u16>, Result<(), ChangeErro
 
 #[test]
 fn modification_of_nothing_adds(rt: HostRuntime) {
-    let wanted = Ok((Some(2), Err(ChangeError::Full)));
+    let wanted = Ok((Some(2), Err(ChangeError::Fault(ChangeFault::Full))));
     assert_eq!(rt; modified_nothing(rt.alloc()), wanted);
 }

@@ -1,5 +1,5 @@
 // Look-ups in tables to which rows are added.
-use flow_table::{ChangeError, Table};
+use flow_table::{ChangeError, ChangeFault, Table};
 use nk_values::{
     ANY_PORT, Action, Actions, Command, FlowMod, Header, Pattern, Prefix, Tag, UNTAGGED,
 };
@@ -109,7 +109,7 @@ fn the_greater_priority_counts(rt: HostRuntime) {
 #[test]
 fn a_full_table_replaces_alone(rt: HostRuntime) {
     let any = Pattern::any();
-    let full = Err(ChangeError::Full);
+    let full = Err(ChangeError::Fault(ChangeFault::Full));
     assert_eq!(rt;
         added(rt.alloc(), 1, &[(at_one(), 6, 3), (any, 7, 4)]),
         (3, 1, full)

@@ -1,11 +1,10 @@
 -- The first fault of bytes is what reading gives where it gives no message.
-use Rattle.std.proofs.Common.{◌≡◌, ◌≢◌, ℕ, ◌-◌, ◌%◌, ◌<◌, ◌≤◌, ◌⊎◌, Bool, true, false, cond, eqb, ltb, leb, List, [], ◌∷◌, length, drop, Option, Some, None, Result, Ok, Err, refl, sym, ap, subst, ◌∙◌, inl, inr, arith}
+use Rattle.std.proofs.Common.{◌≡◌, ◌≢◌, ℕ, ◌-◌, ◌%◌, ◌<◌, ◌≤◌, ◌⊎◌, Bool, true, false, eqb, leb, List, [], ◌∷◌, length, drop, Option, Some, None, Result, Ok, Err, refl, sym, ap, subst, ◌∙◌, inl, inr, arith}
 use Rattle.std.specs.Prelude.{◌&&◌, not, IfOk, IfErr, is_ok}
-use Rattle.std.proofs.lemmas.Bool.{eqb-true, eqb-false, ltb-true, ltb-false, le-ltb, lt-ltb, lt-leb, le-leb, eq-eqb, ne_eqb, cases_eq, cases_lt}
+use Rattle.std.proofs.lemmas.Bool.{le-ltb, lt-ltb, lt-leb, le-leb, eq-eqb, cases_lt}
 use Rattle.nk_values.specs.declared.action.Action.{Action}
 use Rattle.nk_values.specs.declared.row.FlowMod.{FlowMod}
 use Rattle.nk_values.specs.declared.row.Command.{Command}
-use Rattle.nk_values.specs.declared.row.Command.TheVariants.{Add, Modify, ModifyStrict, Delete, DeleteStrict}
 use Rattle.openflow_wire.specs.declared.message.Message.{Message}
 use Rattle.openflow_wire.specs.declared.message.Message.TheVariants as to
 use Rattle.openflow_wire.specs.declared.fault.WireFault.{WireFault}
@@ -14,12 +13,10 @@ use Rattle.openflow_wire.specs.declared.fault.WireError.{WireError}
 use Rattle.openflow_wire.specs.declared.fault.WireError.TheVariants.{Fault, Memory}
 use Rattle.openflow_wire.specs.Places.{number_at}
 use Rattle.openflow_wire.specs.Matches.{match_at}
-use Rattle.openflow_wire.specs.Spelling.{Spells, IsLight, KeepsBytes, IsNoneOf, known, command_number}
+use Rattle.openflow_wire.specs.Spelling.{Spells, IsLight, KeepsBytes, IsNoneOf, known}
 use Rattle.openflow_wire.specs.Faults.{IsSpoken, IsSoundHead, among, body_lengths, has_length, HasCommand, HasActions, IsBodyFault, IsFirstFault, IsRefusal}
 use Rattle.openflow_wire.specs.Reading.{◌>>=◌, or_fault, ReadsAs, command_of, actions_of, change_of, error_of, features_of, bare, body_rows, body_of, reads}
-use Rattle.openflow_wire.proofs.TestLaws.{chosen}
-use Rattle.openflow_wire.proofs.Laws.{by-row, keys, Each, among-none, version-cases, actions-again, actions-spelled, command-again, command-spelled, read-spelled, spelled-read, test}
-use Rattle.openflow_wire.proofs.Streams.{spelled-head}
+use Rattle.openflow_wire.proofs.Laws.{by-row, keys, among-none, actions-again, actions-spelled, command-again, command-spelled, read-spelled, spelled-read, test}
 
 abbrev err : {A : Type 0} → WireFault → Result A WireFault
 err f = Err f

@@ -1,4 +1,4 @@
-use Rattle.std.proofs.Common.{◌≡◌, ◌∙◌, ℕ, List, take, Some, Ok, arith, sym, ap, subst, inl, inr}
+use Rattle.std.proofs.Common.{◌≡◌, ◌∙◌, ℕ, take, Some, arith, ap, inl, inr}
 use Rattle.openflow_wire.specs.Faults.{IsSpoken}
 use Rattle.openflow_wire.specs.Places.{number_at}
 use Rattle.of_framing.proofs.FrontLaws.{whole-answer, whole-message}

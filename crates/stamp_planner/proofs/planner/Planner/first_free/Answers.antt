@@ -1,4 +1,4 @@
-use Rattle.std.proofs.Common.{◌≡◌, arith, subst, sym, ap}
+use Rattle.std.proofs.Common.{◌≡◌, arith, subst, ap}
 use Rattle.stamp_planner.specs.Stamps.{Planning, IsPlanning}
 use Rattle.stamp_planner.proofs.Stamping.{all-live}
 use Rattle.stamp_planner.proofs.planner.Planner.first_free.Goals as goal

@@ -1,5 +1,5 @@
-use Rattle.std.proofs.Common.{◌≡◌, false, set, ap, ◌∙◌, subst, sym}
-use Rattle.stamp_planner.specs.Stamps.{Planning, IsLive}
+use Rattle.std.proofs.Common.{◌≡◌, ap, ◌∙◌}
+use Rattle.stamp_planner.specs.Stamps.{IsLive}
 use Rattle.stamp_planner.proofs.Stamping.{released-idle}
 use Rattle.stamp_planner.proofs.planner.Planner.release.Goals as goal
 
