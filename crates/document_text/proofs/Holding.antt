@@ -182,7 +182,7 @@ link-holds s t ws h e =
     let b = refused-ok _ _ _ t a.1 in
     placed-by _ t _ (layout-holds s kind.Link _ h (on-time s kind.Link a.0) (omega arith)) b.1
 
-ok-is : (s t : State) → ◌≡◌ {A = Result State TextFault} (Ok s) (Ok t) → s ≡ t
+pub ok-is : (s t : State) → ◌≡◌ {A = Result State TextFault} (Ok s) (Ok t) → s ≡ t
 ok-is s t e = cc
 
 hops-line-holds : (s t : State) (ws : List (List ℕ)) → Holds s → hops_line s ws ≡ Ok t → Holds t
@@ -225,7 +225,7 @@ stamps-line-holds s t ws h e =
     (kind-holds (record s { stamps = Some x.0 }) kind.Setting (stamps-holds s (Some x.0) h (upto 1 x.0.0 low.0, two, upto x.0.1 4094 range.1)) (on-time s kind.Setting (left-false _ _ a.0)))
 
 -- behind the topology and a policy
-policies-ok : {A : Type 0} (s : State) (r : Result A TextFault) (t : A) → behind_policies s r ≡ Ok t → r ≡ Ok t
+pub policies-ok : {A : Type 0} (s : State) (r : Result A TextFault) (t : A) → behind_policies s r ≡ Ok t → r ≡ Ok t
 policies-ok s r t e =
     (refused-ok (is_empty s.policies) NoPolicy r t (refused-ok (not (has_edge s.layout)) NoEdge (refused_if (is_empty s.policies) NoPolicy r) t e).1).1
 
@@ -246,7 +246,7 @@ schedule-line-holds s t [] h e =
 schedule-line-holds s t (w ∷ ws) h e = absurd (cc)
 
 -- a packet line
-line-is : (p q : PacketLine) → ◌≡◌ {A = Result PacketLine TextFault} (Ok p) (Ok q) → p ≡ q
+pub line-is : (p q : PacketLine) → ◌≡◌ {A = Result PacketLine TextFault} (Ok p) (Ok q) → p ≡ q
 line-is p q e = cc
 
 -- a form has its place, and the packet stands there
@@ -375,11 +375,11 @@ event-named s (w ∷ a ∷ b ∷ []) e q =
 event-named s (w ∷ a ∷ b ∷ c ∷ ws) e q = absurd (cc)
 
 -- one step
-next-is : (r : Result State TextFault) (t : State) → IsNext (next r) t → r ≡ Ok t
+pub next-is : (r : Result State TextFault) (t : State) → IsNext (next r) t → r ≡ Ok t
 next-is (Ok u) t h = ap (λ x. Ok x) (sym h)
 next-is (Err f) t h = absurd h
 
-opens-no-next : (r : Result State TextFault) (t : State) → IsNext (opens r) t → ⊥
+pub opens-no-next : (r : Result State TextFault) (t : State) → IsNext (opens r) t → ⊥
 opens-no-next (Ok u) t h = h
 opens-no-next (Err f) t h = h
 
@@ -446,11 +446,11 @@ opens-holds s t ws (Ok u) e h few k =
     let x = policy-line-holds s u ws h e in
     subst HasRoom (sym k) (x.0, subst (λ ps. length ps < 64) (sym x.1) few)
 
-next-no-opening : (r : Result State TextFault) (t : State) → IsOpening (next r) t → ⊥
+pub next-no-opening : (r : Result State TextFault) (t : State) → IsOpening (next r) t → ⊥
 next-no-opening (Ok u) t h = h
 next-no-opening (Err f) t h = h
 
-enters-no-opening : (s : State) (r : Result PacketLine TextFault) (t : State) → IsOpening (enters s r) t → ⊥
+pub enters-no-opening : (s : State) (r : Result PacketLine TextFault) (t : State) → IsOpening (enters s r) t → ⊥
 enters-no-opening s (Ok p) t h = h
 enters-no-opening s (Err f) t h = h
 
@@ -469,7 +469,7 @@ happens-no-opening : (s : State) (n : ℕ) (r : Result Event TextFault) (t : Sta
 happens-no-opening s n (Ok x) t h = h
 happens-no-opening s n (Err f) t h = h
 
-scheduled-no-opening : (s : State) (n : ℕ) (ws : List (List ℕ)) (b : Bool) (t : State) → IsOpening (cond b (Next (record s { inside = false })) (happens s n (event_of s ws))) t → ⊥
+pub scheduled-no-opening : (s : State) (n : ℕ) (ws : List (List ℕ)) (b : Bool) (t : State) → IsOpening (cond b (Next (record s { inside = false })) (happens s n (event_of s ws))) t → ⊥
 scheduled-no-opening s n ws true t h = h
 scheduled-no-opening s n ws false t h = happens-no-opening s n (event_of s ws) t h
 

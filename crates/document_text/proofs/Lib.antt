@@ -5,6 +5,7 @@ pub mod Numerals
 pub mod Pieces
 pub mod Ranged
 pub mod Readings
+pub mod Saying
 pub mod Settled
 pub mod Sound
 pub mod Total

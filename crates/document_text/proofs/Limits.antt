@@ -16,7 +16,7 @@ abbrev HoldsIn : Mode → Type 0
 HoldsIn (Lines s) = Holds s
 HoldsIn (Block s begin text) = HasRoom s
 
-no-doc : {X : Type 0} (d : Doc) (f : DocFault) → Accepted d ≡ Refused f → X
+pub no-doc : {X : Type 0} (d : Doc) (f : DocFault) → Accepted d ≡ Refused f → X
 no-doc d f e = absurd (cc)
 
 or-default : {A : Type 0} (P : A → Type 0) (o : Option A) (d : A) → IfSome o P → P d → P (unwrap_or o d)
@@ -42,7 +42,7 @@ doc-within s h e = record {
   named = h.named;
 }
 
-doc-is : (d d' : Doc) → Accepted d ≡ Accepted d' → d ≡ d'
+pub doc-is : (d d' : Doc) → Accepted d ≡ Accepted d' → d ≡ d'
 doc-is d d' e = cc
 
 finished-by : (s : State) (d : Doc) (i g p : Bool) (a b c : DocFault) → is_empty s.policies ≡ p → Holds s
@@ -92,7 +92,7 @@ cut-no-doc : (n : ℕ) (f : DocFault) (b : Bool) (d : Doc) (g : DocFault) → Ac
 cut-no-doc n f true d g e = no-doc d f e
 cut-no-doc n f false d g e = no-doc d g e
 
-cut-not : (n : ℕ) (o : Outcome) (d : Doc) → Accepted d ≡ cut_off n o → ⊥
+pub cut-not : (n : ℕ) (o : Outcome) (d : Doc) → Accepted d ≡ cut_off n o → ⊥
 cut-not n (Accepted e) d k = no-doc d _ k
 cut-not n (Refused f) d k = cut-no-doc n f (nat_lt f.line n) d _ k
 

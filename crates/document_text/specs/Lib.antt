@@ -4,6 +4,7 @@ pub mod Grammar
 pub mod Laws
 pub mod Lines
 pub mod Packets
+pub mod Parts
 pub mod Schedules
 pub mod States
 pub mod Steps

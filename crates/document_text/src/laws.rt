@@ -1,5 +1,6 @@
 // Laws of the grammar, as contracts.
 ghost use Rattle.document_text.specs.Laws.{OneOutcome, SomeOutcome, Within};
+ghost use Rattle.document_text.specs.Parts.{SaysItsParts};
 
 /// A text has exactly one outcome: it is one document, or has one first fault at one place.
 pub fn one_outcome()
@@ -12,4 +13,11 @@ pub fn one_outcome()
 /// and packet lines that there are.
 pub fn within()
     ensures { Within }
+{}
+
+/// A document says what its parts say, in order: its topology is that of its switch lines and link lines, its
+/// policies are read from the texts between `policy` and `end`, its packets are those of its packet lines, and
+/// each line of its schedule is an event.
+pub fn says_its_parts()
+    ensures { SaysItsParts }
 {}

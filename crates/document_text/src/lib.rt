@@ -19,5 +19,5 @@ mod words;
 
 pub use document::{Document, Event, PacketLine, ScheduleLine, Settings};
 pub use fault::{DocFault, DocumentError};
-pub use laws::{one_outcome, within};
+pub use laws::{one_outcome, says_its_parts, within};
 pub use read::read_document;
