@@ -1,38 +1,9 @@
-// Diagrams made by hand, and what they answer.
-use crate::apart::parting;
-use crate::assignments::Assignments;
-use crate::cell::Cell;
-use crate::fdd::Fdd;
-use crate::leaf::Leaf;
-use crate::node::Node;
-use nk_values::{Field, Header, Lit, Packet};
+// Diagrams made by hand, cells and paths, and what they answer.
+use crate::made::{lit, one, packet};
+use fdd_nodes::{Assignments, Cell, Fdd, Leaf, Node, Path, parting};
+use nk_values::Field;
 use std::alloc::Global;
 use std::test::Fail;
-
-fn lit(field: Field, value: u64) -> Result<Lit, Fail> {
-    Ok(Lit::new(field, value).ok_or("no literal")?)
-}
-
-fn one(alloc: Global, field: Field, value: u64) -> Result<Assignments, Fail> {
-    Ok(Assignments::one(alloc, lit(field, value)?)?)
-}
-
-fn packet(pt: u64, eth_dst: u64) -> Packet {
-    Packet {
-        sw: 1,
-        pt,
-        header: Header {
-            eth_typ: 2048,
-            ip_proto: 0,
-            eth_src: 7,
-            eth_dst,
-            ip4_src: 0,
-            ip4_dst: 0,
-            tcp_src_port: 0,
-            tcp_dst_port: 0,
-        },
-    }
-}
 
 // The leaf that sets ethDst to 2 in one copy, and pt to 5 in another.
 fn two_copies(alloc: Global) -> Result<Leaf, Fail> {
@@ -50,8 +21,7 @@ fn copies_rise_and_stand_once(rt: HostRuntime) -> Result<(), Fail> {
     assert_eq!(rt; copies[0].get(Field::Pt), Some(5));
     assert_eq!(rt; copies[1].get(Field::EthDst), Some(2));
     assert!(rt; copies[0] < copies[1]);
-    let again = leaf.copy(rt.alloc())?;
-    assert!(rt; again == leaf);
+    assert!(rt; leaf.copy(rt.alloc())? == leaf);
     Ok(())
 }
 
@@ -83,17 +53,19 @@ fn later_assignments_count(rt: HostRuntime) -> Result<(), Fail> {
     Ok(())
 }
 
-#[test]
-fn a_diagram_answers(rt: HostRuntime) -> Result<(), Fail> {
-    let alloc = rt.alloc();
+// A test of port 1 before the leaf of two copies.
+fn at_port_one(alloc: Global) -> Result<Node, Fail> {
     let yes = Box::new(alloc, Node::Leaf(two_copies(alloc)?))?;
     let no = Box::new(alloc, Node::Leaf(Leaf::empty(alloc)))?;
-    let root = Node::Test(lit(Field::Pt, 1)?, yes, no);
-    let here = packet(1, 9);
-    let answers = root.leaf_of(&here).copies().len();
-    assert_eq!(rt; answers, 2);
+    Ok(Node::Test(lit(Field::Pt, 1)?, yes, no))
+}
+
+#[test]
+fn a_diagram_answers(rt: HostRuntime) -> Result<(), Fail> {
+    let root = at_port_one(rt.alloc())?;
+    assert_eq!(rt; root.leaf_of(&packet(1, 9)).copies().len(), 2);
     assert_eq!(rt; root.leaf_of(&packet(2, 9)).copies().len(), 0);
-    let again = root.copy(alloc)?;
+    let again = root.copy(rt.alloc())?;
     assert!(rt; parting(&Cell::open(), &root, &again).is_none());
     Ok(())
 }
@@ -105,7 +77,19 @@ fn answers_are_the_copies(rt: HostRuntime) -> Result<(), Fail> {
     let a = Fdd::new(Node::Leaf(keeps));
     let answer = a.answer(alloc, &packet(1, 9))?;
     assert!(rt; answer.as_slice() == [packet(1, 9)].as_slice());
-    assert!(rt; a.normal());
-    assert!(rt; a.copy(alloc)?.normal());
+    assert!(rt; a.normal() && a.copy(alloc)?.normal());
+    Ok(())
+}
+
+#[test]
+fn a_path_tells_its_cell(rt: HostRuntime) -> Result<(), Fail> {
+    let mut path = Path::new(rt.alloc());
+    path.push_true(&lit(Field::Pt, 1)?)?;
+    path.push_true(&lit(Field::EthDst, 9)?)?;
+    path.push_false(&lit(Field::IpProto, 6)?)?;
+    assert_eq!(rt; path.cell().get(Field::EthDst), Some(9));
+    assert!(rt; path.has(&packet(1, 9)));
+    assert!(rt; path.pop_true().is_some() && path.cell().is_open(Field::EthDst));
+    assert_eq!(rt; path.cell().get(Field::Pt), Some(1));
     Ok(())
 }

@@ -1,0 +1,43 @@
+//! Reads policies from standard input, one a line, and prints for each how many tests its diagram has and what it
+//! makes of each packet that was asked, or its first fault.
+//!
+//! A line that begins with `==` is a heading, and drops the packets that were asked. A line that begins with `>` asks for
+//! one packet more: at port 1 of switch 1, of type 2054, with zeros elsewhere, but for the assignments in the line. A line
+//! `steps N` stands for the star of the sum of `ethDst=i; ethDst:=i+1` for i from 1 to N. What is made of a packet is told
+//! as a policy: the assignments that make each of its packets, `skip` for the packet itself and `drop` for none, or, where
+//! they are more than nine, how many they are.
+#![tactic(auto)]
+
+mod policies;
+mod told;
+
+use crate::policies::{packet_of, steps};
+use crate::told::answer;
+use nk_values::Packet;
+use std::alloc::{AllocError, Global};
+use std::io;
+
+fn main(rt: HostRuntime) -> io::Result<()> {
+    let alloc = rt.alloc();
+    let text = io::read_to_string(alloc, rt.stdin())?;
+    let mut asked = Vec::new(alloc);
+    for line in text.lines() {
+        if line.starts_with("==") {
+            asked.clear();
+            println!(rt; "{line}")?;
+        } else if let Some(packet) = line.strip_prefix(">") {
+            asked.push(packet_of(alloc, packet)?)?;
+            println!(rt; "{line}")?;
+        } else {
+            println!(rt; "{}", of_line(alloc, line, &asked)?)?;
+        }
+    }
+    Ok(())
+}
+
+fn of_line(alloc: Global, line: &str, asked: &[Packet]) -> Result<String, AllocError> {
+    match line.strip_prefix("steps ") {
+        Some(count) => answer(alloc, &steps(alloc, count.parse().unwrap_or(0))?, asked),
+        None => answer(alloc, line, asked),
+    }
+}

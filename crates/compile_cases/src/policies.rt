@@ -1,0 +1,56 @@
+// Packets and policies that lines stand for.
+use netkat_parser::{ParseError, parse_policy};
+use nk_syntax::Pol;
+use nk_values::{Header, Packet};
+use std::alloc::{AllocError, Global};
+
+// A packet at port 1 of switch 1, of type 2054, with zeros elsewhere.
+const PLAIN: Packet = Packet {
+    sw: 1,
+    pt: 1,
+    header: Header {
+        eth_typ: 2054,
+        ip_proto: 0,
+        eth_src: 0,
+        eth_dst: 0,
+        ip4_src: 0,
+        ip4_dst: 0,
+        tcp_src_port: 0,
+        tcp_dst_port: 0,
+    },
+};
+
+/// The packet of a line of assignments.
+pub fn packet_of(alloc: Global, assignments: &str) -> Result<Packet, AllocError> {
+    match parse_policy(alloc, assignments.as_bytes()) {
+        Ok(Pol::Seq(pols)) => {
+            let mut packet = PLAIN;
+            for pol in &pols.items {
+                packet = assigned(pol, &packet);
+            }
+            Ok(packet)
+        }
+        Ok(pol) => Ok(assigned(&pol, &PLAIN)),
+        Err(ParseError::Fault(_)) => Ok(PLAIN),
+        Err(ParseError::Memory) => Err(AllocError),
+    }
+}
+
+fn assigned(pol: &Pol, packet: &Packet) -> Packet {
+    match pol {
+        Pol::Assign(l) => l.put(packet),
+        _ => *packet,
+    }
+}
+
+/// The text of the star of some steps.
+pub fn steps(alloc: Global, count: u64) -> Result<String, AllocError> {
+    let mut text = String::from_str(alloc, "(drop")?;
+    for i in 0..count {
+        let from = i.saturating_add(1);
+        let to = i.saturating_add(2);
+        text.push_str(&format!(in alloc; " + ethDst={from}; ethDst:={to}")?)?;
+    }
+    text.push_str(")*")?;
+    Ok(text)
+}

@@ -1,0 +1,9 @@
+//! Tests of diagrams: what no clause says, that calls succeed where memory is there, and generic calls at a type.
+#![tactic(auto)]
+
+#[cfg(test)]
+mod made;
+#[cfg(test)]
+mod nodes;
+#[cfg(test)]
+mod operations;
