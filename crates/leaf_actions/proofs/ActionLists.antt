@@ -56,7 +56,7 @@ pub action_list : (w : Way) (v : PortView) (cs : List (List Lit)) (as' : List Ac
 action_list w v cs as' r = record { routes = r.routes; listing = r.listing; chain = chain_of (cell_on w) (cell_on w) r.routes r.climbs; actions = r.actions }
 
 -- the port with a number has that number
-port_found : (ps : List SwitchPort) (n : ℕ) (s : SwitchPort) → port_in ps n ≡ Some s → s.pt ≡ n
+pub port_found : (ps : List SwitchPort) (n : ℕ) (s : SwitchPort) → port_in ps n ≡ Some s → s.pt ≡ n
 port_found [] n s h = absurd (cc)
 port_found (p ∷ ps) n s h = split (p.pt == n) refl (port_found ps n s)
   where

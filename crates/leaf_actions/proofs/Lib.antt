@@ -6,3 +6,4 @@ pub mod Fits
 pub mod Fixed
 pub mod ActionLists
 pub mod Routed
+pub mod Unique

@@ -31,7 +31,7 @@ use Rattle.leaf_actions.proofs.Fixed.{apply_at}
 use Rattle.leaf_actions.proofs.Chained.{Rises, AllRise}
 
 -- elements, by their places
-in_contains : {X : Type 0} (xs : List X) (x : X) → IsIn xs x → Contains xs x
+pub in_contains : {X : Type 0} (xs : List X) (x : X) → IsIn xs x → Contains xs x
 in_contains [] x h = absurd h
 in_contains (y ∷ xs) x (inl e) = (0, omega arith, e)
 in_contains (y ∷ xs) x (inr h) = let c = in_contains xs x h in (suc c.0, omega (arith, c.1), c.2)

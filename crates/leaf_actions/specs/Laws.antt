@@ -17,3 +17,7 @@ ChainsHaveNoFirstPair = (v : PortView) (x : Packet) (cs : List (List Lit)) (rs :
 -- copies with a list of actions have no first pair that is apart
 abbrev pub ListsExcludeFaults : Type 0
 ListsExcludeFaults = (w : Way) (v : PortView) (cs : List (List Lit)) (as' : List Action) (u : ActionsFault) → IsActionList w v cs as' → ¬ IsUnordered w v cs u
+
+-- copies have one list of actions at most
+abbrev pub ListsAreOne : Type 0
+ListsAreOne = (w : Way) (v : PortView) (cs : List (List Lit)) (as' bs : List Action) → IsActionList w v cs as' → IsActionList w v cs bs → as' ≡ bs

@@ -10,7 +10,7 @@ mod route;
 mod settable;
 mod view;
 
-pub use laws::{chains_have_no_first_pair, lists_exclude_faults};
+pub use laws::{chains_have_no_first_pair, lists_are_one, lists_exclude_faults};
 pub use made::{ActionsError, ActionsFault, actions};
 pub use route::Route;
 pub use settable::are_settable;
