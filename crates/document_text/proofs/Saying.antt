@@ -1,5 +1,5 @@
 -- A document says what its parts say.
-use Rattle.std.proofs.Common.{◌≡◌, ℕ, ◌+◌, ◌≤◌, inl, inr, Bool, true, false, not, cond, ◌&&◌, ◌||◌, ◌==◌, is_some, option_map, nat_le, nat_lt, List, [], ◌∷◌, ◌++◌, length, take, map, Option, Some, None, Result, Ok, Err, refl, sym, ap, ◌∙◌, subst, append_assoc, arith}
+use Rattle.std.proofs.Common.{◌≡◌, ℕ, ◌+◌, ◌≤◌, inl, inr, Bool, true, false, not, cond, ◌&&◌, ◌||◌, ◌==◌, is_some, option_map, nat_le, List, [], ◌∷◌, ◌++◌, length, take, map, Option, Some, None, Result, Ok, Err, refl, sym, ap, ◌∙◌, subst, append_assoc, arith}
 use Rattle.std.specs.List.{flat_map, list_all}
 use Rattle.std.proofs.lemmas.Bool.Decides.{nat_tests}
 use Rattle.std.proofs.lemmas.Grind.{flat_map-append}
@@ -22,7 +22,7 @@ use Rattle.document_text.specs.declared.told.Kind.{Kind}
 use Rattle.document_text.specs.declared.told.Kind.TheVariants as kind
 use Rattle.document_text.specs.Answers.{IsNext, IsOpening}
 use Rattle.document_text.specs.Documents.{Doc, Accepted, Refused}
-use Rattle.document_text.specs.Grammar.{Mode, Lines, Block, Does, Closes, Chosen, Goes, Ends, IsFrom, IsDocument, finished, most_bytes, line_behind, cut_off}
+use Rattle.document_text.specs.Grammar.{Mode, Lines, Block, Does, Closes, Chosen, Goes, Ends, IsFrom, IsDocument, most_bytes, line_behind, cut_off}
 use Rattle.document_text.specs.Lines.{is_end_value, behind_topology, behind_policies, unset, at_edge, placed_by, placed, switch_form, switch_line, link_form, link_line, one_numeral, two_numerals, hops_line, capacity_line, stamps_line, policy_line, packet_form, packet_line, schedule_line}
 use Rattle.document_text.specs.Packets.{Given, is_value}
 use Rattle.document_text.specs.Parts.{Part, SwitchLine, LinkLine, PacketWords, PolicyText, EventLine, Stand, Free, InPolicy, InSchedule, begun, part_of, parts_from, parts_of, given_by, topology_in, packets_in, texts_in, lines_in, AreRead, Says}

@@ -15,11 +15,14 @@ use Rattle.document_text.specs.declared.reader.Taken.TheVariants.{Line, Opening}
 use Rattle.document_text.specs.Documents.{Outcome, Refused}
 use Rattle.document_text.specs.States.{State}
 use Rattle.document_text.specs.Steps.{Step, Next, Enters, Opens, Stops, step}
-use Rattle.document_text.specs.Texts.{lines_of, first_len, words_of, is_end}
+use Rattle.document_text.specs.Texts.{lines_of, words_of, is_end}
 use Rattle.document_text.specs.Grammar.{Mode, Lines, Block, Does, Closes, Chosen, LacksEnd, IsFrom, refused_at}
 use Rattle.document_text.specs.Answers.{IsNext, IsOpening, IsStop, Takes, Turns, Remains, RemainsBehind, LacksAnswer, AddsPolicy, state_of}
 use Rattle.document_text.specs.Answers as answers
-use Rattle.document_text.proofs.Pieces.{lines-at}
+
+-- the first line of a text has so many bytes
+abbrev IsFirst : ℕ → List ℕ → Type 0
+IsFirst len text = lines_of text ≡ take len text ∷ lines_of (drop len text)
 
 next-does : (Go : Mode → Type 0) (n : ℕ) (o : Outcome) (x : Step) (t : State) → IsNext x t → Go (Lines t) → Does Go n o x
 next-does Go n o (Next s) t h k = subst (λ u. Go (Lines u)) h k
@@ -40,41 +43,41 @@ stop-does Go n (Opens s) f h = absurd h
 stop-does Go n (Stops g) f h = ap (refused_at n) h
 
 -- the lines of a text that is cut behind its first line
-line-first : (s : State) (n len : ℕ) (text : List ℕ) (o : Outcome) → len ≡ first_len text → 0 < length text
+line-first : (s : State) (n len : ℕ) (text : List ℕ) (o : Outcome) → IsFirst len text → 0 < length text
     → Does (λ m. IsFrom m (n + 1) (lines_of (drop len text)) o) n o (step s n (words_of (take len text)))
     → IsFrom (Lines s) n (lines_of text) o
-line-first s n len text o e some h = subst (λ ls. IsFrom (Lines s) n ls o) (sym (lines-at text len e some)) h
+line-first s n len text o e some h = subst (λ ls. IsFrom (Lines s) n ls o) (sym e) h
 
-pub turn-next : (s t : State) (n len : ℕ) (text : List ℕ) (ws : List (List ℕ)) → len ≡ first_len text → 0 < length text → ws ≡ words_of (take len text)
+pub turn-next : (s t : State) (n len : ℕ) (text : List ℕ) (ws : List (List ℕ)) → IsFirst len text → 0 < length text → ws ≡ words_of (take len text)
     → IsNext (step s n ws) t → (o : Outcome) → IsFrom (Lines t) (n + 1) (lines_of (drop len text)) o → IsFrom (Lines s) n (lines_of text) o
 turn-next s t n len text ws e some w h o k =
     line-first s n len text o e some (next-does (λ x. IsFrom x (n + 1) (lines_of (drop len text)) o) n o (step s n (words_of (take len text))) t (subst (λ v. IsNext (step s n v) t) w h) k)
 
-pub turn-opening : (s t : State) (n len : ℕ) (text : List ℕ) (ws : List (List ℕ)) → len ≡ first_len text → 0 < length text → ws ≡ words_of (take len text)
+pub turn-opening : (s t : State) (n len : ℕ) (text : List ℕ) (ws : List (List ℕ)) → IsFirst len text → 0 < length text → ws ≡ words_of (take len text)
     → IsOpening (step s n ws) t → (o : Outcome) → IsFrom (Block t (n + 1) []) (n + 1) (lines_of (drop len text)) o → IsFrom (Lines s) n (lines_of text) o
 turn-opening s t n len text ws e some w h o k =
     line-first s n len text o e some (opening-does (λ x. IsFrom x (n + 1) (lines_of (drop len text)) o) n o (step s n (words_of (take len text))) t (subst (λ v. IsOpening (step s n v) t) w h) k)
 
-pub turn-stop : (s : State) (n len : ℕ) (text : List ℕ) (ws : List (List ℕ)) (f : TextFault) → len ≡ first_len text → 0 < length text → ws ≡ words_of (take len text)
+pub turn-stop : (s : State) (n len : ℕ) (text : List ℕ) (ws : List (List ℕ)) (f : TextFault) → IsFirst len text → 0 < length text → ws ≡ words_of (take len text)
     → IsStop (step s n ws) f → IsFrom (Lines s) n (lines_of text) (refused_at n f)
 turn-stop s n len text ws f e some w h =
     line-first s n len text (refused_at n f) e some (stop-does (λ x. IsFrom x (n + 1) (lines_of (drop len text)) (refused_at n f)) n (step s n (words_of (take len text))) f (subst (λ v. IsStop (step s n v) f) w h))
 
 -- a line that was taken
-pub turn-line : (s : State) (r : Reader) (x : Taken) (n len : ℕ) (text rest : List ℕ) (ws : List (List ℕ)) → len ≡ first_len text → 0 < length text → ws ≡ words_of (take len text)
+pub turn-line : (s : State) (r : Reader) (x : Taken) (n len : ℕ) (text rest : List ℕ) (ws : List (List ℕ)) → IsFirst len text → 0 < length text → ws ≡ words_of (take len text)
     → rest ≡ drop len text → x ≡ Line r → Takes (step s n ws) (Ok x)
     → (o : Outcome) → IsFrom (Lines (state_of r)) (n + 1) (lines_of rest) o → IsFrom (Lines s) n (lines_of text) o
 turn-line s r x n len text rest ws e some w d t h o k =
     turn-next s (state_of r) n len text ws e some w (subst (λ y. Takes (step s n ws) (Ok y)) t h) o
     (subst (λ ls. IsFrom (Lines (state_of r)) (n + 1) (lines_of ls) o) d k)
 
-pub turn-fault : (s : State) (x : Stop) (f : TextFault) (n len : ℕ) (text : List ℕ) (ws : List (List ℕ)) → len ≡ first_len text → 0 < length text → ws ≡ words_of (take len text)
+pub turn-fault : (s : State) (x : Stop) (f : TextFault) (n len : ℕ) (text : List ℕ) (ws : List (List ℕ)) → IsFirst len text → 0 < length text → ws ≡ words_of (take len text)
     → x ≡ stop.Fault f → Takes (step s n ws) (Err x) → IsFrom (Lines s) n (lines_of text) (refused_at n f)
 turn-fault s x f n len text ws e some w t h = turn-stop s n len text ws f e some w (subst (λ y. Takes (step s n ws) (Err y)) t h)
 
 -- a policy that was taken
 pub turn-close : (r q : Reader) (x : Taken) (b : declared.Block) (n len : ℕ) (text rest : List ℕ) (ws : List (List ℕ)) (a : Result (Reader × ℕ × Bor (List ℕ)) DocumentError)
-    → len ≡ first_len text → 0 < length text → ws ≡ words_of (take len text) → rest ≡ drop len text → x ≡ Opening q → Takes (step (state_of r) n ws) (Ok x)
+    → IsFirst len text → 0 < length text → ws ≡ words_of (take len text) → rest ≡ drop len text → x ≡ Opening q → Takes (step (state_of r) n ws) (Ok x)
     → ((s : State) (begin : ℕ) (o : Outcome) → Remains s begin o b → IsFrom (Block s begin []) begin (lines_of rest) o)
     → answers.Closes (state_of q) (n + 1) b a → Turns r n text a
 turn-close r q x b n len text rest ws (Ok y) e some w d t h reads closes = λ o k.
@@ -86,16 +89,16 @@ turn-close r q x b n len text rest ws (Err (document.Fault f)) e some w d t h re
 turn-close r q x b n len text rest ws (Err document.Memory) e some w d t h reads closes = tt
 
 -- a line of a policy's text
-block-first : (s : State) (begin n len : ℕ) (front text : List ℕ) (o : Outcome) → len ≡ first_len text → 0 < length text
+block-first : (s : State) (begin n len : ℕ) (front text : List ℕ) (o : Outcome) → IsFirst len text → 0 < length text
     → Chosen (is_end (words_of (take len text))) (Closes (λ m. IsFrom m (n + 1) (lines_of (drop len text)) o) o s begin front)
     (IsFrom (Block s begin (front ++ take len text)) (n + 1) (lines_of (drop len text)) o)
     → IsFrom (Block s begin front) n (lines_of text) o
-block-first s begin n len front text o e some h = subst (λ ls. IsFrom (Block s begin front) n ls o) (sym (lines-at text len e some)) h
+block-first s begin n len front text o e some h = subst (λ ls. IsFrom (Block s begin front) n ls o) (sym e) h
 
 more-at : (text : List ℕ) (end len : ℕ) → take end text ++ take len (drop end text) ≡ take (end + len) text
 more-at text end len = sym (take-add end len text)
 
-pub block-more : (s : State) (begin lines end len : ℕ) (text : List ℕ) (ws : List (List ℕ)) (o : Outcome) → len ≡ first_len (drop end text) → 0 < length (drop end text)
+pub block-more : (s : State) (begin lines end len : ℕ) (text : List ℕ) (ws : List (List ℕ)) (o : Outcome) → IsFirst len (drop end text) → 0 < length (drop end text)
     → ws ≡ words_of (take len (drop end text)) → is_end ws ≡ false
     → IsFrom (Block s begin (take (end + len) text)) (begin + (lines + 1)) (lines_of (drop (end + len) text)) o
     → IsFrom (Block s begin (take end text)) (begin + lines) (lines_of (drop end text)) o
@@ -108,7 +111,7 @@ block-more s begin lines end len text ws o e some w other k =
     (IsFrom (Block s begin (take end text ++ take len (drop end text))) ((begin + lines) + 1) (lines_of (drop len (drop end text))) o))
     (sym (sym (ap is_end w) ∙ other)) here)
 
-pub block-end : (s : State) (begin lines end len : ℕ) (text : List ℕ) (ws : List (List ℕ)) (o : Outcome) → len ≡ first_len (drop end text) → 0 < length (drop end text)
+pub block-end : (s : State) (begin lines end len : ℕ) (text : List ℕ) (ws : List (List ℕ)) (o : Outcome) → IsFirst len (drop end text) → 0 < length (drop end text)
     → ws ≡ words_of (take len (drop end text)) → is_end ws ≡ true
     → Closes (λ m. IsFrom m (begin + lines + 1) (lines_of (drop (end + len) text)) o) o s begin (take end text)
     → IsFrom (Block s begin (take end text)) (begin + lines) (lines_of (drop end text)) o
@@ -121,20 +124,20 @@ block-end s begin lines end len text ws o e some w last k =
 
 -- the same with the slices that the code takes
 pub block-more-at : (s : State) (begin lines end len : ℕ) (text rest line : List ℕ) (ws : List (List ℕ)) (o : Outcome) → rest ≡ drop end text → line ≡ take len rest
-    → len ≡ first_len rest → 0 < length rest → ws ≡ words_of line → is_end ws ≡ false
+    → IsFirst len rest → 0 < length rest → ws ≡ words_of line → is_end ws ≡ false
     → IsFrom (Block s begin (take (end + len) text)) (begin + (lines + 1)) (lines_of (drop (end + len) text)) o
     → IsFrom (Block s begin (take end text)) (begin + lines) (lines_of (drop end text)) o
 block-more-at s begin lines end len text rest line ws o r l e some w other k =
-    block-more s begin lines end len text ws o (e ∙ ap first_len r) (subst (λ d. 0 < length d) r some) (w ∙ ap words_of (l ∙ ap (take len) r)) other k
+    block-more s begin lines end len text ws o (subst (IsFirst len) r e) (subst (λ d. 0 < length d) r some) (w ∙ ap words_of (l ∙ ap (take len) r)) other k
 
 pub block-end-at : (s : State) (begin lines end len : ℕ) (text rest line front after : List ℕ) (ws : List (List ℕ)) (o : Outcome) → rest ≡ drop end text → line ≡ take len rest
     → front ≡ take end text → after ≡ drop (end + len) text
-    → len ≡ first_len rest → 0 < length rest → ws ≡ words_of line → is_end ws ≡ true
+    → IsFirst len rest → 0 < length rest → ws ≡ words_of line → is_end ws ≡ true
     → Closes (λ m. IsFrom m (begin + lines + 1) (lines_of after) o) o s begin front
     → IsFrom (Block s begin (take end text)) (begin + lines) (lines_of (drop end text)) o
 block-end-at s begin lines end len text rest line front after ws o r l f a e some w last k =
     let at = subst (λ d. Closes (λ m. IsFrom m (begin + lines + 1) (lines_of d) o) o s begin front) a k in
-    block-end s begin lines end len text ws o (e ∙ ap first_len r) (subst (λ d. 0 < length d) r some) (w ∙ ap words_of (l ∙ ap (take len) r)) last
+    block-end s begin lines end len text ws o (subst (IsFirst len) r e) (subst (λ d. 0 < length d) r some) (w ∙ ap words_of (l ∙ ap (take len) r)) last
     (subst (λ t. Closes (λ m. IsFrom m (begin + lines + 1) (lines_of (drop (end + len) text)) o) o s begin t) f at)
 
 nothing : (xs : List ℕ) → length xs ≡ 0 → xs ≡ []

@@ -1,5 +1,5 @@
 -- From bytes to lines, words and numbers.
-use Rattle.std.specs.Prelude.{ℕ, suc, take, Bool, true, false, ◌==◌, ◌||◌, List, [], ◌∷◌, filter, codes, Option, Some, if◌then◌else◌, option_map, option_and_then}
+use Rattle.std.specs.Prelude.{ℕ, Bool, true, false, ◌==◌, ◌||◌, List, [], ◌∷◌, filter, codes, Option, Some, if◌then◌else◌, option_map, option_and_then}
 use Rattle.std.specs.List.{before_first, after_first}
 use Rattle.std.specs.Str.{bytes_eq}
 use Rattle.netkat_parser.specs.Numbers as parser
@@ -14,24 +14,15 @@ abbrev pub lines_of : List ℕ → List (List ℕ)
 lines_of [] = []
 lines_of (x ∷ xs) = if x == 10 then (x ∷ []) ∷ lines_of xs else in_front x (lines_of xs)
 
--- how many bytes the first line has
-abbrev pub first_len : List ℕ → ℕ
-first_len [] = 0
-first_len (x ∷ xs) = if x == 10 then 1 else suc (first_len xs)
-
 -- nothing of a line counts from here on: a comment, or its end, LF or CR and LF
 abbrev pub is_over : List ℕ → Bool
 is_over [] = true
 is_over (x ∷ xs) = x == 35 || bytes_eq (x ∷ xs) (codes "\n") || bytes_eq (x ∷ xs) (codes "\r\n")
 
--- how many bytes of a line count
-abbrev pub content_len : List ℕ → ℕ
-content_len [] = 0
-content_len (x ∷ xs) = if is_over (x ∷ xs) then 0 else suc (content_len xs)
-
 -- what counts of a line
 abbrev pub content : List ℕ → List ℕ
-content line = take (content_len line) line
+content [] = []
+content (x ∷ xs) = if is_over (x ∷ xs) then [] else x ∷ content xs
 
 -- a blank or a tab
 abbrev pub is_blank : ℕ → Bool
@@ -41,11 +32,6 @@ is_blank b = b == 32 || b == 9
 abbrev pub pieces : List ℕ → List (List ℕ)
 pieces [] = [] ∷ []
 pieces (x ∷ xs) = if is_blank x then [] ∷ pieces xs else in_front x (pieces xs)
-
--- how many bytes the first piece has
-abbrev pub piece_len : List ℕ → ℕ
-piece_len [] = 0
-piece_len (x ∷ xs) = if is_blank x then 0 else suc (piece_len xs)
 
 abbrev pub is_filled : List ℕ → Bool
 is_filled [] = false

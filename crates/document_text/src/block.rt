@@ -1,5 +1,5 @@
 // The text of a policy.
-ghost use Rattle.std.specs.Prelude.{◌≡◌, ◌≤◌, ◌<◌, ◌+◌, ℕ, [], length, IfOk, IfSome};
+ghost use Rattle.std.specs.Prelude.{◌≡◌, ◌≤◌, ◌<◌, ◌+◌, ℕ, [], length, IfSome};
 ghost use Rattle.document_text.specs.Documents.{Outcome};
 ghost use Rattle.document_text.specs.States.{State};
 ghost use Rattle.document_text.specs.Grammar.{IsFrom};
@@ -7,8 +7,7 @@ ghost use Rattle.document_text.specs.Grammar as grammar;
 ghost use Rattle.document_text.specs.Texts.{lines_of};
 ghost use Rattle.document_text.specs.Answers.{Remains};
 
-use crate::words::{first_len, is_end, words};
-use std::alloc::{AllocError, Global};
+use crate::words::{first_len, is_end_line};
 
 /// What stands before the line with the one word `end`, how many lines these are, and what stands
 /// behind that line, if it is there.
@@ -20,31 +19,30 @@ pub struct Block<'a> {
 }
 
 /// The text of a policy up to its `end` line.
-pub fn block_of<'a>(alloc: Global, text: &'a [u8]) -> Result<Block<'a>, AllocError>
-    ensures reads { IfOk result (λ b. (s : State) (begin : ℕ) (o : Outcome) → Remains s begin o b → IsFrom (grammar.Block s begin []) begin (lines_of text.now) o) }
-    ensures lines { IfOk result (λ b. b.lines ≤ length text.now) }
-    ensures text { IfOk result (λ b. length b.text.now ≤ length text.now) }
-    ensures shorter { IfOk result (λ b. IfSome b.rest (λ r. length r.now + b.lines + 1 ≤ length text.now)) }
+pub fn block_of(text: &[u8]) -> Block<'_>
+    ensures reads { (s : State) (begin : ℕ) (o : Outcome) → Remains s begin o result → IsFrom (grammar.Block s begin []) begin (lines_of text.now) o }
+    ensures lines { result.lines ≤ length text.now }
+    ensures text { length result.text.now ≤ length text.now }
+    ensures shorter { IfSome result.rest (λ r. length r.now + result.lines + 1 ≤ length text.now) }
 {
     let mut end = 0;
     let mut lines = 0u64;
     while end < text.len() {
         let rest = &text[end..];
         let len = first_len(rest);
-        let words = words(alloc, &rest[..len])?;
-        if is_end(&words) {
-            return Ok(Block {
+        if is_end_line(&rest[..len]) {
+            return Block {
                 text: &text[..end],
                 lines,
                 rest: Some(&text[end + len..]),
-            });
+            };
         }
         end += len;
         lines += 1;
     }
-    Ok(Block {
+    Block {
         text,
         lines,
         rest: None,
-    })
+    }
 }

@@ -33,7 +33,7 @@ pub fn turn<'a>(
     match reader.take(alloc, line, &words) {
         Ok(Taken::Line(reader)) => Ok((reader, line + 1, rest)),
         Ok(Taken::Opening(reader)) => {
-            let block = block_of(alloc, rest)?;
+            let block = block_of(rest);
             close(alloc, reader, line + 1, block)
         }
         Err(Stop::Fault(fault)) => Err(refused(line, fault)),

@@ -1,6 +1,7 @@
 // From bytes to lines, words and numbers.
-ghost use Rattle.std.specs.Prelude.{◌≡◌, ◌≤◌, ◌<◌, [], ◌∷◌, ◌++◌, length, filter, IfOk};
-ghost use Rattle.document_text.specs.Texts.{first_len, is_over, content_len, is_blank, piece_len, is_filled, words_of, is_end, numeral, numerals, end_of};
+ghost use Rattle.std.specs.Prelude.{◌≡◌, ◌≤◌, ◌<◌, [], ◌∷◌, ◌++◌, length, take, drop, filter, IfOk};
+ghost use Rattle.document_text.specs.Texts.{lines_of, is_over, content, is_blank, is_filled, words_of, is_end, numeral, numerals, end_of};
+ghost use Rattle.std.specs.List.{position_or_len, prefix_len, list_all};
 ghost use Rattle.document_text.specs.Answers.{texts, Forms};
 
 use crate::fault::Stop;
@@ -11,7 +12,7 @@ use std::alloc::{AllocError, Global};
 
 /// How many bytes the first line has, with the LF that ends it.
 pub fn first_len(text: &[u8]) -> usize
-    ensures value { result ≡ first_len text.now }
+    ensures first { 0 < length text.now → lines_of text.now ≡ take result text.now ∷ lines_of (drop result text.now) }
     ensures some { 0 < length text.now → 0 < result }
     ensures within { result ≤ length text.now }
 {
@@ -28,7 +29,7 @@ pub fn words<'a>(alloc: Global, line: &'a [u8]) -> Result<Vec<&'a [u8]>, AllocEr
     ensures { IfOk result (λ all. texts all.items ≡ words_of line.now) }
 {
     let mut all = Vec::new(alloc);
-    let mut rest = &line[..content_len(line)];
+    let mut rest = content(line);
     loop {
         let end = piece_len(rest);
         all = with_word(all, &rest[..end])?;
@@ -50,17 +51,17 @@ fn with_word<'a>(all: Vec<&'a [u8]>, piece: &'a [u8]) -> Result<Vec<&'a [u8]>, A
     Ok(all)
 }
 
-// How many bytes of a line count.
-fn content_len(line: &[u8]) -> usize
-    ensures len { result ≡ content_len line.now }
-    ensures within { result ≤ length line.now }
+// What counts of a line.
+fn content(line: &[u8]) -> &[u8]
+    ensures content { result.now ≡ content line.now }
+    ensures shorter { length result.now ≤ length line.now }
 {
     for i in 0..line.len() {
         if is_over(&line[i..]) {
-            return i;
+            return &line[..i];
         }
     }
-    line.len()
+    line
 }
 
 // Whether nothing of a line counts from here on.
@@ -75,7 +76,7 @@ fn is_over(rest: &[u8]) -> bool
 
 // How many bytes stand before the first blank.
 fn piece_len(text: &[u8]) -> usize
-    ensures len { result ≡ piece_len text.now }
+    ensures len { result ≡ position_or_len is_blank text.now }
     ensures within { result ≤ length text.now }
 {
     for (i, byte) in text.iter().enumerate() {
@@ -84,6 +85,25 @@ fn piece_len(text: &[u8]) -> usize
         }
     }
     text.len()
+}
+
+// How many blanks stand at the front.
+fn blank_len(text: &[u8]) -> usize
+    ensures len { result ≡ prefix_len is_blank text.now }
+    ensures within { result ≤ length text.now }
+{
+    for (i, byte) in text.iter().enumerate() {
+        if !is_blank(*byte) {
+            return i;
+        }
+    }
+    text.len()
+}
+
+fn are_blank(text: &[u8]) -> bool
+    ensures { result ≡ list_all is_blank text.now }
+{
+    text.iter().all(|byte| is_blank(*byte))
 }
 
 fn is_blank(byte: u8) -> bool
@@ -100,6 +120,16 @@ pub fn is_end(words: &[&[u8]]) -> bool
         [word] => is_text(word, "end"),
         _ => false,
     }
+}
+
+/// Whether the one word of a line is `end`. The line is not cut into words.
+pub fn is_end_line(line: &[u8]) -> bool
+    ensures { result ≡ is_end (words_of line.now) }
+{
+    let content = content(line);
+    let rest = &content[blank_len(content)..];
+    let end = piece_len(rest);
+    is_text(&rest[..end], "end") && are_blank(&rest[end..])
 }
 
 /// The number that 1 to 10 decimal digits write.

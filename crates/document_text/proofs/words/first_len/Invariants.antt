@@ -1,5 +1,5 @@
 use Rattle.std.proofs.Common.{◌≡◌, ◌+◌, drop}
-use Rattle.document_text.specs.Texts.{first_len}
+use Rattle.document_text.proofs.Pieces.{first_len}
 use Rattle.document_text.proofs.words.first_len.Given as goal
 
 abbrev pub invariant-loop-i : goal.invariant-loop-i
