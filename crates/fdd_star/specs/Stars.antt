@@ -33,7 +33,7 @@ pub record IsDeep (p : Tree) (pk out : Packet) : Type 0 where
   pub made : AtMost p 513 pk out
   pub late : ¬ AtMost p 512 pk out
 
--- all that any number of turns of p make of a packet in range, 512 turns do
+-- no packet in range has an output that takes 513 turns
 abbrev pub IsShallow : Tree → Type 0
 IsShallow p = (pk out : Packet) → ¬ IsDeep p pk out
 

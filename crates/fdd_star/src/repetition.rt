@@ -20,9 +20,9 @@ use std::alloc::{AllocError, Global};
 /// The star `p*` of a diagram: what any number of turns give.
 ///
 /// From the packet of a cell, which holds what is fixed and nothing that the diagram names elsewhere, the turns are made
-/// one by one, each on what the one before added. Each test that is asked of a field left open parts the cell: what any
-/// number of turns give where it holds is found once for each cell. 512 turns are made at most; where one more would add something, the
-/// fault has a packet and an output that show it.
+/// one by one, each on what the one before added. Each test that is asked of a field left open parts the cell; what any
+/// number of turns give where it holds is found once, also where other orders of tests lead to the same cell. 512 turns
+/// are made at most; where one more would add something, the fault has a packet and an output that show it.
 pub fn star(alloc: Global, p: &Fdd) -> Result<Fdd, StarError>
     ensures star { MatchResult result (λ r. StarOf (tree_of p.now) (tree_of r)) (λ e. IsErrorOf (tree_of p.now) e) }
     ensures never_deep { OnOk result (IsShallow (tree_of p.now)) }
