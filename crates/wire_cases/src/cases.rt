@@ -18,7 +18,7 @@ pub fn answer(alloc: Global, line: &str) -> Result<String, AllocError> {
     }
 }
 
-// The bytes that these hexadecimal digits tell; all else is left out.
+// The bytes that these hexadecimal digits tell; all else, as a dash for no bytes, is left out.
 fn bytes_of(alloc: Global, text: &str) -> Result<Vec<u8>, AllocError> {
     let mut digits = Vec::new(alloc);
     for byte in text.as_bytes() {
