@@ -1,5 +1,5 @@
 -- Copies have one listing, and one list of actions.
-use Rattle.std.proofs.Common.{◌≡◌, ℕ, zero, suc, ◌+◌, ◌<◌, ◌≤◌, inl, inr, refl, ap, sym, ◌∙◌, subst, arith, cond, Bool, true, false, ◌==◌, List, [], ◌∷◌, length, get_or, Option, Some, add-one, Ordering, Less, Equal, Greater}
+use Rattle.std.proofs.Common.{◌≡◌, ℕ, suc, ◌+◌, ◌≤◌, inl, inr, refl, ap, sym, ◌∙◌, subst, arith, Bool, true, false, List, [], ◌∷◌, get_or, Some, add-one, Ordering, Less, Equal, Greater}
 use Rattle.std.specs.Cmp.{IsTotalOrder}
 use Rattle.std.specs.List.{sum_by}
 use Rattle.std.specs.List.Sorted.{IsPermutation, IsSorted}
@@ -7,17 +7,15 @@ use Rattle.std.specs.Ordering.{is_lt, is_eq, ordering_then, ordering_reverse, na
 use Rattle.std.proofs.lemmas.Bool.Decides.{nat_tests}
 use Rattle.std.proofs.lemmas.List.Sums.{sum_by-cons}
 use Rattle.std.proofs.lemmas.List.Sorted.{ranks_by, sorted_far, sum_by-IsPermutation}
-use Rattle.nk_values.specs.declared.action.Action.{Action}
 use Rattle.nk_values.specs.declared.lit.Lit.{Lit}
 use Rattle.nk_values.specs.declared.packet.Packet.{Packet}
-use Rattle.nk_values.specs.declared.rows.PortKind.{PortKind}
 use Rattle.nk_values.specs.Members.{IsIn}
 use Rattle.std.specs.Cmp.Lexicographic.{lists_ties, pointwise_decides}
 use Rattle.nk_values.specs.contracts.lit.LitOrd.TheImpl.Laws.{matches_eq-law}
 use Rattle.nk_values.specs.Ranks.{lit_cmp}
 use Rattle.nk_values.proofs.LitLaws.{lit_eq-Decides}
 use Rattle.fdd_nodes.specs.Copies.{copy_cmp}
-use Rattle.fdd_nodes.specs.Paths.{Way, cell_on}
+use Rattle.fdd_nodes.specs.Paths.{cell_on}
 use Rattle.leaf_actions.specs.declared.route.Route.{Route}
 use Rattle.leaf_actions.specs.declared.view.PortView.{PortView}
 use Rattle.leaf_actions.specs.declared.view.SwitchPort.{SwitchPort}
@@ -27,7 +25,6 @@ use Rattle.leaf_actions.specs.Listing.{listed}
 use Rattle.leaf_actions.specs.Orders.{route_total}
 use Rattle.leaf_actions.specs.Routes.{out_of, routes_of, route_cmp, IsListing}
 use Rattle.leaf_actions.specs.Views.{port_in}
-use Rattle.leaf_actions.proofs.ActionLists.{port_found}
 use Rattle.leaf_actions.proofs.Routed.{IsRouteOf, listed_known, in_contains}
 
 -- what is told apart by an order
@@ -113,8 +110,8 @@ module _ {X : Type 0} (R : X → X → Ordering) (o : IsTotalOrder R) (P : X →
       let b = no_less R o y x ys xs t (sym (c (λ z. is_eq (R z x)))) in
       let e : x ≡ y = one x y (px x (inl refl)) (py y (inl refl)) (neither_less R o x y b a) in
       let rest = same_sorted xs ys (λ z m. px z (inr m)) (λ z m. py z (inr m))
-          (λ p. let h = c p in let k : bit (p x) ≡ bit (p y) = ap (λ (z : X). bit (p z)) e in omega (arith, h, k))
-          (tail_sorted R x xs s) (tail_sorted R y ys t) in
+      (λ p. let h = c p in let k : bit (p x) ≡ bit (p y) = ap (λ (z : X). bit (p z)) e in omega (arith, h, k))
+      (tail_sorted R x xs s) (tail_sorted R y ys t) in
       λ i. e i ∷ rest i
 
 -- routes that compare as equal are one
