@@ -4,39 +4,36 @@ use nk_values::{MOST_DOCUMENT_BYTES, TextFault};
 use std::alloc::{AllocError, Global};
 use std::test::Fail;
 
-// How many policies there are, or the fault and its line.
-fn told(answer: Result<Document, DocumentError>) -> Option<Result<usize, (TextFault, u64)>> {
+// The fault of a document and its line; none has want of memory.
+fn refused(answer: Result<Document, DocumentError>) -> Option<(TextFault, u64)> {
     match answer {
-        Ok(document) => Some(Ok(document.policies.len())),
-        Err(DocumentError::Fault(it)) => Some(Err((it.fault, it.line))),
-        Err(DocumentError::Memory) => None,
+        Ok(_) => None,
+        Err(DocumentError::Fault(it)) => Some((it.fault, it.line)),
+        Err(DocumentError::Memory) => Some((TextFault::BadChar, 0)),
     }
 }
 
 // A switch, 64 policies of three lines, and then this.
-fn many_policies(
-    alloc: Global,
-    last: &str,
-) -> Result<Option<Result<usize, (TextFault, u64)>>, AllocError> {
+fn many_policies(alloc: Global, last: &str) -> Result<Option<(TextFault, u64)>, AllocError> {
     let mut text = "switch 1 ports 1 2\n".to_string(alloc)?;
     for _ in 0..64 {
         text.push_str("policy\nskip\nend\n")?;
     }
     text.push_str(last)?;
-    Ok(told(read_document(alloc, text.as_bytes())))
+    Ok(refused(read_document(alloc, text.as_bytes())))
 }
 
 #[test]
 fn at_most_64_policies(rt: HostRuntime) -> Result<(), Fail> {
     let whole = many_policies(rt.alloc(), "")?;
-    assert_eq!(rt; whole, Some(Ok(64)));
+    assert_eq!(rt; whole, None);
     let more = many_policies(rt.alloc(), "policy and more")?;
-    assert_eq!(rt; more, Some(Err((TextFault::Limit, 194))));
+    assert_eq!(rt; more, Some((TextFault::Limit, 194)));
     Ok(())
 }
 
 // A document of so many bytes: a comment, and a document of four lines behind it.
-fn long(alloc: Global, len: usize) -> Result<Option<Result<usize, (TextFault, u64)>>, AllocError> {
+fn long(alloc: Global, len: usize) -> Result<Option<(TextFault, u64)>, AllocError> {
     let end = b"\nswitch 1 ports 1\npolicy\nskip\nend\n";
     let mut text = Vec::new(alloc);
     for _ in end.len()..len {
@@ -45,14 +42,14 @@ fn long(alloc: Global, len: usize) -> Result<Option<Result<usize, (TextFault, u6
     for byte in end {
         text.push(*byte)?;
     }
-    Ok(told(read_document(alloc, &text)))
+    Ok(refused(read_document(alloc, &text)))
 }
 
 #[test]
 fn at_most_so_many_bytes(rt: HostRuntime) -> Result<(), Fail> {
     let whole = long(rt.alloc(), MOST_DOCUMENT_BYTES)?;
-    assert_eq!(rt; whole, Some(Ok(1)));
+    assert_eq!(rt; whole, None);
     let more = long(rt.alloc(), MOST_DOCUMENT_BYTES + 1)?;
-    assert_eq!(rt; more, Some(Err((TextFault::Limit, 5))));
+    assert_eq!(rt; more, Some((TextFault::Limit, 5)));
     Ok(())
 }

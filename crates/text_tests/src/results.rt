@@ -3,7 +3,6 @@ use history_meaning::some_results;
 use nk_syntax::{Pol, Pols, Pred};
 use nk_values::{Field, Header, History, Lit, Packet};
 use std::alloc::{AllocError, Global};
-use std::process::Abort;
 use std::test::Fail;
 
 // A packet at port 1 of switch 1 for this destination.
@@ -41,13 +40,18 @@ fn two_steps(alloc: Global, dst: [Lit; 3], port: Lit) -> Result<Pol, AllocError>
     Ok(Pol::Seq(Pols { items }))
 }
 
-// Compares the newest packets' destinations, in order.
-fn compare<R: Abort>(rt: &R, histories: &[History], destinations: &[u64]) {
-    assert_eq!(rt; histories.len(), destinations.len());
-    for (history, dst) in histories.iter().zip(destinations) {
-        assert_eq!(rt; history.newest().header.eth_dst, *dst);
-        assert_eq!(rt; history.newest().pt, 2);
+// The port and the destination of each newest packet, two digits a history; 0 for want of memory.
+fn digits(results: Result<Vec<History>, AllocError>) -> u64 {
+    let Ok(histories) = results else {
+        return 0;
+    };
+    let mut digits = 0u64;
+    for history in &histories {
+        let packet = history.newest();
+        digits = digits.wrapping_mul(10).wrapping_add(packet.pt);
+        digits = digits.wrapping_mul(10).wrapping_add(packet.header.eth_dst);
     }
+    digits
 }
 
 #[test]
@@ -59,7 +63,7 @@ fn takes_its_turns(rt: HostRuntime) -> Result<(), Fail> {
     let port = Lit::new(Field::Pt, 2).ok_or("no literal")?;
     let pol = two_steps(alloc, [one, two, three], port)?;
     let history = History::new(alloc, packet(1));
-    compare(&rt, &some_results(alloc, &pol, &history, 2)?, &[1, 2, 3]);
-    compare(&rt, &some_results(alloc, &pol, &history, 1)?, &[1, 2]);
+    assert!(rt; digits(some_results(alloc, &pol, &history, 2)) == 21_22_23);
+    assert!(rt; digits(some_results(alloc, &pol, &history, 1)) == 21_22);
     Ok(())
 }
