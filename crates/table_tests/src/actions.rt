@@ -3,7 +3,7 @@ use fdd_nodes::{Assignments, Leaf, Path};
 use leaf_actions::{
     ActionsError, ActionsFault, PortView, SwitchPort, SwitchPorts, actions, are_settable,
 };
-use nk_values::{Action, Actions, Field, Lit, PortKind};
+use nk_values::{Action, Actions, Field, GREATEST_VLAN_ID, IN_PORT, Lit, PortKind};
 use std::alloc::Global;
 use std::test::Fail;
 
@@ -69,7 +69,7 @@ fn made(
     let (Some(path), Some(leaf), Some(view)) = (path, leaf, view) else {
         return Err(ActionsError::Memory);
     };
-    if !are_settable(&leaf) || view.stamp < 1 || view.stamp > 4094 {
+    if !are_settable(&leaf) || view.stamp < 1 || view.stamp > GREATEST_VLAN_ID {
         return Err(ActionsError::Memory);
     }
     actions(alloc, &path, &leaf, &view)
@@ -99,7 +99,7 @@ fn from_nine(alloc: Global) -> Option<Path> {
 fn a_packet_goes_back(rt: HostRuntime) {
     let alloc = rt.alloc();
     let made = made(alloc, open(alloc), every(alloc), edge(alloc));
-    assert!(rt; are(made, &[Action::Output(65528)]));
+    assert!(rt; are(made, &[Action::Output(IN_PORT)]));
 }
 
 #[test]
@@ -131,7 +131,7 @@ fn the_copy_that_sets_less_comes_first(rt: HostRuntime) {
     let wanted = [
         Action::Output(3),
         Action::SetDlDst(5),
-        Action::Output(65528),
+        Action::Output(IN_PORT),
     ];
     assert!(rt; are(made(alloc, open(alloc), leaf, edge(alloc)), &wanted));
 }
@@ -161,7 +161,7 @@ fn what_the_path_fixes_is_restored(rt: HostRuntime) {
     let alloc = rt.alloc();
     let wanted = [
         Action::SetDlSrc(1),
-        Action::Output(65528),
+        Action::Output(IN_PORT),
         Action::SetDlSrc(9),
         Action::SetDlDst(2),
         Action::Output(3),

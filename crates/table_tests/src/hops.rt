@@ -7,7 +7,8 @@ ghost use Rattle.nk_values.specs.Changes.{row_of};
 use crate::networks::{Net, topology};
 use flow_table::{ChangeError, Table};
 use nk_values::{
-    Action, Actions, Command, FlowMod, Header, History, Packet, Pattern, Tag, in_range,
+    ANY_PORT, Action, Actions, Command, FlowMod, Header, History, IN_PORT, Packet, Pattern, Tag,
+    in_range,
 };
 use packet_tracer::{Flight, Hopped, hop};
 use std::alloc::{AllocError, Global};
@@ -55,7 +56,7 @@ fn two_ways(alloc: Global) -> Result<FlowMod, AllocError>
     ensures { IfOk result (λ change. change.command ≡ Command.Add) }
 {
     let mut actions = Actions::new(alloc);
-    actions.push(Action::Output(65528))?;
+    actions.push(Action::Output(IN_PORT))?;
     actions.push(Action::SetVlanVid(1))?;
     actions.push(Action::SetDlDst(5))?;
     actions.push(Action::Output(2))?;
@@ -63,7 +64,7 @@ fn two_ways(alloc: Global) -> Result<FlowMod, AllocError>
         command: Command::Add,
         pattern: Pattern::any(),
         priority: 1,
-        out_port: 65535,
+        out_port: ANY_PORT,
         actions,
     })
 }

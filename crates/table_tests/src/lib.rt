@@ -1,4 +1,4 @@
-//! Tests of actions, rows, hops and walks.
+//! Tests of lists of actions and of single hops. (Rows, refusals and walks are cases of the program.)
 #![tactic(auto)]
 
 #[cfg(test)]
@@ -7,7 +7,3 @@ mod actions;
 mod hops;
 #[cfg(test)]
 mod networks;
-#[cfg(test)]
-mod rows;
-#[cfg(test)]
-mod walks;
