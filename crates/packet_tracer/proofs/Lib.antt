@@ -2,6 +2,7 @@ pub mod Bare
 pub mod FutureLaws
 pub mod HopLaws
 pub mod Links
+pub mod Parts
 pub mod Placing
 pub mod Reaching
 pub mod Runs

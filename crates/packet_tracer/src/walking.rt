@@ -7,7 +7,7 @@ ghost use Rattle.nk_values.specs.Tables.{first};
 ghost use Rattle.nk_syntax.specs.Terms.{Term};
 ghost use Rattle.topology_model.specs.Layouts.{wiring};
 ghost use Rattle.policy_rows.specs.Means.{RowsMean, standing, port_place, rows_at};
-ghost use Rattle.packet_tracer.specs.Turns.{sent_by, ends_at, flights_at, ends_after, flights_after};
+ghost use Rattle.packet_tracer.specs.Turns.{AreListed, sent_by, ends_at, flights_at, ends_after, flights_after};
 ghost use Rattle.packet_tracer.specs.Walks.{IsWalk};
 
 use crate::flight::{Flight, Hopped, Walk};
@@ -15,7 +15,7 @@ use crate::hopping::outcomes;
 use flow_table::{act, hits};
 use nk_values::{Header, History, Packet, PortRows, Row, Rows, Sent, Tag};
 use std::alloc::{AllocError, Global};
-use topology_model::Topology;
+use topology_model::{Site, Topology};
 
 /// The way of a packet that enters at an edge port through switches with these rows, for so many hops.
 /// Where the rows stand for a policy, the finished histories are the complete hop histories that it gives
@@ -35,8 +35,7 @@ pub fn walk(
     ensures { (p : Term) → RowsMean rows.now p topology.now →
         IfOk result (λ walk. IsWalk (wiring topology.now) p packet.now tag hops walk.finished.items walk.in_flight.items) }
 {
-    // every topology is sound
-    let _switches = topology.switches();
+    let sites = topology.switches();
     if tag.id().is_some() {
         return Ok(Walk {
             finished: Vec::new(alloc),
@@ -49,7 +48,7 @@ pub fn walk(
         hops: 0,
         arrival: 0,
     };
-    let hopped = turns(alloc, rows.ports.as_slice(), topology, flight, hops)?;
+    let hopped = turns(alloc, rows.ports.as_slice(), sites, topology, flight, hops)?;
     Ok(Walk {
         finished: hopped.finished,
         in_flight: histories(alloc, hopped.flights)?,
@@ -60,10 +59,12 @@ pub fn walk(
 fn turns(
     alloc: Global,
     ports: &[PortRows],
+    sites: &[Site],
     topology: &Topology,
     flight: Flight,
     hops: u64,
 ) -> Result<Hopped, AllocError>
+    requires { AreListed ports.now sites.now topology.now }
     ensures finished { IfOk result (λ h. h.finished.items ≡ ends_after ports.now topology.now flight hops) }
     ensures flights { IfOk result (λ h. h.flights.items ≡ flights_after ports.now topology.now flight hops) }
 {
@@ -74,7 +75,7 @@ fn turns(
         if flights.is_empty() {
             return Ok(Hopped { finished, flights });
         }
-        flights = turn(alloc, ports, topology, &flights, &mut finished)?;
+        flights = turn(alloc, ports, sites, topology, &flights, &mut finished)?;
     }
     Ok(Hopped { finished, flights })
 }
@@ -94,16 +95,18 @@ fn histories(alloc: Global, flights: Vec<Flight>) -> Result<Vec<History>, AllocE
 fn turn(
     alloc: Global,
     ports: &[PortRows],
+    sites: &[Site],
     topology: &Topology,
     flights: &[Flight],
     finished: &mut Vec<History>,
 ) -> Result<Vec<Flight>, AllocError>
+    requires { AreListed ports.now sites.now topology.now }
     ensures finished { IfOk result (λ _. finished.new.items ≡ finished.old.items ++ flat_map (ends_at ports.now topology.now) flights.now) }
     ensures flights { IfOk result (λ v. v.items ≡ flat_map (flights_at ports.now topology.now) flights.now) }
 {
     let mut next = Vec::new(alloc);
     for flight in flights {
-        let hopped = step(alloc, ports, topology, flight)?;
+        let hopped = step(alloc, ports, sites, topology, flight)?;
         append(finished, hopped.finished)?;
         append(&mut next, hopped.flights)?;
     }
@@ -114,14 +117,16 @@ fn turn(
 fn step(
     alloc: Global,
     ports: &[PortRows],
+    sites: &[Site],
     topology: &Topology,
     flight: &Flight,
 ) -> Result<Hopped, AllocError>
+    requires { AreListed ports.now sites.now topology.now }
     ensures finished { IfOk result (λ h. h.finished.items ≡ ends_at ports.now topology.now flight.now) }
     ensures flights { IfOk result (λ h. h.flights.items ≡ flights_at ports.now topology.now flight.now) }
 {
     let packet = flight.history.newest();
-    match port_at(ports, packet) {
+    match port_at(ports, sites, topology, packet) {
         None => Ok(Hopped {
             finished: Vec::new(alloc),
             flights: Vec::new(alloc),
@@ -155,8 +160,27 @@ fn first_hit<'a>(rows: &'a [Row], port: u16, header: &Header, tag: Tag) -> Optio
     None
 }
 
-// The rows of the port at which a packet stands.
-fn port_at<'a>(ports: &'a [PortRows], packet: &Packet) -> Option<&'a PortRows>
+// The rows of the port at which a packet stands, looked for among those of its switch.
+fn port_at<'a>(
+    ports: &'a [PortRows],
+    sites: &[Site],
+    topology: &Topology,
+    packet: &Packet,
+) -> Option<&'a PortRows>
+    requires { AreListed ports.now sites.now topology.now }
+    ensures { MatchOption result (rows_at ports.now (standing packet.now) ≡ []) (λ port. (port_place port.now ≡ standing packet.now) × (rows_at ports.now (standing packet.now) ≡ port.now.rows)) }
+{
+    let Ok(sw) = u16::try_from(packet.sw) else {
+        return None;
+    };
+    let place = topology.place(sw)?;
+    let first = topology.ports_before(place);
+    let end = first + sites[place].ports.len();
+    port_among(&ports[first..end], packet)
+}
+
+// The same among some of the ports.
+fn port_among<'a>(ports: &'a [PortRows], packet: &Packet) -> Option<&'a PortRows>
     ensures { MatchOption result (rows_at ports.now (standing packet.now) ≡ []) (λ port. (port_place port.now ≡ standing packet.now) × (rows_at ports.now (standing packet.now) ≡ port.now.rows)) }
 {
     for port in ports {
