@@ -1,5 +1,5 @@
 // The switch.
-ghost use Rattle.std.specs.Prelude.{◌≡◌, ◌≢◌, ◌⊎◌, ◌≤◌, ◌↔◌, None, Some, Err, IfOk, IfErr, IfSome, IsErr, IsOk, IsTrue, IsSome, OnOk, OnErr, length, []};
+ghost use Rattle.std.specs.Prelude.{◌≡◌, ◌≢◌, ◌⊎◌, ◌≤◌, ◌↔◌, None, Some, Err, IfOk, IfErr, IfSome, IsErr, IsOk, IsTrue, IsNone, IsSome, OnOk, OnErr, length, slice_get, []};
 ghost use Rattle.flow_table.specs.Changed.{Removes};
 ghost use Rattle.openflow_wire.specs.Writing.{Fits};
 ghost use Rattle.openflow_wire.specs.declared.message.Message.TheVariants as to;
@@ -186,10 +186,9 @@ impl Switch {
         ensures not_pending { (result ≡ Err ApplyError.NotPending) ↔ (length self.old.pending ≤ place) }
         ensures err { OnErr result (self.new ≡ self.old) }
     {
-        if place >= self.pending.len() {
+        let Some(pending) = pending_at(&self.pending, place) else {
             return Err(ApplyError::NotPending);
-        }
-        let pending = &self.pending[place];
+        };
         let answer = change_by(alloc, &mut self.table, pending)?;
         self.pending.remove(place);
         Ok(answer)
@@ -211,6 +210,17 @@ impl Switch {
         self.awaited = None;
         Ok(Message::BarrierReply { xid })
     }
+}
+
+// The flow mod that is pending at a place.
+fn pending_at(pending: &[Pending], place: usize) -> Option<&Pending>
+    ensures found { IfSome result (λ p. slice_get pending.now place ≡ Some p.now) }
+    ensures none { IsNone result ↔ (length pending.now ≤ place) }
+{
+    if place >= pending.len() {
+        return None;
+    }
+    Some(&pending[place])
 }
 
 // Answers a request for the features, or gives it back.
