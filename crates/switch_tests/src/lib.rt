@@ -1,0 +1,11 @@
+//! Tests of switches: bytes of their answers, and that calls succeed where memory is there.
+#![tactic(auto)]
+
+#[cfg(test)]
+mod answers;
+#[cfg(test)]
+mod barriers;
+#[cfg(test)]
+mod changes;
+#[cfg(test)]
+mod messages;
