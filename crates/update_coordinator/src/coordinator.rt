@@ -1,5 +1,5 @@
 // The coordinator.
-ghost use Rattle.update_coordinator.specs.Controls.{is_stamp};
+ghost use Rattle.update_coordinator.specs.Calls.{is_stamp};
 ghost use Rattle.std.specs.Prelude.{IsTrue, ◌↔◌, IfOk, ◌≡◌, ◌<◌, ◌⊎◌, ◌≢◌, None, Some, Err, IfErr, OnOk, OnErr, IfNone, IfSome, length, option_map, slice_get, is_some};
 
 use crate::cause::Cause;
@@ -27,7 +27,8 @@ pub struct Coordinator {
 }
 
 impl Model for Coordinator {
-    ghost use Rattle.update_coordinator.specs.Controls.{Control, IsControl};
+    ghost use Rattle.update_coordinator.specs.Controls.{Control};
+    ghost use Rattle.update_coordinator.specs.Kept.{IsControl};
 
     ghost Value = { Control };
 
@@ -37,7 +38,11 @@ impl Model for Coordinator {
 }
 
 impl Coordinator {
-    ghost use Rattle.update_coordinator.specs.Controls.{halted, IsHeard, IsAnswered, IsLost, IsSent, MaySend, Owes, AreDone, begun, drained, begin_refusal, drain_refusal, refusal_of, in_phase};
+    ghost use Rattle.update_coordinator.specs.Controls.{halted, in_phase};
+    ghost use Rattle.update_coordinator.specs.Hearing.{IsHeard, IsAnswered, IsLost};
+    ghost use Rattle.update_coordinator.specs.Sending.{IsSent, MaySend, Owes};
+    ghost use Rattle.update_coordinator.specs.Kept.{AreDone};
+    ghost use Rattle.update_coordinator.specs.Calls.{begun, drained, begin_refusal, drain_refusal, refusal_of};
     ghost use Rattle.update_coordinator.specs.Phases.{entry};
     ghost use Rattle.update_coordinator.specs.Starts.{start};
     ghost use Rattle.policy_rows.specs.Limits.{AreWithinLimits, AreWritable};

@@ -1,7 +1,9 @@
 // One switch, as the coordinator sees it.
 ghost use Rattle.std.specs.Prelude.{◌≡◌, ◌+◌, ◌<◌, ◌^◌, ◌≤◌, ◌-◌, suc, [], ◌∷◌, ◌++◌, length, IfNone, IfSome, IsTrue, ◌↔◌, ◌≢◌, ℕ, Some, map, slice_get, slice_set};
 ghost use Rattle.openflow_wire.specs.Writing.{Fits};
-ghost use Rattle.update_coordinator.specs.Controls.{with_batch, still_asked, AreDone};
+ghost use Rattle.update_coordinator.specs.Controls.{with_batch};
+ghost use Rattle.update_coordinator.specs.Hearing.{still_asked};
+ghost use Rattle.update_coordinator.specs.Kept.{AreDone};
 ghost use Rattle.update_coordinator.specs.Controls as control;
 ghost use Rattle.update_coordinator.specs.Sites.{HearsAt, SendsAt};
 
@@ -40,7 +42,10 @@ impl Model for Site {
 }
 
 impl Site {
-    ghost use Rattle.update_coordinator.specs.Controls.{with_batch, met, told, IsNext, IsDone};
+    ghost use Rattle.update_coordinator.specs.Controls.{with_batch};
+    ghost use Rattle.update_coordinator.specs.Hearing.{met, told};
+    ghost use Rattle.update_coordinator.specs.Sending.{IsNext};
+    ghost use Rattle.update_coordinator.specs.Kept.{IsDone};
     ghost use Rattle.update_coordinator.specs.Sites.{EndsBatch, AreSendable};
     ghost use Rattle.openflow_wire.specs.Writing.{Fits};
     ghost use Rattle.update_coordinator.specs.Starts.{new_site};
