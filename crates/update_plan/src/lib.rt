@@ -1,0 +1,11 @@
+//! What takes the switches from the rows of one policy to those of the next, batch by batch (SIGCOMM 2012,
+//! section 5).
+#![tactic(auto)]
+
+mod batch;
+mod planning;
+mod switch_plan;
+
+pub use batch::{Batch, Batches};
+pub use planning::{plan, plan_at, plan_for, round_count};
+pub use switch_plan::{Plan, SwitchPlan};
