@@ -34,21 +34,34 @@ fn port(alloc: Global, sw: u16, priority: u16) -> Result<PortRows, AllocError>
     })
 }
 
-// The rows of a policy.
+// The rows of a policy: one at each of two ports, given by their switches and priorities.
 #[tactic(auto, using(crate::proofs::Rows::few, crate::proofs::Rows::written))]
-fn version(alloc: Global, stamp: u16, band: Band, priority: u16) -> Result<Rows, AllocError>
+fn version(
+    alloc: Global,
+    stamp: u16,
+    band: Band,
+    first: (u16, u16),
+    second: (u16, u16),
+) -> Result<Rows, AllocError>
     ensures limits { IfOk result AreWithinLimits }
     ensures writable { IfOk result AreWritable }
 {
     let mut ports = PortLists::new(alloc);
-    ports.push(port(alloc, 1, priority)?)?;
-    ports.push(port(alloc, 2, priority)?)?;
+    ports.push(port(alloc, first.0, first.1)?)?;
+    ports.push(port(alloc, second.0, second.1)?)?;
     Ok(Rows { stamp, band, ports })
 }
 
 pub fn start(alloc: Global) -> Result<Coordinator, AllocError> {
-    let first = version(alloc, 1, Band::High, 36000)?;
-    let second = version(alloc, 2, Band::Low, 16000)?;
+    let first = version(alloc, 1, Band::High, (1, 36000), (2, 36000))?;
+    let second = version(alloc, 2, Band::Low, (1, 16000), (2, 16000))?;
+    Coordinator::new(alloc, &[first, second], &[1, 2])
+}
+
+/// The same with both ports at the first switch, so that its batches have two flow mods.
+pub fn start_at_one(alloc: Global) -> Result<Coordinator, AllocError> {
+    let first = version(alloc, 1, Band::High, (1, 36000), (1, 35999))?;
+    let second = version(alloc, 2, Band::Low, (1, 16000), (1, 15999))?;
     Coordinator::new(alloc, &[first, second], &[1, 2])
 }
 

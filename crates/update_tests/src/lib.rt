@@ -4,6 +4,8 @@
 #[cfg(test)]
 mod controllers;
 #[cfg(test)]
+mod fleet;
+#[cfg(test)]
 mod plans;
 #[cfg(test)]
 mod updates;
