@@ -37,13 +37,16 @@ impl<'a> Parts<'a> {
         self.known.get(cell.generic())
     }
 
-    /// Keeps the star on the packets of a cell.
-    pub(crate) fn keep(&mut self, cell: &Cell, part: Fdd) -> Result<(), AllocError>
+    /// Keeps the star on the packets of a cell that was come to from another one. From the cell that fixes nothing there
+    /// is one way to it, so it is not met again, and nothing is kept.
+    pub(crate) fn keep(&mut self, outer: &Cell, cell: &Cell, part: Fdd) -> Result<(), AllocError>
         requires parts { AreParts self.old }
         requires right { IsPart (base_of self.old) cell.now part }
         ensures { OnOk result (GoesOn self.old self.new) }
     {
-        self.known.insert(*cell.generic(), part)?;
+        if *outer.generic() != *Cell::open().generic() {
+            self.known.insert(*cell.generic(), part)?;
+        }
         Ok(())
     }
 }

@@ -64,7 +64,7 @@ fn star_in(
         } else {
             let part = star_in(alloc, p, visits, parts, &inner)?;
             all = choice(alloc, l, &part, all)?;
-            parts.keep(&inner, part)?;
+            parts.keep(cell, &inner, part)?;
         }
     }
     Ok(all)

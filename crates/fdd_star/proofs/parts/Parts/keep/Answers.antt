@@ -7,9 +7,9 @@ use Rattle.fdd_star.proofs.EqualLaws.{packet_eq}
 use Rattle.fdd_star.proofs.KeptLaws.{right_added}
 use Rattle.fdd_star.proofs.parts.Parts.keep.Goals as goal
 
-pub returns : goal.returns
-returns c =
-    let entries = c.in_ok-insert.ensures.entries ∙ ap (λ (q : Packet). insert_entry packet_eq c.args.self.now.known.entries q c.args.part) c.generic.ensures in
+pub returns-in_ok-insert : goal.returns-in_ok-insert
+returns-in_ok-insert c =
+    let entries = c.in_ok-insert.ensures.entries ∙ ap (λ (q : Packet). insert_entry packet_eq c.args.self.now.known.entries q c.args.part) c.generic-then-ne.ensures in
     record {
       base = refl;
       right = record { right = subst (EachIs (IsPart (base_of c.args.self.now))) (sym entries) (right_added (IsPart (base_of c.args.self.now)) _ _ _ c.requires.parts.right c.requires.right) };
