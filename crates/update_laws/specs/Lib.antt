@@ -1,0 +1,11 @@
+pub mod Tables
+pub mod Changes
+pub mod Lines
+pub mod Means
+pub mod Updates
+pub mod Settings
+pub mod Wired
+pub mod Stages
+pub mod Fleets
+pub mod Coming
+pub mod Traffic
