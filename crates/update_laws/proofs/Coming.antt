@@ -28,6 +28,7 @@ use Rattle.update_laws.proofs.Places.{get-some, get-within}
 use Rattle.update_laws.proofs.Made.{made}
 use Rattle.update_laws.proofs.Bridge.{by_place, edge_only, none_by_rounds, row-between}
 use Rattle.update_laws.proofs.Owned.{owned, install-is, clean-is}
+use Rattle.update_laws.proofs.Bands.{banded}
 
 -- ---- one row of a list
 
@@ -64,7 +65,7 @@ comes : (t : Layout) (vs : List Version) (limit capacity o k sw : ℕ) (x : Vers
     round_rows true (suc k) (band_of (rows_in (version_at vs (suc o)))) (ports_at (rows_in (version_at vs (suc o))) sw) ≡ outer_between (setting_of t vs limit capacity) (suc o) (λ n. k) (λ n. suc k) sw
 comes t vs limit capacity o k sw x s v e d =
     ap (λ (w : Option Version). round_rows true (suc k) (band_of (rows_in w)) (ports_at (rows_in w) sw)) e
-    ∙ ap (λ (b : Band). round_rows true (suc k) b (filter (λ p. p.sw == sw) x.rows.ports)) (v.bands o x e ∙ ap band_by d)
+    ∙ ap (λ (b : Band). round_rows true (suc k) b (filter (λ p. p.sw == sw) x.rows.ports)) (banded t vs v o x e ∙ ap band_by d)
     ∙ by_place t (λ kind rows. row_in true (suc k) (by_rounds High kind rows)) sw x.rows.ports x.rows.ports (flat_map places_at t.switches) (owned t x.rows (term_of x.pol) s (v.means o x e)) (v.means o x e).ports
     ∙ edge_only t (λ rows. row_in true (suc k) rows) (rows_at x.rows.ports) sw (flat_map places_at t.switches) (none-in true k)
     ∙ (λ i. flat_map (λ b. coming-row k (rows_at x.rows.ports (spot sw b)) i) (ports_in (edges_of t) sw))
@@ -74,7 +75,7 @@ goes : (t : Layout) (vs : List Version) (limit capacity o k sw : ℕ) (x : Versi
     round_rows false (suc k) (band_of (rows_in (version_at vs (suc o)))) (ports_at (rows_in (version_at vs (suc o))) sw) ≡ outer_between (setting_of t vs limit capacity) (suc o) (λ n. n - suc k) (λ n. n - k) sw
 goes t vs limit capacity o k sw x s v e d =
     ap (λ (w : Option Version). round_rows false (suc k) (band_of (rows_in w)) (ports_at (rows_in w) sw)) e
-    ∙ ap (λ (b : Band). round_rows false (suc k) b (filter (λ p. p.sw == sw) x.rows.ports)) (v.bands o x e ∙ ap band_by d)
+    ∙ ap (λ (b : Band). round_rows false (suc k) b (filter (λ p. p.sw == sw) x.rows.ports)) (banded t vs v o x e ∙ ap band_by d)
     ∙ by_place t (λ kind rows. row_in false (suc k) (by_rounds High kind rows)) sw x.rows.ports x.rows.ports (flat_map places_at t.switches) (owned t x.rows (term_of x.pol) s (v.means o x e)) (v.means o x e).ports
     ∙ edge_only t (λ rows. row_in false (suc k) rows) (rows_at x.rows.ports) sw (flat_map places_at t.switches) (none-in false k)
     ∙ (λ i. flat_map (λ b. going-row k (rows_at x.rows.ports (spot sw b)) i) (ports_in (edges_of t) sw))
@@ -85,7 +86,7 @@ none-low : (t : Layout) (vs : List Version) (b : Bool) (o k sw : ℕ) (x : Versi
     round_rows b (suc k) (band_of (rows_in (version_at vs (suc o)))) (ports_at (rows_in (version_at vs (suc o))) sw) ≡ []
 none-low t vs b o k sw x s v e d =
     ap (λ (w : Option Version). round_rows b (suc k) (band_of (rows_in w)) (ports_at (rows_in w) sw)) e
-    ∙ ap (λ (y : Band). round_rows b (suc k) y (filter (λ p. p.sw == sw) x.rows.ports)) (v.bands o x e ∙ ap band_by d)
+    ∙ ap (λ (y : Band). round_rows b (suc k) y (filter (λ p. p.sw == sw) x.rows.ports)) (banded t vs v o x e ∙ ap band_by d)
     ∙ by_place t (λ kind rows. row_in b (suc k) (by_rounds Low kind rows)) sw x.rows.ports x.rows.ports (flat_map places_at t.switches) (owned t x.rows (term_of x.pol) s (v.means o x e)) (v.means o x e).ports
     ∙ none_by_rounds t (λ rows. row_in b (suc k) rows) (rows_at x.rows.ports) sw (ports_in (flat_map places_at t.switches) sw) (none-in b k)
 

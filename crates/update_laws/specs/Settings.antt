@@ -11,8 +11,9 @@ use Rattle.nk_syntax.specs.Views.{term_of}
 use Rattle.history_meaning.specs.Network.{Place}
 use Rattle.topology_model.specs.Layouts.{Layout, is_linked, places_at, edges_of, wiring}
 use Rattle.policy_rows.specs.declared.version.Version.{Version}
-use Rattle.policy_rows.specs.Means.{RowsMean}
-use Rattle.policy_rows.specs.Means.{rows_at}
+use Rattle.policy_rows.specs.Limits.{AreWithinLimits, AreWritable}
+use Rattle.policy_rows.specs.Means.{RowsMean, rows_at}
+use Rattle.policy_rows.specs.Numbers.{band_at}
 use Rattle.update_plan.specs.Batches.{round_count}
 use Rattle.update_laws.specs.Updates.{Setting}
 
@@ -69,9 +70,11 @@ setting_of t vs limit capacity = record {
   capacity = capacity;
 }
 
--- what a world asks of its versions, numbered from 0
+-- what a world asks of its versions, numbered from 0: their rows stand for them, are not too many and can be written; bands take turns, and stamps of neighbours differ
 pub record AreVersions (t : Layout) (vs : List Version) : Type 0 where
+  pub few : length vs ≤ 64
   pub means : (k : ℕ) (v : Version) → slice_get vs k ≡ Some v → RowsMean v.rows (term_of v.pol) t
-  pub short : (k : ℕ) (v : Version) (port : PortRows) → slice_get vs k ≡ Some v → IsIn v.rows.ports port → length port.rows ≤ 16000
-  pub bands : (k : ℕ) (v : Version) → slice_get vs k ≡ Some v → v.rows.band ≡ band_by (odd (suc k))
+  pub limits : (k : ℕ) (v : Version) → slice_get vs k ≡ Some v → AreWithinLimits v.rows
+  pub writable : (k : ℕ) (v : Version) → slice_get vs k ≡ Some v → AreWritable v.rows
+  pub bands : (k : ℕ) (v : Version) → slice_get vs k ≡ Some v → v.rows.band ≡ band_at k
   pub stamps : (k : ℕ) (v w : Version) → slice_get vs k ≡ Some v → slice_get vs (suc k) ≡ Some w → v.rows.stamp ≢ w.rows.stamp

@@ -1,0 +1,12 @@
+//! The world of an update: the coordinator, the switches with their channels, and the packets between them.
+#![tactic(auto)]
+
+mod arrival;
+mod event;
+mod fault;
+mod flights;
+
+pub use arrival::Arrival;
+pub use event::Event;
+pub use fault::StepFault;
+pub use flights::Flights;
