@@ -2,6 +2,7 @@
 #![tactic(auto)]
 
 mod arrival;
+mod end;
 mod event;
 mod fault;
 mod flights;

@@ -1,0 +1,57 @@
+-- The world: what it has, how it starts, and what holds of it at each moment.
+use Rattle.std.specs.Prelude.{◌≡◌, ◌≤◌, ℕ, List, [], map}
+use Rattle.topology_model.specs.Layouts.{Layout}
+use Rattle.topology_model.specs.Wired.{IsTopology}
+use Rattle.topology_model.specs.declared.line.Site.{Site}
+use Rattle.policy_rows.specs.declared.version.Version.{Version}
+use Rattle.packet_tracer.specs.declared.flight.Flight.{Flight}
+use Rattle.update_coordinator.specs.Starts as starts
+use Rattle.update_laws.specs.Updates.{Setting}
+use Rattle.update_laws.specs.Settings.{AreVersions, setting_of}
+use Rattle.update_laws.specs.Fleets.{End, Fleet, IsFleet, phase_from}
+use Rattle.update_laws.specs.Traffic.{Arrived, IsTraffic}
+use Rattle.world_core.specs.Ends.{new_end}
+
+-- The topology, the versions, the hop limit, the rows that a switch has room for, the coordinator and the switches with their channels, the copies in flight and the packets that came in.
+pub record WorldValue : Type 0 where
+  pub topology : Layout
+  pub versions : List Version
+  pub limit : ℕ
+  pub capacity : ℕ
+  pub fleet : Fleet
+  pub flights : List Flight
+  pub arrivals : List Arrived
+
+abbrev pub setting : WorldValue → Setting
+setting w = setting_of w.topology w.versions w.limit w.capacity
+
+abbrev pub numbers_of : List Site → List ℕ
+numbers_of sites = map (λ s. s.sw) sites
+
+-- the world before anything has happened
+abbrev pub start : Layout → List Version → ℕ → ℕ → WorldValue
+start t versions limit capacity = record {
+  topology = t;
+  versions = versions;
+  limit = limit;
+  capacity = capacity;
+  fleet = record {
+    control = starts.start (map (λ (v : Version). v.rows) versions) (numbers_of t.switches);
+    ends = map (new_end capacity) (numbers_of t.switches);
+  };
+  flights = [];
+  arrivals = [];
+}
+
+-- What every world keeps: its versions stand for their policies, the switches are those of the topology, each is where the phase has it, and each packet is handled by one policy of its entry.
+pub record Keeps (w : WorldValue) : Type 0 where
+  pub topology : IsTopology w.topology
+  pub versions : AreVersions w.topology w.versions
+  pub limit : 1 ≤ w.limit
+  pub places : map (λ (e : End). e.switch.sw) w.fleet.ends ≡ numbers_of w.topology.switches
+  pub fleet : IsFleet (setting w) w.fleet
+  pub traffic : IsTraffic w.topology (setting w) (phase_from w.fleet.control.phase) w.flights w.arrivals
+
+-- shut to all proofs but those of its own laws
+unfoldable pub IsKept : WorldValue → Type 0
+IsKept w = Keeps w
