@@ -19,7 +19,7 @@ use Rattle.packet_tracer.proofs.Runs.{only, from-chain, in-chain}
 use Rattle.update_laws.specs.Traffic.{Holds}
 
 -- what goes on is of the same arrival
-own-arrival : (t : Layout) (f : Flight) (sent : List Sent) (g : Flight) → IsIn (all_flights t f sent) g → g.arrival ≡ f.arrival
+pub own-arrival : (t : Layout) (f : Flight) (sent : List Sent) (g : Flight) → IsIn (all_flights t f sent) g → g.arrival ≡ f.arrival
 own-arrival t f sent g m = let r = from-flat_map (flights_of t f) sent g m in next (far_end t.links (standing (sent_packet f.history.newest.sw r.0))) (sent_packet f.history.newest.sw r.0) r.0.tag r.2
   where
     next : (o : Option Place) (q : Packet) (tag : Option ℕ) → IsIn (next_flight f q tag o) g → g.arrival ≡ f.arrival
@@ -55,7 +55,7 @@ hop-holds t p stamp before after f sent pk tag finished k h = record {
 }
 
 -- complete histories of a packet at an edge port are the futures of its first copy
-complete-future : (w : Wiring) (p : Term) (pk : Packet) (tag : Option ℕ) (e : Trail) → IsComplete w p pk tag e → IsFuture w p (start pk) e
+pub complete-future : (w : Wiring) (p : Term) (pk : Packet) (tag : Option ℕ) (e : Trail) → IsComplete w p pk tag e → IsFuture w p (start pk) e
 complete-future w p pk tag e (none, (n, m)) =
     let r = from-chain (edge_term w) (term_row (rest w p ∷ [])) n (start pk) e m in
     let g = from-edges w.edges n (start pk) r.0 r.1 in
