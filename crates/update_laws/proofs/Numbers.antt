@@ -1,5 +1,5 @@
 -- The switches stay where they are: no event changes their numbers.
-use Rattle.std.proofs.Common.{◌≡◌, ℕ, zero, suc, List, [], ◌∷◌, map, refl, sym, ◌∙◌, ap, Option, None, Some, slice_get, slice_set}
+use Rattle.std.proofs.Common.{◌≡◌, ℕ, zero, suc, List, [], ◌∷◌, map, refl, sym, ◌∙◌, ap, Some, slice_get, slice_set}
 use Rattle.std.proofs.Common.{◌++◌}
 use Rattle.switch_model.specs.Switches.{SwitchValue, taken, answer_of}
 use Rattle.update_laws.specs.Wired.{answered}
