@@ -63,3 +63,7 @@ landed t c flights n a g none = record {
   entered = g.entered;
   exact = λ e. (g.holds.front e, λ m. elim (g.holds.back e m) [ inl x ↦ x | inr x ↦ absurd (none x.0 x.1 x.2) ]);
 }
+
+-- in the first update no flight carries the stamp of version 0, which has none
+pub drained-first : (t : Layout) (c : Setting) (flights : List Flight) (arrivals : List Arrived) → IsTraffic t c (Drain 0) flights arrivals → IsTraffic t c (Clean 0) flights arrivals
+drained-first t c flights arrivals i = phase-traffic t c (Drain 0) (Clean 0) flights arrivals (λ q f m l. elim l.live [ inl e ↦ let n = l.number in absurd (omega (arith, e, n)) | inr e ↦ e ]) i

@@ -6,8 +6,10 @@ mod end;
 mod event;
 mod fault;
 mod flights;
+mod world;
 
 pub use arrival::Arrival;
 pub use event::Event;
 pub use fault::StepFault;
 pub use flights::Flights;
+pub use world::World;
