@@ -9,3 +9,4 @@ pub mod Stages
 pub mod Fleets
 pub mod Coming
 pub mod Traffic
+pub mod Alike
