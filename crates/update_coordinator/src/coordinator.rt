@@ -99,6 +99,19 @@ impl Coordinator {
         self.phase.entry()
     }
 
+    /// Whether the next update can begin.
+    pub fn may_begin(&self) -> bool
+        ensures { IsTrue result ↔ (begin_refusal self.now ≡ None) }
+    {
+        if self.halt.is_some() {
+            return false;
+        }
+        match self.phase {
+            Phase::Idle(policy) => policy < self.stamps.len(),
+            _ => false,
+        }
+    }
+
     /// Begins the next update.
     pub fn begin(&mut self) -> Result<(), Refusal>
         ensures refused { refusal_of result ≡ begin_refusal self.old }
@@ -116,6 +129,19 @@ impl Coordinator {
         }
         self.enter(Phase::Install(policy + 1));
         Ok(())
+    }
+
+    /// Whether the report that no packet carries this stamp any more is waited for.
+    pub fn may_drain(&self, stamp: u16) -> bool
+        ensures { IsTrue result ↔ (drain_refusal self.now stamp ≡ None) }
+    {
+        if self.halt.is_some() {
+            return false;
+        }
+        match self.phase {
+            Phase::Drain(policy) => is_stamp(self.stamps.get(policy.saturating_sub(2)), stamp),
+            _ => false,
+        }
     }
 
     /// Takes the report that no packet carries this stamp any more.

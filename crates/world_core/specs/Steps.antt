@@ -1,12 +1,13 @@
 -- The events of the world: where each can happen, and what it does.
-use Rattle.std.specs.Prelude.{◌≡◌, ◌≢◌, ◌<◌, ◌≤◌, ℕ, List, [], ◌∷◌, ◌++◌, length, slice_get, slice_set, Option, Some, None, IsSome}
+use Rattle.std.specs.Prelude.{◌≡◌, ◌≢◌, ◌<◌, ◌≤◌, ℕ, nat_eq, Bool, List, [], ◌∷◌, ◌++◌, length, slice_get, slice_set, Option, Some, None}
 use Rattle.std.specs.List.{remove}
+use Rattle.std.specs.Option.{option_eq}
 use Rattle.nk_values.specs.declared.packet.Packet.{Packet}
 use Rattle.nk_values.specs.Members.{IsIn}
 use Rattle.nk_values.specs.Packets.{IsWellShaped}
+use Rattle.nk_values.specs.Tags.{IsTag}
 use Rattle.nk_values.specs.Trails.{Trail, start as one_packet}
 use Rattle.topology_model.specs.Layouts.{edges_of}
-use Rattle.topology_model.specs.declared.line.Site.{Site}
 use Rattle.policy_rows.specs.Means.{standing}
 use Rattle.packet_tracer.specs.declared.flight.Flight.{Flight}
 use Rattle.packet_tracer.specs.Hops.{IsHop}
@@ -14,7 +15,8 @@ use Rattle.update_coordinator.specs.declared.cause.Cause.{Cause}
 use Rattle.update_coordinator.specs.declared.cause.Cause.TheVariants as cause
 use Rattle.update_coordinator.specs.declared.cause.Side.{Side}
 use Rattle.update_coordinator.specs.Calls.{begin_refusal, drain_refusal}
-use Rattle.update_coordinator.specs.Controls.{halted}
+use Rattle.update_coordinator.specs.Controls.{Control, halted}
+use Rattle.update_coordinator.specs.Hearing.{IsLost}
 use Rattle.update_coordinator.specs.Phases.{entry}
 use Rattle.update_coordinator.specs.Sending.{MaySend}
 use Rattle.update_laws.specs.Fleets.{End, Fleet, SendsAt, TakesAt, AppliesAt, RepliesAt, HearsAt, Begins, Drains}
@@ -27,6 +29,9 @@ use Rattle.world_core.specs.Worlds.{WorldValue}
 -- no copy carries the stamp
 abbrev pub NoneCarries : ℕ → List Flight → Type 0
 NoneCarries stamp flights = (f : Flight) → IsIn flights f → f.tag ≢ Some stamp
+
+abbrev pub carries : ℕ → Flight → Bool
+carries stamp f = option_eq nat_eq f.tag (Some stamp)
 
 -- a packet with its tag that has come in behind n others, and took no hop yet
 abbrev pub first_copy : Packet → Option ℕ → ℕ → Flight
@@ -64,9 +69,9 @@ IsEnabled w event.Begin = begin_refusal w.fleet.control ≡ None
 IsEnabled w (event.Send s) = MaySend s w.fleet.control
 IsEnabled w (event.Take s) = Stands s w (λ e. (e.there ≢ []) × (e.switch.awaited ≡ None))
 IsEnabled w (event.Apply s k) = Stands s w (λ e. k < length e.switch.pending)
-IsEnabled w (event.Reply s) = Stands s w (λ e. IsSome e.switch.awaited × (e.switch.pending ≡ []))
+IsEnabled w (event.Reply s) = Stands s w (λ e. (e.switch.awaited ≢ None) × (e.switch.pending ≡ []))
 IsEnabled w (event.Heard s) = Runs_on w × Stands s w (λ e. e.back ≢ [])
-IsEnabled w (event.Arrive pk tag) = IsWellShaped pk × IsIn (edges_of w.topology) (standing pk)
+IsEnabled w (event.Arrive pk tag) = IsWellShaped pk × IsTag tag × IsIn (edges_of w.topology) (standing pk)
 IsEnabled w (event.Hop k) = MayHop k w
 IsEnabled w (event.Drained stamp) = (drain_refusal w.fleet.control stamp ≡ None) × NoneCarries stamp w.flights
 IsEnabled w (event.Lost s) = Runs_on w × (s < length w.fleet.ends)
@@ -88,6 +93,7 @@ standing_still why w = record w { fleet = record w.fleet { control = halted why 
 -- The packet comes in at an edge port; it keeps the entry of this moment, and its switch handles it.
 pub record Arrives (pk : Packet) (tag : Option ℕ) (w v : WorldValue) : Type 0 where
   pub shaped : IsWellShaped pk
+  pub tagged : IsTag tag
   pub edge : IsIn (edges_of w.topology) (standing pk)
   pub place : ℕ
   pub end_ : End
@@ -125,15 +131,18 @@ pub record Drained_of (stamp : ℕ) (w v : WorldValue) : Type 0 where
 
 -- the session with the switch at a place is lost
 pub record Loses (place : ℕ) (w v : WorldValue) : Type 0 where
-  pub running : Runs_on w
-  pub site : Site
-  pub here : slice_get w.topology.switches place ≡ Some site
-  pub now : v ≡ standing_still (cause.Lost site.sw) w
+  pub control : Control
+  pub lost : IsLost place w.fleet.control control
+  pub now : v ≡ record w { fleet = record w.fleet { control = control } }
 
 -- a copy with the old stamp can go no further
 pub record Sticks (k : ℕ) (w v : WorldValue) : Type 0 where
   pub stuck : IsStuck k w
   pub now : v ≡ standing_still (cause.Undrained stuck.flight.history) w
+
+-- the bytes that were expected at a side, and those that came
+abbrev pub foreign_cause : Side → List ℕ → End → Cause
+foreign_cause side got e = cause.Foreign e.switch.sw side (front_bytes (channel side e)) got
 
 -- other bytes than the front of a channel were received
 pub record Receives (place : ℕ) (side : Side) (got : List ℕ) (w v : WorldValue) : Type 0 where
@@ -141,7 +150,7 @@ pub record Receives (place : ℕ) (side : Side) (got : List ℕ) (w v : WorldVal
   pub end_ : End
   pub here : slice_get w.fleet.ends place ≡ Some end_
   pub other : ¬ (IsFront got (channel side end_))
-  pub now : v ≡ standing_still (cause.Foreign end_.switch.sw side (front_bytes (channel side end_)) got) w
+  pub now : v ≡ standing_still (foreign_cause side got end_) w
 
 abbrev pub Step : WorldValue → Event → WorldValue → Type 0
 Step w event.Begin v = InFleet Begins w v

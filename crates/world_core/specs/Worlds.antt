@@ -28,6 +28,9 @@ setting w = setting_of w.topology w.versions w.limit w.capacity
 abbrev pub numbers_of : List Site → List ℕ
 numbers_of sites = map (λ s. s.sw) sites
 
+abbrev pub stamps_of : List Version → List ℕ
+stamps_of versions = map (λ v. v.rows.stamp) versions
+
 -- the world before anything has happened
 abbrev pub start : Layout → List Version → ℕ → ℕ → WorldValue
 start t versions limit capacity = record {
@@ -49,6 +52,7 @@ pub record Keeps (w : WorldValue) : Type 0 where
   pub versions : AreVersions w.topology w.versions
   pub limit : 1 ≤ w.limit
   pub places : map (λ (e : End). e.switch.sw) w.fleet.ends ≡ numbers_of w.topology.switches
+  pub stamps : w.fleet.control.stamps ≡ stamps_of w.versions
   pub fleet : IsFleet (setting w) w.fleet
   pub traffic : IsTraffic w.topology (setting w) (phase_from w.fleet.control.phase) w.flights w.arrivals
 

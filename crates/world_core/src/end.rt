@@ -10,7 +10,7 @@ use std::alloc::{AllocError, Global};
 use std::collections::VecDeque;
 use std::marker::Model;
 use switch_model::{ApplyError, Switch};
-use update_coordinator::{Coordinator, Side};
+use update_coordinator::{Cause, Coordinator, Side};
 
 /// A switch, and the channels to it and from it. Each message in them can be written.
 #[derive(Drop)]
@@ -34,6 +34,7 @@ impl Model for End {
 
 impl End {
     ghost use Rattle.openflow_wire.specs.declared.message.Message.TheVariants as to;
+    ghost use Rattle.update_coordinator.specs.declared.cause.Cause.TheVariants as cause;
     ghost use Rattle.update_coordinator.specs.Sending.{MaySend};
     ghost use Rattle.world_core.specs.Ends.{new_end, channel, IsFront, front_bytes, IsTaken, IsAppliedAt, IsSentTo, IsAnswering, IsHeardFrom};
     ghost use Rattle.world_core.specs.declared.fault.StepFault.TheVariants as faults;
@@ -181,8 +182,26 @@ impl End {
         }
     }
 
-    /// The front of the channel that ends at a side, as bytes, if there is one.
-    pub(crate) fn front_bytes(&self, alloc: Global, side: Side) -> Result<Option<Octets>, AllocError>
+    /// Why updates stand still where these bytes came at a side of this switch's channels.
+    pub(crate) fn foreign_cause(
+        &self,
+        alloc: Global,
+        sw: u16,
+        side: Side,
+        got: &Octets,
+    ) -> Result<Cause, AllocError>
+        ensures { IfOk result (λ why. why ≡ cause.Foreign sw side (front_bytes (channel side self.now)) got.now) }
+    {
+        Ok(Cause::Foreign {
+            sw,
+            side,
+            expected: self.front_bytes(alloc, side)?,
+            got: got.copy(alloc)?,
+        })
+    }
+
+    // The front of the channel that ends at a side, as bytes, if there is one.
+    fn front_bytes(&self, alloc: Global, side: Side) -> Result<Option<Octets>, AllocError>
         ensures { IfOk result (λ b. b ≡ front_bytes (channel side self.now)) }
     {
         let Some(message) = self.channel(side).front() else {

@@ -21,7 +21,8 @@ impl Model for Flights {
 
 impl Flights {
     ghost use Rattle.std.specs.Prelude.{◌≡◌, ◌<◌, ◌++◌, [], length, option_map, slice_get, OnOk, OnErr};
-    ghost use Rattle.std.specs.List.{remove};
+    ghost use Rattle.std.specs.List.{list_any, remove};
+    ghost use Rattle.world_core.specs.Steps.{carries};
 
     /// None.
     pub(crate) fn new(alloc: Global) -> Flights
@@ -51,6 +52,13 @@ impl Flights {
         ensures { result.now ≡ self.now }
     {
         &self.all
+    }
+
+    /// Whether a copy carries this stamp.
+    pub(crate) fn carry(&self, stamp: u16) -> bool
+        ensures { result ≡ list_any (carries stamp) self.now }
+    {
+        self.all.iter().any(|flight| flight.tag.id() == Some(stamp))
     }
 
     /// The copy at a place goes, and these come behind all others.

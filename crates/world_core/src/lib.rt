@@ -6,6 +6,9 @@ mod end;
 mod event;
 mod fault;
 mod flights;
+mod halting;
+mod switching;
+mod traffic;
 mod world;
 
 pub use arrival::Arrival;

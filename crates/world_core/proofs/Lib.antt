@@ -1,0 +1,4 @@
+mod Kept
+mod Doing
+mod Standing
+mod Beginning

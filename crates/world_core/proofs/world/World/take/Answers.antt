@@ -1,0 +1,16 @@
+use Rattle.std.proofs.Common.{◌<◌, ◌≤◌, ℕ, length, arith, sym, subst}
+use Rattle.std.proofs.lemmas.Grind.{common_steps}
+use Rattle.world_core.specs.declared.event.Event.TheVariants as event
+use Rattle.world_core.proofs.Doing.{element, takes}
+use Rattle.world_core.proofs.Kept.{step-keeps}
+use Rattle.world_core.proofs.world.World.take.Goals as goal
+
+pub invariant_of-self-2 : goal.invariant_of-self-2
+invariant_of-self-2 c =
+    let within : c.args.place < length c.self.inside.ends.items = grind (arith, common_steps, c.if-place-len.false, c.len.ensures) in
+    step-keeps _ (event.Take c.args.place) _ (takes c.args.place _ _ _ (element _ _ _ within c.index_mut.ensures.value) c.in_ok-take.ensures.ok) c.self.invariant
+
+pub returns-clause-ok : goal.returns-clause-ok
+returns-clause-ok c =
+    let within : c.args.place < length c.self.inside.ends.items = grind (arith, common_steps, c.if-place-len.false, c.len.ensures) in
+    rw (← c.self.view_is) (takes c.args.place _ _ _ (element _ _ _ within c.index_mut.ensures.value) c.in_ok-take.ensures.ok)
