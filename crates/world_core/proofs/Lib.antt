@@ -2,3 +2,4 @@ mod Kept
 mod Doing
 mod Standing
 mod Beginning
+mod Trying

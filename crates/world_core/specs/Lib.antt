@@ -1,3 +1,4 @@
 pub mod Ends
 pub mod Worlds
 pub mod Steps
+pub mod Settling

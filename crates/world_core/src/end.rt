@@ -73,6 +73,34 @@ impl End {
         &self.back
     }
 
+    /// Whether the switch can take the front of its channel.
+    pub(crate) fn may_take(&self) -> bool
+        ensures { IsTrue result ↔ ((self.now.there ≢ []) × (self.now.switch.awaited ≡ None)) }
+    {
+        !self.there.is_empty() && !self.switch.awaits()
+    }
+
+    /// Whether a flow mod is pending at a place.
+    pub(crate) fn may_apply(&self, place: usize) -> bool
+        ensures { IsTrue result ↔ (place < length self.now.switch.pending) }
+    {
+        place < self.switch.pending()
+    }
+
+    /// Whether the switch can answer its barrier.
+    pub(crate) fn may_reply(&self) -> bool
+        ensures { IsTrue result ↔ ((self.now.switch.awaited ≢ None) × (self.now.switch.pending ≡ [])) }
+    {
+        self.switch.awaits() && self.switch.pending() == 0
+    }
+
+    /// Whether something is on its way from the switch.
+    pub(crate) fn may_be_heard(&self) -> bool
+        ensures { IsTrue result ↔ (self.now.back ≢ []) }
+    {
+        !self.back.is_empty()
+    }
+
     /// The coordinator's next message goes into the channel.
     pub(crate) fn send(
         &mut self,

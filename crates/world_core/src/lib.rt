@@ -2,11 +2,13 @@
 #![tactic(auto)]
 
 mod arrival;
+mod enabling;
 mod end;
 mod event;
 mod fault;
 mod flights;
 mod halting;
+mod settling;
 mod switching;
 mod traffic;
 mod world;
