@@ -6,7 +6,7 @@ use Rattle.history_meaning.specs.Network.{IsComplete}
 use Rattle.topology_model.specs.Layouts.{Layout, wiring}
 use Rattle.packet_tracer.specs.declared.flight.Flight.{Flight}
 use Rattle.update_laws.specs.Updates.{Setting, Phase, Opening, Idle, Install, Flip, Drain, Clean, Live, Names_version, acknowledged, flip_next}
-use Rattle.update_laws.specs.Traffic.{Arrived, IsGood, IsFlight, IsArrival, IsTraffic}
+use Rattle.update_laws.specs.Traffic.{Arrived, IsGood, IsFlight, IsArrival, IsTraffic, IsLanded}
 use Rattle.update_laws.proofs.Wiring.{none-some}
 
 pub start-traffic : (t : Layout) (c : Setting) → IsTraffic t c Opening [] []
@@ -49,12 +49,6 @@ pub drained-traffic : (t : Layout) (c : Setting) (o : ℕ) (flights : List Fligh
     IsTraffic t c (Drain o) flights arrivals → IsTraffic t c (Clean o) flights arrivals
 drained-traffic t c o flights arrivals none i =
     phase-traffic t c (Drain o) (Clean o) flights arrivals (λ q f m l. elim l.live [ inl e ↦ absurd (none f m (l.stamp ∙ ap (λ (v : ℕ). Some (c.stamp v)) e)) | inr e ↦ e ]) i
-
--- The finished histories of an arrival are the complete ones under one policy of its entry.
-pub record IsLanded (t : Layout) (c : Setting) (a : Arrived) : Type 0 where
-  pub version : ℕ
-  pub entered : Names_version a.entry version
-  pub exact : (e : Trail) → IsIn a.finished e ↔ IsComplete (wiring t) (c.policy version) a.packet a.tag e
 
 -- so they are when no flight of it is left
 pub landed : (t : Layout) (c : Setting) (flights : List Flight) (n : ℕ) (a : Arrived) → IsGood t c flights n a → ((f : Flight) → IsIn flights f → f.arrival ≢ n) → IsLanded t c a

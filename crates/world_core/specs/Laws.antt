@@ -1,0 +1,67 @@
+-- What holds of every run of the world.
+use Rattle.std.specs.Prelude.{◌≡◌, ◌≢◌, ◌⊎◌, ◌≤◌, ℕ, ◌-◌, List, length, slice_get, Some, None}
+use Rattle.nk_values.specs.Members.{IsIn}
+use Rattle.packet_tracer.specs.declared.flight.Flight.{Flight}
+use Rattle.update_coordinator.specs.declared.phase.Phase.TheVariants as phase
+use Rattle.update_laws.specs.Fleets.{AppliesAt}
+use Rattle.update_laws.specs.Traffic.{Arrived, IsGood, IsLanded}
+use Rattle.world_core.specs.declared.event.Event.{Event}
+use Rattle.world_core.specs.declared.event.Event.TheVariants as event
+use Rattle.world_core.specs.Worlds.{WorldValue, setting, IsKept}
+use Rattle.world_core.specs.Steps.{InFleet, IsEnabled, Step, Runs}
+
+-- Of each packet that came in: its finished histories and the futures of its copies are exactly its complete histories under one policy, the one that was current when it came in or the one that was coming in.
+abbrev pub AreGood : WorldValue → Type 0
+AreGood w = (n : ℕ) (a : Arrived) → slice_get w.arrivals n ≡ Some a → IsGood w.topology (setting w) w.flights n a
+
+-- it is so after every list of events
+abbrev pub EveryRunIsGood : WorldValue → Type 0
+EveryRunIsGood w = (events : List Event) (v : WorldValue) → Runs w events v → AreGood v
+
+-- Once no copy of it is in flight, its finished histories are exactly its complete ones under that policy.
+abbrev pub PacketsLand : Type 0
+PacketsLand = (w : WorldValue) (n : ℕ) (a : Arrived) → IsKept w → slice_get w.arrivals n ≡ Some a → ((f : Flight) → IsIn w.flights f → f.arrival ≢ n) → IsLanded w.topology (setting w) a
+
+-- a halt stays, with the phase that it met
+abbrev pub HaltsStay : Type 0
+HaltsStay = (w : WorldValue) (e : Event) (v : WorldValue) → w.fleet.control.halt ≢ None → Step w e v → v.fleet.control ≡ w.fleet.control
+
+-- nothing can happen but arrivals, lost sessions, and what comes from outside
+pub record IsStill (w : WorldValue) : Type 0 where
+  pub heard : (s : ℕ) → ¬ (IsEnabled w (event.Heard s))
+  pub reply : (s : ℕ) → ¬ (IsEnabled w (event.Reply s))
+  pub apply : (s k : ℕ) → ¬ (IsEnabled w (event.Apply s k))
+  pub take : (s : ℕ) → ¬ (IsEnabled w (event.Take s))
+  pub send : (s : ℕ) → ¬ (IsEnabled w (event.Send s))
+  pub begin : ¬ (IsEnabled w event.Begin)
+  pub drained : (stamp : ℕ) → ¬ (IsEnabled w (event.Drained stamp))
+  pub hop : (k : ℕ) → ¬ (IsEnabled w (event.Hop k))
+
+-- a copy with the stamp that is to be drained took as many hops as it may
+pub record IsBarred (w : WorldValue) : Type 0 where
+  pub policy : ℕ
+  pub drains : w.fleet.control.phase ≡ phase.Drain policy
+  pub flight : Flight
+  pub flies : IsIn w.flights flight
+  pub stamp : ℕ
+  pub old : slice_get w.fleet.control.stamps (policy - 2) ≡ Some stamp
+  pub carries : flight.tag ≡ Some stamp
+  pub limit : w.limit ≤ flight.hops
+
+-- There is no dead end: where nothing can happen all updates are done, or a copy of the policy before bars the drain.
+abbrev pub NoDeadEnd : Type 0
+NoDeadEnd = (w : WorldValue) → IsKept w → w.fleet.control.halt ≡ None → IsStill w → (w.fleet.control.phase ≡ phase.Idle (length w.versions)) ⊎ IsBarred w
+
+-- With room for 130,000 rows no flow mod meets a full table.
+abbrev pub HasRoom : Type 0
+HasRoom = (w : WorldValue) (s k : ℕ) (v : WorldValue) → IsKept w → 130000 ≤ w.capacity → (h : InFleet (AppliesAt s k) w v) → h.step.answer ≡ None
+
+-- two worlds show the same: the coordinator, the copies in flight, and the packets that came in
+pub record ShowsSame (w v : WorldValue) : Type 0 where
+  pub control : w.fleet.control ≡ v.fleet.control
+  pub flights : w.flights ≡ v.flights
+  pub arrivals : w.arrivals ≡ v.arrivals
+
+-- What a world shows is decided by its start and its events, in whatever order its tables keep their rows.
+abbrev pub RunsAgree : Type 0
+RunsAgree = (w : WorldValue) (events : List Event) (v x : WorldValue) → IsKept w → Runs w events v → Runs w events x → ShowsSame v x
