@@ -29,8 +29,9 @@ pub struct Standing<'a> {
 }
 
 /// The events that were done, in order, and how the network stands then: the phase, why the updates stand
-/// still, if they do, and for each packet that came in a line `done` for each finished history and then a line
-/// `open` for each copy in flight, sorted by bytes, equal lines once.
+/// still, if they do, and for each packet that came in, from 1 on, a line `done` for each finished history and
+/// then a line `open` for each copy in flight, sorted by bytes, equal lines once. Events tell a switch by its
+/// number, and nothing where there is none at their place; a copy of no packet that came in is left out.
 pub fn report_text(
     alloc: Global,
     standing: &Standing<'_>,
