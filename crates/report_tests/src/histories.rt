@@ -5,7 +5,7 @@ use std::alloc::{AllocError, Global};
 use std::test::Fail;
 
 // A packet at a port for this destination.
-fn packet((sw, pt): (u64, u64), eth_dst: u64) -> Packet {
+pub fn packet((sw, pt): (u64, u64), eth_dst: u64) -> Packet {
     let header = Header {
         eth_typ: 2048,
         ip_proto: 0,

@@ -6,6 +6,8 @@ mod faults;
 #[cfg(test)]
 mod histories;
 #[cfg(test)]
+mod reports;
+#[cfg(test)]
 mod rules;
 #[cfg(test)]
 mod traces;

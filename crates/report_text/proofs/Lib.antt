@@ -1,3 +1,4 @@
+pub mod CopyLaws
 pub mod Puts
 pub mod SortLaws
 pub mod TextLaws

@@ -53,8 +53,7 @@ same_texts old sorted moved = record {
 }
 
 -- lines in order with the members of all lines
-pub lines_of : (head : List ℕ) (hs : List Trail) (all now : List (String Global)) → map string_bytes all ≡ map (λ h. head ++ history_text h) hs → Ascends (map string_bytes now) →
-    SameMembers (map string_bytes now) (map string_bytes all) → AreLinesOf head hs (map string_bytes now)
+pub lines_of : (head : List ℕ) (hs : List Trail) (all now : List (List ℕ)) → all ≡ map (λ h. head ++ history_text h) hs → Ascends now → SameMembers now all → AreLinesOf head hs now
 lines_of head hs all now e order same = record {
   order = order;
   each = λ l m.

@@ -1,5 +1,9 @@
+pub mod Causes
+pub mod Copies
+pub mod Events
 pub mod Faults
 pub mod Histories
+pub mod Reports
 pub mod Rules
 pub mod Traces
 pub mod Values

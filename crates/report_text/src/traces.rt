@@ -1,14 +1,9 @@
 // The texts of traces.
-ghost use Rattle.std.specs.Prelude.{◌≡◌, ◌++◌, OnOk, IfOk, map, string_bytes};
-ghost use Rattle.std.specs.List.{flat_map};
-ghost use Rattle.nk_values.specs.Members.{SameMembers};
-ghost use Rattle.report_text.specs.Values.{line};
-ghost use Rattle.report_text.specs.Histories.{history_text};
-ghost use Rattle.report_text.specs.Traces.{Adds, Ascends, AreLinesOf, IsPacketText, AreTexts, IsPolicyText, IsTraceText};
+ghost use Rattle.std.specs.Prelude.{◌≡◌, OnOk, IfOk, map, string_bytes};
+ghost use Rattle.report_text.specs.Traces.{Adds, IsPacketText, AreTexts, IsPolicyText, IsTraceText};
 
-use crate::histories::put_history;
+use crate::lines::{lines, put_lines};
 use crate::text::Text;
-use nk_values::History;
 use packet_tracer::Walk;
 use std::alloc::{AllocError, Global};
 use std::fmt::Write;
@@ -58,46 +53,4 @@ fn put_packet(alloc: Global, out: &mut String, packet: u64, walk: &Walk) -> Resu
     write!(out, "packet {packet}\n")?;
     put_lines(out, &done)?;
     put_lines(out, &open)
-}
-
-// The lines of histories, each once, in byte order.
-fn lines(alloc: Global, head: &str, histories: &[History]) -> Result<Vec<String>, AllocError>
-    ensures { IfOk result (λ v. AreLinesOf head.now histories.now (map string_bytes v.items)) }
-{
-    let lines = all_lines(alloc, head, histories)?;
-    sorted(lines)
-}
-
-// The line of each history.
-fn all_lines(alloc: Global, head: &str, histories: &[History]) -> Result<Vec<String>, AllocError>
-    ensures { IfOk result (λ v. map string_bytes v.items ≡ map (λ h. head.now ++ history_text h) histories.now) }
-{
-    let mut lines = Vec::new(alloc);
-    for history in histories {
-        let mut line = String::from_str(alloc, head)?;
-        put_history(alloc, &mut line, history)?;
-        lines.push(line)?;
-    }
-    Ok(lines)
-}
-
-// The lines in byte order, equal ones once.
-fn sorted(mut lines: Vec<String>) -> Result<Vec<String>, AllocError>
-    ensures order { IfOk result (λ v. Ascends (map string_bytes v.items)) }
-    ensures members { IfOk result (λ v. SameMembers (map string_bytes v.items) (map string_bytes lines.items)) }
-{
-    lines.sort()?;
-    lines.dedup();
-    Ok(lines)
-}
-
-// Puts lines at the end.
-fn put_lines(out: &mut String, lines: &[String]) -> Result<(), AllocError>
-    ensures { OnOk result (string_bytes out.new ≡ string_bytes out.old ++ flat_map line (map string_bytes lines.now)) }
-{
-    for line in lines {
-        out.push_str(line)?;
-        out.push_str("\n")?;
-    }
-    Ok(())
 }

@@ -21,8 +21,8 @@ fn hex_digit(digit: u8) -> u8
     if digit < 10 { 48 + digit } else { 87 + digit }
 }
 
-// Puts the last byte of a number at the end.
-fn put_hex_byte(out: &mut String, number: u64) -> Result<(), AllocError>
+/// Puts the last byte of a number at the end, in two hexadecimal digits.
+pub fn put_hex_byte(out: &mut String, number: u64) -> Result<(), AllocError>
     ensures { OnOk result (string_bytes out.new ≡ string_bytes out.old ++ hex_byte number) }
 {
     out.push(char::from(hex_digit((number / 16 % 16) as u8)))?;
@@ -126,8 +126,8 @@ pub fn put_packet(alloc: Global, out: &mut String, packet: &Packet) -> Result<()
     put_fields(alloc, out, packet, &Field::HEADER)
 }
 
-// Puts fields with their numbers at the end, each behind a blank.
-fn put_fields(
+/// Puts fields with their numbers at the end, each behind a blank.
+pub fn put_fields(
     alloc: Global,
     out: &mut String,
     packet: &Packet,

@@ -5,7 +5,7 @@ use Rattle.std.specs.String.{string_eq}
 use Rattle.nk_values.specs.Members.{SameMembers}
 use Rattle.report_text.specs.Traces.{Ascends}
 use Rattle.report_text.proofs.SortLaws.{ascends, same_texts}
-use Rattle.report_text.proofs.traces.sorted.Goals as goal
+use Rattle.report_text.proofs.lines.sort_lines.Goals as goal
 
 pub returns-clause-order : goal.returns-clause-order
 returns-clause-order c =
@@ -15,5 +15,5 @@ returns-clause-order c =
 pub returns-clause-members : goal.returns-clause-members
 returns-clause-members c =
     let once = dedup_is string_eq c.sort.new.self.items c.dedup.new.self.items c.dedup.ensures.filtered in
-    subst (λ (xs : List (String Global)). SameMembers (map string_bytes xs) (map string_bytes c.args.lines.items)) (sym once)
-    (same_texts c.args.lines.items c.sort.new.self.items c.sort.ensures.permutation)
+    subst (λ (xs : List (String Global)). SameMembers (map string_bytes xs) (map string_bytes c.args.lines.now.items)) (sym once)
+    (same_texts c.args.lines.now.items c.sort.new.self.items c.sort.ensures.permutation)

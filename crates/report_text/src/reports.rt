@@ -1,0 +1,97 @@
+// The texts of reports.
+ghost use Rattle.std.specs.Prelude.{◌≡◌, ◌++◌, OnOk, IfOk, map, option_map, string_bytes};
+ghost use Rattle.report_text.specs.Values.{line};
+ghost use Rattle.report_text.specs.Traces.{Adds, AreTexts};
+ghost use Rattle.report_text.specs.Reports.{arrival_text, HasFate, IsArrivalText, IsReportText};
+
+use crate::causes::{put_entry, put_state};
+use crate::copies::open_lines;
+use crate::events::put_events;
+use crate::lines::{lines, put_lines, sort_lines};
+use crate::text::Text;
+use crate::values::put_place;
+use packet_tracer::Flight;
+use std::alloc::{AllocError, Global};
+use std::fmt::Write;
+use topology_model::Site;
+use update_coordinator::{Cause, Phase};
+use world_core::{Arrival, Event};
+
+/// How a network stands: its switches, the phase of the updates and why they stand still, the copies in flight,
+/// and the packets that came in.
+#[derive(Clone, Copy)]
+pub struct Standing<'a> {
+    pub switches: &'a [Site],
+    pub phase: Phase,
+    pub halt: Option<&'a Cause>,
+    pub flights: &'a [Flight],
+    pub arrivals: &'a [Arrival],
+}
+
+/// The events that were done, in order, and how the network stands then: the phase, why the updates stand
+/// still, if they do, and for each packet that came in, from 1 on, a line `done` for each finished history and
+/// then a line `open` for each copy in flight, sorted by bytes, equal lines once. Events tell a switch by its
+/// number, and nothing where there is none at their place; a copy of no packet that came in is left out.
+pub fn report_text(
+    alloc: Global,
+    standing: &Standing<'_>,
+    events: &[Event],
+) -> Result<Text, AllocError>
+    ensures { IfOk result (λ t. IsReportText standing.now.switches.now events.now standing.now.phase (option_map (λ c. c.now) standing.now.halt) standing.now.flights.now standing.now.arrivals.now t) }
+{
+    let mut out = String::new(alloc);
+    put_events(alloc, &mut out, standing.switches, events)?;
+    put_state(alloc, &mut out, standing.phase, standing.halt)?;
+    put_arrivals(alloc, &mut out, standing.arrivals, standing.flights)?;
+    Ok(Text::new(out))
+}
+
+// Puts the lines of arrivals at the end.
+fn put_arrivals(
+    alloc: Global,
+    out: &mut String,
+    arrivals: &[Arrival],
+    flights: &[Flight],
+) -> Result<(), AllocError>
+    ensures { OnOk result (Adds (AreTexts (IsArrivalText flights.now) 0 arrivals.now) (string_bytes out.old) (string_bytes out.new)) }
+{
+    let mut copies = open_lines(alloc, flights, arrivals.len())?;
+    for (before, arrival) in arrivals.iter().enumerate() {
+        sort_lines(&mut copies[before])?;
+        put_arrival(alloc, out, before as u64 + 1, arrival, &copies[before])?;
+    }
+    Ok(())
+}
+
+// Puts the lines of an arrival at the end.
+fn put_arrival(
+    alloc: Global,
+    out: &mut String,
+    number: u64,
+    arrival: &Arrival,
+    copies: &[String],
+) -> Result<(), AllocError>
+    ensures { OnOk result (Adds (HasFate (map string_bytes copies.now) number arrival.now) (string_bytes out.old) (string_bytes out.new)) }
+{
+    let done = lines(alloc, "done ", arrival.finished())?;
+    put_head(alloc, out, number, arrival)?;
+    put_lines(out, &done)?;
+    put_lines(out, copies)
+}
+
+// Puts the line of an arrival at the end.
+fn put_head(
+    alloc: Global,
+    out: &mut String,
+    number: u64,
+    arrival: &Arrival,
+) -> Result<(), AllocError>
+    ensures { OnOk result (string_bytes out.new ≡ string_bytes out.old ++ line (arrival_text number arrival.now)) }
+{
+    let packet = arrival.packet();
+    write!(out, "arrival {number} at ")?;
+    put_place(alloc, out, packet.sw, packet.pt)?;
+    out.push_str(" ")?;
+    put_entry(out, arrival.entry())?;
+    out.push_str("\n")
+}
