@@ -3,3 +3,4 @@ mod Doing
 mod Standing
 mod Beginning
 mod Trying
+mod Good

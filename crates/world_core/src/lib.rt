@@ -8,6 +8,7 @@ mod event;
 mod fault;
 mod flights;
 mod halting;
+mod lending;
 mod settling;
 mod switching;
 mod traffic;
