@@ -8,6 +8,7 @@ use Rattle.update_coordinator.specs.declared.cause.Cause.{Cause}
 use Rattle.update_coordinator.specs.declared.phase.Phase.{Phase}
 use Rattle.update_laws.specs.Traffic.{Arrived}
 use Rattle.world_core.specs.declared.event.Event.{Event}
+use Rattle.world_core.specs.Worlds.{WorldValue}
 use Rattle.report_text.specs.Values.{line, place_text}
 use Rattle.report_text.specs.Traces.{AreLinesOf, AreTexts}
 use Rattle.report_text.specs.Events.{events_text}
@@ -37,3 +38,7 @@ pub record IsReportText (switches : List Site) (events : List Event) (ph : Phase
   pub fates : List ℕ
   pub each : AreTexts (IsArrivalText flights) 0 arrivals fates
   pub whole : text ≡ events_text switches events ++ (state_text ph halt ++ fates)
+
+-- that of a world and the events that led to it
+abbrev pub IsWorldReport : WorldValue → List Event → List ℕ → Type 0
+IsWorldReport w events text = IsReportText w.topology.switches events w.fleet.control.phase w.fleet.control.halt w.flights w.arrivals text

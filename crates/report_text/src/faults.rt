@@ -28,6 +28,7 @@ fn put_fault(alloc: Global, out: &mut String, fault: &Fault) -> Result<(), Alloc
             column,
             fault,
         } => put_line(out, *line, *column, *fault),
+        Fault::NotEnabled { line } => put_not_enabled(out, *line),
         Fault::Compile { policy, fault } => {
             put_policy(out, *policy)?;
             put_compile(alloc, out, fault)?;
@@ -50,6 +51,13 @@ fn put_line(out: &mut String, line: u64, column: u64, fault: TextFault) -> Resul
     ensures { OnOk result (string_bytes out.new ≡ string_bytes out.old ++ fault_text (Fault.Line line column fault)) }
 {
     write!(out, "nkctl: line {line} column {column}: {fault}\n")
+}
+
+// Puts the line of an event that cannot happen at the end.
+fn put_not_enabled(out: &mut String, line: u64) -> Result<(), AllocError>
+    ensures { OnOk result (string_bytes out.new ≡ string_bytes out.old ++ fault_text (Fault.NotEnabled line)) }
+{
+    write!(out, "nkctl: line {line} column 1: 40 NotEnabled\n")
 }
 
 fn put_policy(out: &mut String, policy: u64) -> Result<(), AllocError>

@@ -17,7 +17,7 @@ mod values;
 pub use fault::Fault;
 pub use faults::fault_text;
 pub use histories::history_text;
-pub use reports::{Standing, report_text};
+pub use reports::{Standing, report_text, world_report};
 pub use rules::rules_text;
 pub use text::Text;
 pub use traces::trace_text;

@@ -2,7 +2,7 @@
 ghost use Rattle.std.specs.Prelude.{◌≡◌, ◌++◌, OnOk, IfOk, map, option_map, string_bytes};
 ghost use Rattle.report_text.specs.Values.{line};
 ghost use Rattle.report_text.specs.Traces.{Adds, AreTexts};
-ghost use Rattle.report_text.specs.Reports.{arrival_text, HasFate, IsArrivalText, IsReportText};
+ghost use Rattle.report_text.specs.Reports.{arrival_text, HasFate, IsArrivalText, IsReportText, IsWorldReport};
 
 use crate::causes::{put_entry, put_state};
 use crate::copies::open_lines;
@@ -15,7 +15,7 @@ use std::alloc::{AllocError, Global};
 use std::fmt::Write;
 use topology_model::Site;
 use update_coordinator::{Cause, Phase};
-use world_core::{Arrival, Event};
+use world_core::{Arrival, Event, World};
 
 /// How a network stands: its switches, the phase of the updates and why they stand still, the copies in flight,
 /// and the packets that came in.
@@ -44,6 +44,25 @@ pub fn report_text(
     put_state(alloc, &mut out, standing.phase, standing.halt)?;
     put_arrivals(alloc, &mut out, standing.arrivals, standing.flights)?;
     Ok(Text::new(out))
+}
+
+/// The report of a world and of the events that led to it.
+pub fn world_report(
+    alloc: Global,
+    world: &World,
+    events: &[Event],
+) -> Result<Text, AllocError>
+    ensures { IfOk result (λ t. IsWorldReport world.now events.now t) }
+{
+    let coordinator = world.coordinator();
+    let standing = Standing {
+        switches: world.topology().switches(),
+        phase: coordinator.phase(),
+        halt: coordinator.halt(),
+        flights: world.flights().as_slice(),
+        arrivals: world.arrivals(),
+    };
+    report_text(alloc, &standing, events)
 }
 
 // Puts the lines of arrivals at the end.
