@@ -1,5 +1,5 @@
 -- What every document that was read holds to.
-use Rattle.std.specs.Prelude.{◌≤◌, ◌<◌, List}
+use Rattle.std.specs.Prelude.{◌≤◌, ◌<◌, List, length}
 use Rattle.nk_values.specs.Members.{IsIn}
 use Rattle.nk_values.specs.Packets.{IsWellShaped}
 use Rattle.nk_syntax.specs.Terms.{Term}
@@ -27,9 +27,10 @@ AreFewNamedIn ps = (p : Term) → IsIn ps p → AreFewNamed (TermNames p)
 abbrev pub AreSoundPackets : Layout → List PacketLine → Type 0
 AreSoundPackets t lines = (line : PacketLine) → IsIn lines line → IsSoundPacket t line
 
--- the stamps, the hop limit, the values that policies name, and the packets are within their ranges
+-- the stamps, the hop limit, the number of policies, the values that they name, and the packets are within their ranges
 pub record IsSound (d : Doc) : Type 0 where
   pub stamps : AreStamps d.settings
   pub hops : 0 < d.settings.hops
+  pub policies : length d.policies ≤ 64
   pub few : AreFewNamedIn d.policies
   pub packets : AreSoundPackets d.layout d.packets

@@ -47,6 +47,7 @@ abbrev pub IsPolicyFault : Layout → Settings → ℕ → Term → Fault → Ty
 IsPolicyFault t s k p (fault.Compile i f) = (i ≡ suc k) × IsFaultOf p f
 IsPolicyFault t s k p (fault.Emit i f) = (i ≡ suc k) × HasNoRows t s k p f
 IsPolicyFault t s k p (fault.Line line column f) = ⊥
+IsPolicyFault t s k p (fault.NotEnabled line) = ⊥
 IsPolicyFault t s k p fault.Read = ⊥
 IsPolicyFault t s k p fault.Net = ⊥
 IsPolicyFault t s k p fault.NoThread = ⊥

@@ -16,6 +16,7 @@ use std::alloc::Global;
 #[derive(Debug, Drop)]
 pub enum Ending {
     Done(Text),
+    Halted(Text),
     Refused(Text),
     ReadFault,
     Memory,
@@ -34,8 +35,8 @@ pub fn answer<S: Source>(alloc: Global, command: Command, source: &mut S) -> End
         Err(InputError::Fault(fault)) => return refusal(alloc, &placed_fault(&fault)),
         Err(InputError::Memory) => return Ending::Memory,
     };
-    match output(alloc, command, &document) {
-        Ok(text) => Ending::Done(text),
+    match output(alloc, command, document) {
+        Ok(ending) => ending,
         Err(PolicyError::Fault(fault)) => refusal(alloc, &fault),
         Err(PolicyError::Memory) => Ending::Memory,
     }

@@ -9,6 +9,8 @@ pub enum Command {
     Rules,
     /// The way of each packet under each policy.
     Trace,
+    /// The updates and packets of the schedule.
+    Simulate,
 }
 
 /// The command that the words ask for, if they are a command line: the program's name, and the word of a
@@ -26,6 +28,8 @@ pub fn command_of(words: &[String]) -> Option<Command>
         Some(Command::Rules)
     } else if is_word(word, "trace") {
         Some(Command::Trace)
+    } else if is_word(word, "simulate") {
+        Some(Command::Simulate)
     } else {
         None
     }

@@ -49,7 +49,6 @@ impl Model for World {
 }
 
 impl World {
-    ghost use Rattle.topology_model.specs.Wired.{IsTopology};
     ghost use Rattle.update_laws.specs.Settings.{AreVersions};
     ghost use Rattle.world_core.specs.Worlds.{start};
     ghost use Rattle.world_core.specs.Steps.{IsEnabled, Step};
@@ -64,7 +63,6 @@ impl World {
         hops: u64,
         capacity: usize,
     ) -> Result<World, AllocError>
-        requires topology { IsTopology topology }
         requires versions { AreVersions topology versions.items }
         requires hops { 1 ≤ hops }
         ensures { IfOk result (λ w. w ≡ start topology versions.items hops capacity) }

@@ -21,7 +21,7 @@ invariant_of-result c =
     let numbers = c.in_ok-numbers.ensures ∙ ap numbers_of c.switches.ensures.switches in
     subst (λ (w : WorldValue). IsKept w)
     (sym (made-of _ _ _ _ _ _ _ _ _ _ _ c.in_ok-coordinator.ensures (c.deref-2.ensures.value ∙ c.in_ok-rows.ensures ∙ ap (map (λ (v : Version). v.rows)) c.deref.ensures.value) (c.deref-3.ensures.value ∙ numbers) c.in_ok-ends.ensures (c.deref-4.ensures.value ∙ numbers) c.new-2.ensures c.new-3.ensures.items))
-    (start-kept _ _ _ _ c.requires.topology c.requires.versions c.requires.hops)
+    (start-kept _ _ _ _ c.switches.ensures.topology c.requires.versions c.requires.hops)
 
 pub returns : goal.returns
 returns c =

@@ -1,0 +1,90 @@
+-- What a schedule does is a run of the world.
+use Rattle.std.proofs.Common.{◌≡◌, ◌≢◌, ℕ, suc, ◌+◌, ◌<◌, List, [], ◌∷◌, ◌++◌, length, take, drop, get_or, refl, sym, ◌∙◌, ap, subst, Option, Some, arith}
+use Rattle.std.proofs.lemmas.List.{append_assoc, append-nil}
+use Rattle.topology_model.specs.declared.line.Site.{Site}
+use Rattle.document_text.specs.declared.document.Event.{Event as Command}
+use Rattle.document_text.specs.declared.document.Event.TheVariants as command
+use Rattle.document_text.specs.declared.document.PacketLine.{PacketLine}
+use Rattle.document_text.specs.declared.document.ScheduleLine.{ScheduleLine}
+use Rattle.world_core.specs.declared.event.Event.{Event}
+use Rattle.world_core.specs.declared.event.Event.TheVariants as event
+use Rattle.world_core.specs.Worlds.{WorldValue}
+use Rattle.world_core.specs.Steps.{Step, Runs}
+use Rattle.world_core.specs.Settling.{Followed, settling, flowing}
+use Rattle.controller_program.specs.Schedules.{event_of, DoesOne, Does, CarriedOut}
+
+-- no event changes the topology
+pub step-topology : (w : WorldValue) (e : Event) (v : WorldValue) → Step w e v → v.topology ≡ w.topology
+step-topology w event.Begin v h = ap (λ (x : WorldValue). x.topology) h.now
+step-topology w (event.Send s) v h = ap (λ (x : WorldValue). x.topology) h.now
+step-topology w (event.Take s) v h = ap (λ (x : WorldValue). x.topology) h.now
+step-topology w (event.Apply s k) v h = ap (λ (x : WorldValue). x.topology) h.now
+step-topology w (event.Reply s) v h = ap (λ (x : WorldValue). x.topology) h.now
+step-topology w (event.Heard s) v h = ap (λ (x : WorldValue). x.topology) h.now
+step-topology w (event.Arrive pk tag) v h = ap (λ (x : WorldValue). x.topology) h.now
+step-topology w (event.Hop k) v h = ap (λ (x : WorldValue). x.topology) h.now
+step-topology w (event.Drained stamp) v h = ap (λ (x : WorldValue). x.topology) h.step.now
+step-topology w (event.Lost s) v h = ap (λ (x : WorldValue). x.topology) h.now
+step-topology w (event.Stuck k) v h = ap (λ (x : WorldValue). x.topology) h.now
+step-topology w (event.Foreign s side got) v h = ap (λ (x : WorldValue). x.topology) h.now
+
+pub runs-topology : (w : WorldValue) (es : List Event) (v : WorldValue) → Runs w es v → v.topology ≡ w.topology
+runs-topology w [] v r = ap (λ (x : WorldValue). x.topology) (sym r)
+runs-topology w (e ∷ es) v r = runs-topology r.0 es v r.2 ∙ step-topology w e r.0 r.1
+
+-- what is followed is a run
+pub followed-runs : (tried : WorldValue → List Event) (w : WorldValue) (es : List Event) (v : WorldValue) → Followed tried w es v → Runs w es v
+followed-runs tried w [] v f = f
+followed-runs tried w (e ∷ es) v f = (f.0, f.2, followed-runs tried f.0 es v f.3)
+
+runs-both : (w : WorldValue) (es : List Event) (x : WorldValue) (fs : List Event) (v : WorldValue) → Runs w es x → Runs x fs v → Runs w (es ++ fs) v
+runs-both w [] x fs v r q = subst (λ (z : WorldValue). Runs z fs v) (sym r) q
+runs-both w (e ∷ es) x fs v r q = (r.0, r.1, runs-both r.0 es x fs v r.2 q)
+
+one-runs : (named : Option Event) (w : WorldValue) (es : List Event) (v : WorldValue) → DoesOne named w es v → Runs w es v
+one-runs named w es v d = subst (λ (z : List Event). Runs w z v) (sym d.all) (v, d.step, refl)
+
+pub does-runs : (sites : List Site) (packets : List PacketLine) (c : Command) (w : WorldValue) (es : List Event) (v : WorldValue) → Does sites packets c w es v → Runs w es v
+does-runs sites packets command.Settle w es v d = followed-runs settling w es v d.done
+does-runs sites packets command.Flow w es v d = followed-runs flowing w es v d.done
+does-runs sites packets command.Begin w es v d = one-runs (event_of sites packets command.Begin) w es v d
+does-runs sites packets (command.Send sw) w es v d = one-runs (event_of sites packets (command.Send sw)) w es v d
+does-runs sites packets (command.Take sw) w es v d = one-runs (event_of sites packets (command.Take sw)) w es v d
+does-runs sites packets (command.Apply sw k) w es v d = one-runs (event_of sites packets (command.Apply sw k)) w es v d
+does-runs sites packets (command.Reply sw) w es v d = one-runs (event_of sites packets (command.Reply sw)) w es v d
+does-runs sites packets (command.Heard sw) w es v d = one-runs (event_of sites packets (command.Heard sw)) w es v d
+does-runs sites packets (command.Arrive n) w es v d = one-runs (event_of sites packets (command.Arrive n)) w es v d
+does-runs sites packets (command.Hop k) w es v d = one-runs (event_of sites packets (command.Hop k)) w es v d
+does-runs sites packets (command.Drained stamp) w es v d = one-runs (event_of sites packets (command.Drained stamp)) w es v d
+does-runs sites packets (command.Lost sw) w es v d = one-runs (event_of sites packets (command.Lost sw)) w es v d
+does-runs sites packets (command.Stuck k) w es v d = one-runs (event_of sites packets (command.Stuck k)) w es v d
+
+pub carried-runs : (sites : List Site) (packets : List PacketLine) (w : WorldValue) (ls : List ScheduleLine) (es : List Event) (v : WorldValue) → CarriedOut sites packets w ls es v → Runs w es v
+carried-runs sites packets w [] es v c = subst (λ (z : List Event). Runs w z v) (sym c.0) c.1
+carried-runs sites packets w (l ∷ ls) es v c =
+    subst (λ (z : List Event). Runs w z v) (sym c.5) (runs-both w c.0 c.1 c.2 v (does-runs sites packets l.event w c.0 c.1 c.3) (carried-runs sites packets c.1 ls c.2 v c.4))
+
+-- any command but two does its event
+pub does-one : (sites : List Site) (packets : List PacketLine) (c : Command) (w : WorldValue) (es : List Event) (v : WorldValue) → c ≢ command.Settle → c ≢ command.Flow →
+    DoesOne (event_of sites packets c) w es v → Does sites packets c w es v
+does-one sites packets command.Settle w es v a b d = absurd (a refl)
+does-one sites packets command.Flow w es v a b d = absurd (b refl)
+does-one sites packets command.Begin w es v a b d = d
+does-one sites packets (command.Send sw) w es v a b d = d
+does-one sites packets (command.Take sw) w es v a b d = d
+does-one sites packets (command.Apply sw k) w es v a b d = d
+does-one sites packets (command.Reply sw) w es v a b d = d
+does-one sites packets (command.Heard sw) w es v a b d = d
+does-one sites packets (command.Arrive n) w es v a b d = d
+does-one sites packets (command.Hop k) w es v a b d = d
+does-one sites packets (command.Drained stamp) w es v a b d = d
+does-one sites packets (command.Lost sw) w es v a b d = d
+does-one sites packets (command.Stuck k) w es v a b d = d
+
+-- one line more is carried out
+pub carried-more : (sites : List Site) (packets : List PacketLine) (w : WorldValue) (ls : List ScheduleLine) (es : List Event) (x : WorldValue) (l : ScheduleLine) (more : List Event) (v : WorldValue) →
+    CarriedOut sites packets w ls es x → Does sites packets l.event x more v → CarriedOut sites packets w (ls ++ l ∷ []) (es ++ more) v
+carried-more sites packets w [] es x l more v c d =
+    (more, v, [], subst (λ (z : WorldValue). Does sites packets l.event z more v) (sym c.1) d, (refl, refl), ap (λ (z : List Event). z ++ more) c.0 ∙ sym (append-nil more))
+carried-more sites packets w (k ∷ ls) es x l more v c d =
+    (c.0, c.1, c.2 ++ more, c.3, carried-more sites packets c.1 ls c.2 x l more v c.4 d, ap (λ (z : List Event). z ++ more) c.5 ∙ append_assoc c.0 c.2 more)

@@ -1,0 +1,28 @@
+-- Simulations: a schedule in the world of a document's policies.
+use Rattle.std.specs.Prelude.{◌≡◌, ◌≢◌, ℕ, Bool, List, is_some}
+use Rattle.document_text.specs.Documents.{Doc}
+use Rattle.policy_rows.specs.declared.version.Version.{Version}
+use Rattle.world_core.specs.declared.event.Event.{Event}
+use Rattle.world_core.specs.Laws.{AreGood}
+use Rattle.world_core.specs.Steps.{Runs}
+use Rattle.world_core.specs.Worlds.{WorldValue, start}
+use Rattle.report_text.specs.Reports.{IsWorldReport}
+use Rattle.controller_program.specs.Schedules.{CarriedOut, StopsAt}
+
+-- the world of these versions in the document's topology, before anything has happened
+abbrev pub start_of : Doc → List Version → WorldValue
+start_of d versions = start d.layout versions d.settings.hops d.settings.capacity
+
+-- The whole schedule is carried out, and the text is the report of its events and of the world then, in which each packet that came in is handled by one policy; `halts` says whether the updates stand still then.
+pub record IsSimulationOf (halts : Bool) (d : Doc) (versions : List Version) (text : List ℕ) : Type 0 where
+  pub events : List Event
+  pub world : WorldValue
+  pub done : CarriedOut d.layout.switches d.packets (start_of d versions) d.schedule events world
+  pub runs : Runs (start_of d versions) events world
+  pub good : AreGood world
+  pub ends : is_some world.fleet.control.halt ≡ halts
+  pub text_is : IsWorldReport world events text
+
+-- the first line of the schedule whose event cannot happen
+abbrev pub StopsIn : Doc → List Version → ℕ → Type 0
+StopsIn d versions line = StopsAt d.layout.switches d.packets (start_of d versions) d.schedule line

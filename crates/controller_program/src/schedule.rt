@@ -1,0 +1,94 @@
+// Schedules, carried out in a world.
+ghost use Rattle.std.specs.Prelude.{◌≡◌, ◌++◌, List, Err, Some, IfOk, IfErr, OnOk};
+ghost use Rattle.world_core.specs.Steps.{IsEnabled};
+ghost use Rattle.world_core.specs.declared.event.Event.{Event as EventValue};
+ghost use Rattle.world_core.specs.declared.fault.StepFault.TheVariants as faults;
+ghost use Rattle.controller_program.specs.Schedules.{event_of, Does, CarriedOut};
+ghost use Rattle.controller_program.specs.Views.{TellsStop};
+
+use crate::versions::PolicyError;
+use document_text::{Event as Command, PacketLine, ScheduleLine};
+use report_text::Fault;
+use std::alloc::{AllocError, Global};
+use topology_model::Topology;
+use world_core::{Event, StepFault, World};
+
+/// Carries out a schedule line by line, and gives the events that were done; or the first line whose event cannot
+/// happen.
+pub fn carry_out(
+    alloc: Global,
+    world: &mut World,
+    packets: &[PacketLine],
+    schedule: &[ScheduleLine],
+) -> Result<Vec<Event>, PolicyError>
+    ensures done { IfOk result (λ events. CarriedOut world.old.topology.switches packets.now world.old schedule.now events.items world.new) }
+    ensures stop { IfErr result (TellsStop world.old.topology.switches packets.now world.old schedule.now) }
+{
+    let mut events = Vec::new(alloc);
+    for line in schedule {
+        match carry(alloc, world, packets, line.event, &mut events) {
+            Ok(()) => {}
+            Err(StepFault::NotEnabled) => {
+                return Err(PolicyError::Fault(Fault::NotEnabled { line: line.line }));
+            }
+            Err(StepFault::Memory) => return Err(PolicyError::Memory),
+        }
+    }
+    Ok(events)
+}
+
+// Carries out a command, and puts the events that were done behind the others.
+fn carry(
+    alloc: Global,
+    world: &mut World,
+    packets: &[PacketLine],
+    command: Command,
+    events: &mut Vec<Event>,
+) -> Result<(), StepFault>
+    ensures done { OnOk result ((more : List EventValue) × Does world.old.topology.switches packets.now command world.old more world.new × (events.new.items ≡ events.old.items ++ more)) }
+    ensures topology { OnOk result (world.new.topology ≡ world.old.topology) }
+    ensures refused { result ≡ Err faults.NotEnabled → (e : EventValue) → event_of world.old.topology.switches packets.now command ≡ Some e → ¬ IsEnabled world.old e }
+{
+    match command {
+        Command::Settle => {
+            let mut more = world.settle(alloc)?;
+            events.append(&mut more)?;
+        }
+        Command::Flow => {
+            let mut more = world.flow(alloc)?;
+            events.append(&mut more)?;
+        }
+        _ => {
+            let Some(event) = event_of(world.topology(), packets, command) else {
+                return Err(StepFault::NotEnabled);
+            };
+            events.reserve(1)?;
+            world.step(alloc, &event)?;
+            events.push_reserved(event);
+        }
+    }
+    Ok(())
+}
+
+// The event that a command names.
+fn event_of(topology: &Topology, packets: &[PacketLine], command: Command) -> Option<Event>
+    ensures { result ≡ event_of topology.now.switches packets.now command }
+{
+    match command {
+        Command::Begin => Some(Event::Begin),
+        Command::Send(sw) => Some(Event::Send(topology.place(sw)?)),
+        Command::Take(sw) => Some(Event::Take(topology.place(sw)?)),
+        Command::Apply(sw, pending) => Some(Event::Apply(topology.place(sw)?, pending as usize)),
+        Command::Reply(sw) => Some(Event::Reply(topology.place(sw)?)),
+        Command::Heard(sw) => Some(Event::Heard(topology.place(sw)?)),
+        Command::Arrive(number) => {
+            let line = packets.get(number.saturating_sub(1))?;
+            Some(Event::Arrive(line.packet, line.tag))
+        }
+        Command::Hop(copy) => Some(Event::Hop(copy as usize)),
+        Command::Drained(stamp) => Some(Event::Drained(stamp)),
+        Command::Lost(sw) => Some(Event::Lost(topology.place(sw)?)),
+        Command::Stuck(copy) => Some(Event::Stuck(copy as usize)),
+        Command::Settle | Command::Flow => None,
+    }
+}
