@@ -4,3 +4,4 @@ mod Standing
 mod Beginning
 mod Trying
 mod Good
+mod Runs

@@ -1,6 +1,5 @@
 // The world of an update.
 ghost use Rattle.std.specs.Prelude.{◌≡◌, ◌≤◌, ◌<◌, ◌↔◌, IsTrue, Some, Err, OnOk, OnErr, IfOk, IfErr, IsSomeAnd, map, length, slice_get};
-
 ghost use Rattle.policy_rows.specs.declared.version.Version.{Version as VersionValue};
 ghost use Rattle.world_core.specs.Ends.{new_end};
 
@@ -51,6 +50,7 @@ impl Model for World {
 impl World {
     ghost use Rattle.topology_model.specs.Wired.{IsTopology};
     ghost use Rattle.update_laws.specs.Settings.{AreVersions};
+    ghost use Rattle.world_core.specs.Laws.{EveryRunIsGood};
     ghost use Rattle.world_core.specs.Worlds.{start};
     ghost use Rattle.world_core.specs.Steps.{IsEnabled, Step};
     ghost use Rattle.world_core.specs.declared.fault.StepFault.TheVariants as faults;
@@ -67,7 +67,8 @@ impl World {
         requires topology { IsTopology topology }
         requires versions { AreVersions topology versions.items }
         requires hops { 1 ≤ hops }
-        ensures { IfOk result (λ w. w ≡ start topology versions.items hops capacity) }
+        ensures world { IfOk result (λ w. w ≡ start topology versions.items hops capacity) }
+        ensures runs { IfOk result EveryRunIsGood }
     {
         let numbers = numbers_of(alloc, topology.switches())?;
         let rows = rows_of(alloc, &versions)?;

@@ -1,0 +1,13 @@
+// Laws of the world, each the contract of a call that does nothing.
+ghost use Rattle.world_core.specs.Laws.{HaltsStay, PacketsLand};
+
+/// Once no copy of a packet is in flight, its finished histories are exactly its complete ones under one policy:
+/// the one that was current when it came in, or the one that was coming in.
+pub fn packets_land()
+    ensures { PacketsLand }
+{}
+
+/// A halt stays, with the phase that it met: after it no event changes anything of the coordinator.
+pub fn halts_stay()
+    ensures { HaltsStay }
+{}
