@@ -23,6 +23,7 @@ use Rattle.update_laws.proofs.Starting.{start-fleet}
 use Rattle.update_laws.proofs.Wiring.{some-is}
 use Rattle.world_core.specs.Ends.{new_end}
 use Rattle.world_core.specs.Worlds.{WorldValue, numbers_of, start, IsKept}
+use Rattle.world_core.proofs.Tables.{new-distinct}
 
 map-twice : {X Y Z : Type 0} (f : Y → Z) (g : X → Y) (xs : List X) → map f (map g xs) ≡ map (λ x. f (g x)) xs
 map-twice f g [] = refl
@@ -65,6 +66,7 @@ start-kept t vs limit capacity k v l = record {
   limit = l;
   places = numbers-kept capacity (numbers_of t.switches);
   stamps = map-twice (λ (r : Rows). r.stamp) (λ (w : Version). w.rows) vs;
+  distinct = new-distinct capacity (numbers_of t.switches);
   fleet = start-fleet (setting_of t vs limit capacity) (start t vs limit capacity).fleet (made-start t vs limit capacity (numbers_of t.switches) (start t vs limit capacity).fleet k v made);
   traffic = start-traffic t (setting_of t vs limit capacity);
 }

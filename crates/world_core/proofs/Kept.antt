@@ -31,6 +31,7 @@ use Rattle.update_laws.proofs.Wiring.{some-is}
 use Rattle.world_core.specs.declared.event.Event.{Event}
 use Rattle.world_core.specs.declared.event.Event.TheVariants as event
 use Rattle.world_core.specs.Worlds.{WorldValue, setting, stamps_of, Keeps, IsKept}
+use Rattle.world_core.proofs.Tables.{step-distinct}
 use Rattle.world_core.specs.Steps.{foreign_cause, InFleet, Arrives, Hops, Drained_of, standing_still, Step, Runs}
 
 -- what holds of the traffic in a phase
@@ -46,6 +47,7 @@ fleet-keeps w e g k s traffic = record {
   limit = k.limit;
   places = step-numbers w.fleet e g s ∙ k.places;
   stamps = step-stamps w.fleet e g s ∙ k.stamps;
+  distinct = step-distinct w.fleet e g s k.distinct;
   fleet = step-fleet (setting w) (made w.topology w.versions w.limit w.capacity k.topology k.versions) w.fleet e g s k.fleet;
   traffic = traffic k;
 }
@@ -120,6 +122,7 @@ arrive-keeps pk tag w v h k = subst (λ (x : WorldValue). IsKept x) (sym h.now) 
   limit = k.limit;
   places = k.places;
   stamps = k.stamps;
+  distinct = k.distinct;
   fleet = k.fleet;
   traffic = subst (λ (ph : Phase). After ph (coordinator.entry w.fleet.control.phase)) (sym (fleet-phase (setting w) w.fleet k.fleet))
       (subst (λ (n : Entry). After k.fleet.phase n) (sym (ap coordinator.entry k.fleet.is ∙ entry-of k.fleet.phase)) there);
@@ -142,6 +145,7 @@ hop-keeps n w v h k = subst (λ (x : WorldValue). IsKept x) (sym h.now) (record 
   limit = k.limit;
   places = k.places;
   stamps = k.stamps;
+  distinct = k.distinct;
   fleet = k.fleet;
   traffic =
       let l = line-at w k h.place h.end_ h.here in

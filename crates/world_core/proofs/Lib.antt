@@ -5,3 +5,4 @@ mod Beginning
 mod Trying
 mod Good
 mod Runs
+mod Tables

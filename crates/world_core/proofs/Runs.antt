@@ -1,4 +1,4 @@
--- What holds of every run: packets are handled well, and a halt stays.
+-- What holds of every run: packets are handled well, a halt stays, and no flow mod meets a full table.
 use Rattle.std.proofs.Common.{◌≡◌, ◌≢◌, ◌≤◌, ℕ, ap, refl, ◌∙◌, List, Option, None, Some}
 use Rattle.topology_model.specs.Layouts.{Layout}
 use Rattle.topology_model.specs.Wired.{IsTopology}
@@ -9,9 +9,10 @@ use Rattle.update_coordinator.specs.Calls.{unless_halted, begins, drains}
 use Rattle.update_laws.specs.Settings.{AreVersions}
 use Rattle.update_laws.specs.Fleets.{Fleet}
 use Rattle.update_laws.proofs.Landing.{landed}
+use Rattle.update_laws.proofs.Room.{no-full}
 use Rattle.world_core.specs.declared.event.Event.{Event}
 use Rattle.world_core.specs.declared.event.Event.TheVariants as event
-use Rattle.world_core.specs.Laws.{AreGood, EveryRunIsGood, PacketsLand, HaltsStay}
+use Rattle.world_core.specs.Laws.{AreGood, EveryRunIsGood, PacketsLand, HaltsStay, HasRoom}
 use Rattle.world_core.specs.Steps.{Step}
 use Rattle.world_core.specs.Worlds.{WorldValue, setting, start, IsKept}
 use Rattle.world_core.proofs.Beginning.{start-kept}
@@ -47,3 +48,9 @@ halts-stay w (event.Drained stamp) v h s = absurd (h (running w.fleet.control.ha
 halts-stay w (event.Lost place) v h s = absurd (h s.lost.running)
 halts-stay w (event.Stuck k) v h s = absurd (h (running w.fleet.control.halt _ s.stuck.drains))
 halts-stay w (event.Foreign place side got) v h s = absurd (h s.running)
+
+-- ---- full tables
+
+pub has-room : HasRoom
+unfolding IsKept
+has-room w s k v kept room h = no-full w.topology w.versions w.limit w.capacity kept.topology kept.versions room w.fleet h.fleet s k kept.fleet h.step (kept.distinct s h.step.old h.step.here)
