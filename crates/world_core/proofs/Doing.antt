@@ -153,7 +153,7 @@ receives s at got w d site e f why k there here again running other is q =
 
 -- ---- copies that carry a stamp
 
-carried : (o : Option ℕ) (stamp : ℕ) → option_eq nat_eq o (Some stamp) ≡ true → o ≡ Some stamp
+pub carried : (o : Option ℕ) (stamp : ℕ) → option_eq nat_eq o (Some stamp) ≡ true → o ≡ Some stamp
 carried None stamp e = absurd (cc)
 carried (Some n) stamp e = ap (λ (m : ℕ). Some m) ((Decides-eqb n stamp).0 e)
 

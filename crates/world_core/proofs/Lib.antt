@@ -6,3 +6,4 @@ mod Trying
 mod Good
 mod Runs
 mod Tables
+mod Ending

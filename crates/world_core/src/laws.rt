@@ -1,5 +1,5 @@
 // Laws of the world, each the contract of a call that does nothing.
-ghost use Rattle.world_core.specs.Laws.{HaltsStay, HasRoom, PacketsLand};
+ghost use Rattle.world_core.specs.Laws.{HaltsStay, HasRoom, NoDeadEnd, PacketsLand};
 
 /// Once no copy of a packet is in flight, its finished histories are exactly its complete ones under one policy:
 /// the one that was current when it came in, or the one that was coming in.
@@ -10,6 +10,13 @@ pub fn packets_land()
 /// A halt stays, with the phase that it met: after it no event changes anything of the coordinator.
 pub fn halts_stay()
     ensures { HaltsStay }
+{}
+
+/// There is no dead end: where nothing can happen but arrivals, lost sessions and what comes from outside, and the
+/// coordinator has not halted, all updates are done, or a copy with the stamp of the policy before took as many
+/// hops as it may.
+pub fn no_dead_end()
+    ensures { NoDeadEnd }
 {}
 
 /// Where each switch has room for 130,000 rows no flow mod meets a full table.
