@@ -7,3 +7,4 @@ mod Good
 mod Runs
 mod Tables
 mod Ending
+mod Agreeing

@@ -1,5 +1,5 @@
 // Laws of the world, each the contract of a call that does nothing.
-ghost use Rattle.world_core.specs.Laws.{HaltsStay, HasRoom, NoDeadEnd, PacketsLand};
+ghost use Rattle.world_core.specs.Laws.{HaltsStay, HasRoom, NoDeadEnd, PacketsLand, RunsAgree};
 
 /// Once no copy of a packet is in flight, its finished histories are exactly its complete ones under one policy:
 /// the one that was current when it came in, or the one that was coming in.
@@ -22,4 +22,10 @@ pub fn no_dead_end()
 /// Where each switch has room for 130,000 rows no flow mod meets a full table.
 pub fn has_room()
     ensures { HasRoom }
+{}
+
+/// What a world shows (the coordinator, the copies in flight and the packets that came in) is decided by its start
+/// and its events, in whatever order its tables keep their rows.
+pub fn runs_agree()
+    ensures { RunsAgree }
 {}
