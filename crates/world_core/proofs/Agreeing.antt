@@ -1,11 +1,10 @@
 -- What a world shows is decided by its start and its events.
-use Rattle.std.proofs.Common.{◌≡◌, ℕ, zero, suc, ◌<◌, ◌++◌, List, [], ◌∷◌, length, map, remove, Option, Some, slice_get, slice_set, refl, sym, ◌∙◌, ap, subst, arith}
+use Rattle.std.proofs.Common.{◌≡◌, ℕ, zero, suc, ◌++◌, List, [], ◌∷◌, length, map, remove, Option, Some, slice_get, slice_set, refl, sym, ◌∙◌, ap, subst, arith}
 use Rattle.nk_values.specs.declared.packet.Packet.{Packet}
 use Rattle.nk_values.specs.declared.row.Row.{Row}
 use Rattle.nk_values.specs.declared.sent.Sent.{Sent}
 use Rattle.nk_values.specs.Members.{IsIn, SameMembers}
 use Rattle.nk_values.specs.Trails.{Trail}
-use Rattle.openflow_wire.specs.declared.message.Message.{Message}
 use Rattle.topology_model.specs.Layouts.{Layout}
 use Rattle.topology_model.specs.Wired.{NoRepeat}
 use Rattle.packet_tracer.specs.declared.flight.Flight.{Flight}
@@ -17,15 +16,14 @@ use Rattle.update_coordinator.specs.declared.cause.Side.TheVariants as side
 use Rattle.update_coordinator.specs.Controls.{Control, Site, halted}
 use Rattle.update_coordinator.specs.Phases.{entry}
 use Rattle.update_laws.specs.Alike.{IsAlike, IsAlikeEnd}
-use Rattle.update_laws.specs.Fleets.{End, Fleet, FleetEvent, Begin, Send, Take, Apply, Answer, Hear, Drained, SendsAt, TakesAt, AppliesAt, RepliesAt, HearsAt, Begins, Drains}
-use Rattle.update_laws.specs.Traffic.{Arrived}
+use Rattle.update_laws.specs.Fleets.{End, Fleet, Begin, Send, Take, Apply, Answer, Hear, Drained, SendsAt, TakesAt, AppliesAt, RepliesAt, HearsAt, Begins, Drains}
 use Rattle.update_laws.proofs.Alike.{handles-alike, alike-halts, alike-step}
 use Rattle.update_laws.proofs.Places.{get-within, get-some}
 use Rattle.update_laws.proofs.Wiring.{some-is, none-some, get-mapped, at-in}
 use Rattle.world_core.specs.declared.event.Event.{Event}
 use Rattle.world_core.specs.declared.event.Event.TheVariants as event
 use Rattle.world_core.specs.Ends.{channel, front_bytes}
-use Rattle.world_core.specs.Laws.{ShowsSame, RunsAgree}
+use Rattle.world_core.specs.Laws.{RunsAgree}
 use Rattle.world_core.specs.Steps.{first_copy, foreign_cause, InFleet, Arrives, Hops, Loses, Sticks, Receives, standing_still, Step, Runs}
 use Rattle.world_core.specs.Worlds.{WorldValue, IsKept}
 use Rattle.world_core.proofs.Kept.{step-keeps}
@@ -74,7 +72,7 @@ same-rows w g kept a j k d e p q same =
     let c = get-some k w.fleet.ends (omega (arith, get-within k g.ends e q, a.count)) in
     let number : c.0.switch.sw ≡ d.switch.sw = (a.ends k c.0 e c.1 q).switch.sw ∙ sym same in
     let place : j ≡ k = one-place (map (λ (x : End). x.switch.sw) w.fleet.ends) differ j k d.switch.sw (get-mapped (λ (x : End). x.switch.sw) j w.fleet.ends d p)
-        (get-mapped (λ (x : End). x.switch.sw) k w.fleet.ends c.0 c.1 ∙ ap (λ (n : ℕ). Some n) number) in
+    (get-mapped (λ (x : End). x.switch.sw) k w.fleet.ends c.0 c.1 ∙ ap (λ (n : ℕ). Some n) number) in
     (a.ends k d e (ap (λ (i : ℕ). slice_get w.fleet.ends i) (sym place) ∙ p) q).switch.rows.members
   where
     differ : NoRepeat (map (λ (x : End). x.switch.sw) w.fleet.ends)
@@ -98,7 +96,7 @@ module _ (w : WorldValue) (g : Fleet) (v u : WorldValue) (kept : IsKept w) (a : 
   arrive-alike : (pk : Packet) (tag : Option ℕ) → Arrives pk tag w v → Arrives pk tag (record w { fleet = g }) u → AreAlike v u
   arrive-alike pk tag s t =
       let same = same-hop s.end_.switch.table.rows t.end_.switch.table.rows w.topology (first_copy pk tag (length w.arrivals)) s.finished t.finished s.next t.next
-          (same-rows w g kept a s.place t.place s.end_ t.end_ s.here t.here (s.stands ∙ sym t.stands)) s.handled t.handled in
+      (same-rows w g kept a s.place t.place s.end_ t.end_ s.here t.here (s.stands ∙ sym t.stands)) s.handled t.handled in
       alike-by v u (record w { flights = w.flights ++ s.next; arrivals = w.arrivals ++ record { packet = pk; tag = tag; entry = entry w.fleet.control.phase; finished = s.finished } ∷ [] }) g s.now
       (t.now ∙ sym (λ i. record w { fleet = g; flights = w.flights ++ same.next i; arrivals = w.arrivals ++ record { packet = pk; tag = tag; entry = entry (a.control i).phase; finished = same.finished i } ∷ [] }))
       a
@@ -108,8 +106,8 @@ module _ (w : WorldValue) (g : Fleet) (v u : WorldValue) (kept : IsKept w) (a : 
       let flight : s.may.flight ≡ t.may.flight = some-is s.may.flight t.may.flight (sym s.may.there ∙ t.may.there) in
       let arrival : s.arrival ≡ t.arrival = some-is s.arrival t.arrival (sym s.of ∙ ap (λ (f : Flight). slice_get w.arrivals f.arrival) flight ∙ t.of) in
       let same = same-hop s.end_.switch.table.rows t.end_.switch.table.rows w.topology s.may.flight s.finished t.finished s.next t.next
-          (same-rows w g kept a s.place t.place s.end_ t.end_ s.here t.here (s.stands ∙ ap (λ (f : Flight). f.history.newest.sw) flight ∙ sym t.stands)) s.handled
-          (subst (λ (f : Flight). IsHop t.end_.switch.table.rows w.topology f t.finished t.next) (sym flight) t.handled) in
+      (same-rows w g kept a s.place t.place s.end_ t.end_ s.here t.here (s.stands ∙ ap (λ (f : Flight). f.history.newest.sw) flight ∙ sym t.stands)) s.handled
+      (subst (λ (f : Flight). IsHop t.end_.switch.table.rows w.topology f t.finished t.next) (sym flight) t.handled) in
       alike-by v u (record w { flights = remove w.flights k ++ s.next; arrivals = slice_set w.arrivals s.may.flight.arrival (record s.arrival { finished = s.arrival.finished ++ s.finished }) }) g s.now
       (t.now ∙ sym (λ i. record w { fleet = g; flights = remove w.flights k ++ same.next i; arrivals = slice_set w.arrivals (flight i).arrival (record (arrival i) { finished = (arrival i).finished ++ same.finished i }) }))
       a

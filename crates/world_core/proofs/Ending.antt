@@ -1,27 +1,23 @@
 -- Where nothing can happen all updates are done, or copies with the old stamp are at the limit of their hops.
-use Rattle.std.proofs.Common.{◌≡◌, ◌≢◌, ◌⊎◌, inl, inr, ◌==◌, Bool, true, false, if◌then◌else◌, ℕ, zero, suc, ◌+◌, ◌-◌, ◌<◌, ◌≤◌, List, [], ◌∷◌, length, Option, None, Some, slice_get, refl, sym, ◌∙◌, ap, subst, arith}
+use Rattle.std.proofs.Common.{◌≡◌, ◌≢◌, ◌⊎◌, inl, inr, Bool, true, false, if◌then◌else◌, ℕ, suc, ◌+◌, ◌-◌, ◌<◌, ◌≤◌, List, [], ◌∷◌, length, Option, None, Some, slice_get, refl, sym, ◌∙◌, ap, subst, arith}
 use Rattle.std.specs.List.{list_any}
 use Rattle.std.proofs.lemmas.Bool.Decides.{Decides-eqb}
 use native.Mathlib.Decide.{dec_lt}
 use Rattle.nk_values.specs.Members.{IsIn}
 use Rattle.packet_tracer.specs.declared.flight.Flight.{Flight}
-use Rattle.barrier_tracker.specs.declared.tracker.Awaited.{Awaited}
 use Rattle.update_coordinator.specs.declared.cause.Cause.{Cause}
 use Rattle.update_coordinator.specs.declared.phase.Phase.{Phase as CoordinatorPhase}
 use Rattle.update_coordinator.specs.declared.phase.Phase.TheVariants as phase
 use Rattle.update_coordinator.specs.declared.refusal.Refusal.TheVariants.{NotDraining}
 use Rattle.update_coordinator.specs.Calls.{unless_halted, is_stamp, drains, drain_refusal}
-use Rattle.update_coordinator.specs.Controls.{Site}
-use Rattle.update_laws.specs.Fleets.{End, Fleet, wire_of, phase_from, AreStill, IsFleet}
-use Rattle.update_laws.specs.Fleets as fleets
+use Rattle.update_laws.specs.Fleets.{End, Fleet, phase_from, AreStill, IsFleet}
 use Rattle.update_laws.specs.Updates.{Setting, Phase, Within}
 use Rattle.update_laws.proofs.Moving.{fleet-phase}
 use Rattle.update_laws.proofs.Places.{get-some}
 use Rattle.update_laws.proofs.Quiet.{still-fleet}
 use Rattle.update_laws.proofs.Wiring.{some-is}
-use Rattle.world_core.specs.declared.event.Event.TheVariants as event
 use Rattle.world_core.specs.Laws.{IsStill, IsBarred, NoDeadEnd}
-use Rattle.world_core.specs.Steps.{Stands, IsEnabled, carries, MayHop}
+use Rattle.world_core.specs.Steps.{Stands, carries}
 use Rattle.world_core.specs.Worlds.{WorldValue, setting, IsKept}
 use Rattle.world_core.proofs.Doing.{carried, none-carries}
 use Rattle.world_core.proofs.Standing.{from-any}

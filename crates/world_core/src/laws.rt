@@ -12,9 +12,8 @@ pub fn halts_stay()
     ensures { HaltsStay }
 {}
 
-/// There is no dead end: where nothing can happen but arrivals, lost sessions and what comes from outside, and the
-/// coordinator has not halted, all updates are done, or a copy with the stamp of the policy before took as many
-/// hops as it may.
+/// There is no dead end: where the coordinator has not halted, and nothing can happen but arrivals and what would
+/// halt it, all updates are done, or a copy with the stamp of the policy before took as many hops as it may.
 pub fn no_dead_end()
     ensures { NoDeadEnd }
 {}

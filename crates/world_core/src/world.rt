@@ -57,6 +57,7 @@ impl World {
 
     /// The world of these policies in a topology, before anything has happened: the tables are empty, and each
     /// switch's HELLO is on its way. A copy takes at most so many hops, and a switch has room for so many rows.
+    /// After every list of events, each packet that came in is handled by one whole policy.
     pub fn start(
         alloc: Global,
         versions: Vec<Version>,

@@ -1,7 +1,6 @@
-use Rattle.std.proofs.Common.{◌≡◌, List, map, sym, ◌∙◌, ap, subst}
+use Rattle.std.proofs.Common.{List, map, sym, ◌∙◌, ap, subst}
 use Rattle.std.specs.List.{AllByRecursion}
 use Rattle.nk_values.specs.declared.rows.Rows.{Rows}
-use Rattle.topology_model.specs.declared.line.Site.{Site}
 use Rattle.policy_rows.specs.declared.version.Version.{Version}
 use Rattle.policy_rows.specs.Limits.{AreWithinLimits, AreWritable}
 use Rattle.world_core.specs.Worlds.{WorldValue, IsKept, numbers_of}
