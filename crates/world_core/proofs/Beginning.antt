@@ -1,5 +1,5 @@
 -- The world at its start keeps what every world keeps.
-use Rattle.std.proofs.Common.{◌≡◌, ◌≢◌, ℕ, suc, ◌≤◌, inl, inr, List, [], ◌∷◌, length, map, refl, sym, ◌∙◌, ap, subst, None, Some, slice_get, arith}
+use Rattle.std.proofs.Common.{◌≡◌, ◌≢◌, ℕ, suc, ◌≤◌, inl, List, [], ◌∷◌, length, map, refl, sym, ◌∙◌, ap, subst, Some, slice_get, arith}
 use Rattle.std.specs.List.{AllByRecursion}
 use Rattle.std.proofs.lemmas.List.{length-map}
 use Rattle.nk_values.specs.declared.rows.Rows.{Rows}
@@ -9,20 +9,20 @@ use Rattle.topology_model.specs.Layouts.{Layout, edges_of}
 use Rattle.topology_model.specs.Wired.{IsTopology}
 use Rattle.topology_model.proofs.Ranges.{edge_declared}
 use Rattle.policy_rows.specs.declared.version.Version.{Version}
-use Rattle.policy_rows.specs.Limits.{AreWithinLimits, AreWritable}
 use Rattle.packet_tracer.specs.declared.flight.Flight.{Flight}
 use Rattle.update_coordinator.specs.Controls.{Control}
 use Rattle.update_coordinator.specs.Starts as starts
 use Rattle.update_laws.specs.Traffic.{Arrived}
 use Rattle.update_laws.specs.Settings.{AreVersions, setting_of}
-use Rattle.update_laws.specs.Fleets.{End, Fleet, IsMade, IsNewEnd}
+use Rattle.update_laws.specs.Fleets.{End, IsMade, IsNewEnd}
 use Rattle.update_laws.proofs.Beginnings.{made-start}
 use Rattle.update_laws.proofs.Landing.{start-traffic}
 use Rattle.update_laws.proofs.Places.{get-map}
 use Rattle.update_laws.proofs.Starting.{start-fleet}
 use Rattle.update_laws.proofs.Wiring.{some-is}
 use Rattle.world_core.specs.Ends.{new_end}
-use Rattle.world_core.specs.Worlds.{WorldValue, numbers_of, start, IsKept}
+use Rattle.world_core.specs.Worlds.{numbers_of, start, IsKept}
+use Rattle.world_core.proofs.Tables.{new-distinct}
 
 map-twice : {X Y Z : Type 0} (f : Y → Z) (g : X → Y) (xs : List X) → map f (map g xs) ≡ map (λ x. f (g x)) xs
 map-twice f g [] = refl
@@ -65,6 +65,7 @@ start-kept t vs limit capacity k v l = record {
   limit = l;
   places = numbers-kept capacity (numbers_of t.switches);
   stamps = map-twice (λ (r : Rows). r.stamp) (λ (w : Version). w.rows) vs;
+  distinct = new-distinct capacity (numbers_of t.switches);
   fleet = start-fleet (setting_of t vs limit capacity) (start t vs limit capacity).fleet (made-start t vs limit capacity (numbers_of t.switches) (start t vs limit capacity).fleet k v made);
   traffic = start-traffic t (setting_of t vs limit capacity);
 }

@@ -1,6 +1,6 @@
 -- From what a switch or the coordinator did to the step of the world.
-use Rattle.std.proofs.Common.{◌≡◌, ◌≢◌, ℕ, nat_eq, Bool, true, false, ◌<◌, ◌≤◌, ◌⊎◌, inl, inr, List, [], ◌++◌, length, refl, sym, ◌∙◌, ap, subst, Option, None, Some, slice_get, slice_set, get_or, arith}
-use Rattle.std.specs.List.{list_any, remove}
+use Rattle.std.proofs.Common.{◌≡◌, ◌≢◌, ℕ, nat_eq, true, false, ◌<◌, ◌≤◌, ◌⊎◌, inl, inr, List, [], length, refl, sym, ◌∙◌, ap, subst, Option, None, Some, slice_get, slice_set, get_or, arith}
+use Rattle.std.specs.List.{list_any}
 use Rattle.std.specs.Option.{option_eq}
 use Rattle.std.proofs.lemmas.Bool.Decides.{Decides-eqb}
 use Rattle.nk_values.specs.Trails.{Trail}
@@ -15,13 +15,13 @@ use Rattle.session_core.specs.declared.session.Move.{Move}
 use Rattle.update_coordinator.specs.Calls.{begin_refusal, begun, drain_refusal, drained}
 use Rattle.update_coordinator.specs.Controls.{Control, halted}
 use Rattle.update_coordinator.specs.Sending.{MaySend}
-use Rattle.update_laws.specs.Fleets.{End, Fleet}
+use Rattle.update_laws.specs.Fleets.{End}
 use Rattle.update_laws.proofs.Places.{get-within}
 use Rattle.update_laws.proofs.Wiring.{some-is}
 use Rattle.world_core.specs.declared.event.Event.TheVariants as event
 use Rattle.world_core.specs.Ends.{channel, IsFront, front_bytes, IsSentTo, IsTaken, IsAppliedAt, IsAnswering, IsHeardFrom}
-use Rattle.world_core.specs.Worlds.{WorldValue, Keeps, IsKept}
-use Rattle.world_core.specs.Steps.{Stands, Runs_on, IsStuck, IsEnabled, Step, carries, NoneCarries}
+use Rattle.world_core.specs.Worlds.{WorldValue, IsKept}
+use Rattle.world_core.specs.Steps.{Stands, IsStuck, IsEnabled, Step, carries, NoneCarries}
 use Rattle.world_core.proofs.Standing.{any-in, from-any, end-of}
 
 -- the element that a call reads
@@ -153,7 +153,7 @@ receives s at got w d site e f why k there here again running other is q =
 
 -- ---- copies that carry a stamp
 
-carried : (o : Option ℕ) (stamp : ℕ) → option_eq nat_eq o (Some stamp) ≡ true → o ≡ Some stamp
+pub carried : (o : Option ℕ) (stamp : ℕ) → option_eq nat_eq o (Some stamp) ≡ true → o ≡ Some stamp
 carried None stamp e = absurd (cc)
 carried (Some n) stamp e = ap (λ (m : ℕ). Some m) ((Decides-eqb n stamp).0 e)
 

@@ -1,10 +1,9 @@
 -- Each event keeps what every world keeps.
-use Rattle.std.proofs.Common.{◌≡◌, ◌≢◌, ℕ, zero, suc, ◌-◌, ◌<◌, ◌≤◌, ◌⊎◌, inl, inr, List, [], ◌∷◌, ◌++◌, length, map, refl, sym, ◌∙◌, ap, subst, Option, None, Some, slice_get, slice_set, is_some, arith}
+use Rattle.std.proofs.Common.{◌≡◌, ◌≢◌, ℕ, zero, suc, ◌-◌, ◌≤◌, inl, inr, List, [], ◌∷◌, ◌++◌, refl, sym, ◌∙◌, ap, subst, Option, Some, slice_get, slice_set, is_some, arith}
 use Rattle.std.specs.List.{remove}
 use Rattle.nk_values.specs.declared.packet.Packet.{Packet}
 use Rattle.nk_values.specs.Members.{IsIn}
 use Rattle.nk_values.specs.Tags.{IsTag}
-use Rattle.topology_model.specs.Layouts.{Layout}
 use Rattle.policy_rows.specs.declared.version.Version.{Version}
 use Rattle.packet_tracer.specs.declared.flight.Flight.{Flight}
 use Rattle.barrier_tracker.specs.declared.tracker.Awaited.{Awaited}
@@ -13,11 +12,11 @@ use Rattle.update_coordinator.specs.declared.cause.Cause.TheVariants as cause
 use Rattle.update_coordinator.specs.declared.phase.Entry.{Entry}
 use Rattle.update_coordinator.specs.Controls.{Control, Site, halted}
 use Rattle.update_coordinator.specs.Phases as coordinator
-use Rattle.update_laws.specs.Updates.{Setting, IsSetting, Phase, Drain, Clean, entry}
-use Rattle.update_laws.specs.Settings.{version_at, stamp_in}
-use Rattle.update_laws.specs.Fleets.{End, Fleet, FleetEvent, Begin, Send, Take, Apply, Answer, Hear, Drained, Halt, FleetStep, SendsAt, TakesAt, AppliesAt, RepliesAt, HearsAt, Begins, Drains, IsFleet, phase_from, wire_of}
+use Rattle.update_laws.specs.Updates.{IsSetting, Phase, Drain, Clean, entry}
+use Rattle.update_laws.specs.Settings.{stamp_in}
+use Rattle.update_laws.specs.Fleets.{End, Fleet, FleetEvent, Begin, Send, Take, Apply, Answer, Hear, Drained, Halt, FleetStep, SendsAt, TakesAt, AppliesAt, RepliesAt, HearsAt, Begins, Drains, phase_from, wire_of}
 use Rattle.update_laws.specs.Stages.{IsLine}
-use Rattle.update_laws.specs.Traffic.{Arrived, IsTraffic}
+use Rattle.update_laws.specs.Traffic.{IsTraffic}
 use Rattle.update_laws.proofs.Entering.{entry-of}
 use Rattle.update_laws.proofs.Fleets.{end-here}
 use Rattle.update_laws.proofs.Landing.{acknowledged-traffic, begun-traffic, drained-traffic, drained-first}
@@ -27,11 +26,11 @@ use Rattle.update_laws.proofs.Numbers.{step-numbers}
 use Rattle.update_laws.proofs.Places.{get-map}
 use Rattle.update_laws.proofs.Starting.{step-fleet}
 use Rattle.update_laws.proofs.Traffic.{hop-traffic, arrive-traffic}
-use Rattle.update_laws.proofs.Wiring.{some-is}
 use Rattle.world_core.specs.declared.event.Event.{Event}
 use Rattle.world_core.specs.declared.event.Event.TheVariants as event
-use Rattle.world_core.specs.Worlds.{WorldValue, setting, stamps_of, Keeps, IsKept}
-use Rattle.world_core.specs.Steps.{foreign_cause, InFleet, Arrives, Hops, Drained_of, standing_still, Step, Runs}
+use Rattle.world_core.specs.Worlds.{WorldValue, setting, Keeps, IsKept}
+use Rattle.world_core.proofs.Tables.{step-distinct}
+use Rattle.world_core.specs.Steps.{foreign_cause, InFleet, Arrives, Hops, standing_still, Step, Runs}
 
 -- what holds of the traffic in a phase
 abbrev In_phase : WorldValue → Phase → Type 0
@@ -46,6 +45,7 @@ fleet-keeps w e g k s traffic = record {
   limit = k.limit;
   places = step-numbers w.fleet e g s ∙ k.places;
   stamps = step-stamps w.fleet e g s ∙ k.stamps;
+  distinct = step-distinct w.fleet e g s k.distinct;
   fleet = step-fleet (setting w) (made w.topology w.versions w.limit w.capacity k.topology k.versions) w.fleet e g s k.fleet;
   traffic = traffic k;
 }
@@ -120,6 +120,7 @@ arrive-keeps pk tag w v h k = subst (λ (x : WorldValue). IsKept x) (sym h.now) 
   limit = k.limit;
   places = k.places;
   stamps = k.stamps;
+  distinct = k.distinct;
   fleet = k.fleet;
   traffic = subst (λ (ph : Phase). After ph (coordinator.entry w.fleet.control.phase)) (sym (fleet-phase (setting w) w.fleet k.fleet))
       (subst (λ (n : Entry). After k.fleet.phase n) (sym (ap coordinator.entry k.fleet.is ∙ entry-of k.fleet.phase)) there);
@@ -142,6 +143,7 @@ hop-keeps n w v h k = subst (λ (x : WorldValue). IsKept x) (sym h.now) (record 
   limit = k.limit;
   places = k.places;
   stamps = k.stamps;
+  distinct = k.distinct;
   fleet = k.fleet;
   traffic =
       let l = line-at w k h.place h.end_ h.here in

@@ -4,3 +4,7 @@ mod Standing
 mod Beginning
 mod Trying
 mod Good
+mod Runs
+mod Tables
+mod Ending
+mod Agreeing

@@ -26,7 +26,7 @@ PacketsLand = (w : WorldValue) (n : ℕ) (a : Arrived) → IsKept w → slice_ge
 abbrev pub HaltsStay : Type 0
 HaltsStay = (w : WorldValue) (e : Event) (v : WorldValue) → w.fleet.control.halt ≢ None → Step w e v → v.fleet.control ≡ w.fleet.control
 
--- nothing can happen but arrivals, lost sessions, and what comes from outside
+-- nothing can happen but arrivals, and what would halt the coordinator
 pub record IsStill (w : WorldValue) : Type 0 where
   pub heard : (s : ℕ) → ¬ (IsEnabled w (event.Heard s))
   pub reply : (s : ℕ) → ¬ (IsEnabled w (event.Reply s))

@@ -1,5 +1,6 @@
 -- The world: what it has, how it starts, and what holds of it at each moment.
-use Rattle.std.specs.Prelude.{◌≡◌, ◌≤◌, ℕ, List, [], map}
+use Rattle.std.specs.Prelude.{◌≡◌, ◌≤◌, ℕ, List, [], map, slice_get, Some}
+use Rattle.nk_values.specs.Tables.{Distinct}
 use Rattle.topology_model.specs.Layouts.{Layout}
 use Rattle.topology_model.specs.Wired.{IsTopology}
 use Rattle.topology_model.specs.declared.line.Site.{Site}
@@ -46,13 +47,18 @@ start t versions limit capacity = record {
   arrivals = [];
 }
 
--- What every world keeps: its versions stand for their policies, the switches are those of the topology, each is where the phase has it, and each packet is handled by one policy of its entry.
+-- no two rows of a table have one pattern and priority
+abbrev pub AreDistinct : List End → Type 0
+AreDistinct ends = (place : ℕ) (e : End) → slice_get ends place ≡ Some e → Distinct e.switch.table.rows
+
+-- What every world keeps: its versions stand for their policies, the switches are those of the topology, no two rows of a table have one key, each switch is where the phase has it, and each packet is handled by one policy of its entry.
 pub record Keeps (w : WorldValue) : Type 0 where
   pub topology : IsTopology w.topology
   pub versions : AreVersions w.topology w.versions
   pub limit : 1 ≤ w.limit
   pub places : map (λ (e : End). e.switch.sw) w.fleet.ends ≡ numbers_of w.topology.switches
   pub stamps : w.fleet.control.stamps ≡ stamps_of w.versions
+  pub distinct : AreDistinct w.fleet.ends
   pub fleet : IsFleet (setting w) w.fleet
   pub traffic : IsTraffic w.topology (setting w) (phase_from w.fleet.control.phase) w.flights w.arrivals
 

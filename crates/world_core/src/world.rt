@@ -1,6 +1,5 @@
 // The world of an update.
 ghost use Rattle.std.specs.Prelude.{◌≡◌, ◌≤◌, ◌<◌, ◌↔◌, IsTrue, Some, Err, OnOk, OnErr, IfOk, IfErr, IsSomeAnd, map, length, slice_get};
-
 ghost use Rattle.policy_rows.specs.declared.version.Version.{Version as VersionValue};
 ghost use Rattle.world_core.specs.Ends.{new_end};
 
@@ -50,12 +49,14 @@ impl Model for World {
 
 impl World {
     ghost use Rattle.update_laws.specs.Settings.{AreVersions};
+    ghost use Rattle.world_core.specs.Laws.{EveryRunIsGood};
     ghost use Rattle.world_core.specs.Worlds.{start};
     ghost use Rattle.world_core.specs.Steps.{IsEnabled, Step};
     ghost use Rattle.world_core.specs.declared.fault.StepFault.TheVariants as faults;
 
     /// The world of these policies in a topology, before anything has happened: the tables are empty, and each
     /// switch's HELLO is on its way. A copy takes at most so many hops, and a switch has room for so many rows.
+    /// After every list of events, each packet that came in is handled by one whole policy.
     pub fn start(
         alloc: Global,
         versions: Vec<Version>,
@@ -65,7 +66,8 @@ impl World {
     ) -> Result<World, AllocError>
         requires versions { AreVersions topology versions.items }
         requires hops { 1 ≤ hops }
-        ensures { IfOk result (λ w. w ≡ start topology versions.items hops capacity) }
+        ensures world { IfOk result (λ w. w ≡ start topology versions.items hops capacity) }
+        ensures runs { IfOk result EveryRunIsGood }
     {
         let numbers = numbers_of(alloc, topology.switches())?;
         let rows = rows_of(alloc, &versions)?;

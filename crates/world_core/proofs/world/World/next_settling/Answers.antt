@@ -1,5 +1,4 @@
-use Rattle.std.proofs.Common.{◌≡◌, ℕ, ◌+◌, ◌-◌, List, [], ◌∷◌, length, inl, refl, sym, ◌∙◌, ap, arith}
-use Rattle.world_core.specs.declared.event.Event.TheVariants as event
+use Rattle.std.proofs.Common.{◌≡◌, ℕ, ◌+◌, ◌-◌, length, ◌∙◌, ap, arith}
 use Rattle.world_core.specs.Settling.{tried_at, tried_from, settling}
 use Rattle.world_core.specs.Worlds.{WorldValue}
 use Rattle.world_core.proofs.Trying.{left-all, left-more, left-first, tried-next, tried-none}
