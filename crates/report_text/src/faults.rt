@@ -15,11 +15,11 @@ pub fn fault_text(alloc: Global, fault: &Fault) -> Result<Text, AllocError>
     ensures { IfOk result (λ t. t ≡ fault_text fault.now) }
 {
     let mut out = String::new(alloc);
-    put_fault(alloc, &mut out, fault)?;
+    put_fault(&mut out, fault)?;
     Ok(Text::new(out))
 }
 
-fn put_fault(alloc: Global, out: &mut String, fault: &Fault) -> Result<(), AllocError>
+fn put_fault(out: &mut String, fault: &Fault) -> Result<(), AllocError>
     ensures { OnOk result (string_bytes out.new ≡ string_bytes out.old ++ fault_text fault.now) }
 {
     match fault {
@@ -30,7 +30,7 @@ fn put_fault(alloc: Global, out: &mut String, fault: &Fault) -> Result<(), Alloc
         } => put_line(out, *line, *column, *fault),
         Fault::Compile { policy, fault } => {
             put_policy(out, *policy)?;
-            put_compile(alloc, out, fault)?;
+            put_compile(out, fault)?;
             out.push_str("\n")
         }
         Fault::Emit { policy, fault } => {
@@ -59,40 +59,35 @@ fn put_policy(out: &mut String, policy: u64) -> Result<(), AllocError>
 }
 
 // Puts why a policy is not compiled at the end.
-fn put_compile(alloc: Global, out: &mut String, fault: &CompileFault) -> Result<(), AllocError>
+fn put_compile(out: &mut String, fault: &CompileFault) -> Result<(), AllocError>
     ensures { OnOk result (string_bytes out.new ≡ string_bytes out.old ++ compile_text fault.now) }
 {
     put_label(out, fault.number(), fault.name())?;
-    put_shown(alloc, out, fault)
+    put_shown(out, fault)
 }
 
 // Puts the packets that show it at the end, if there are any.
-fn put_shown(alloc: Global, out: &mut String, fault: &CompileFault) -> Result<(), AllocError>
+fn put_shown(out: &mut String, fault: &CompileFault) -> Result<(), AllocError>
     ensures { OnOk result (string_bytes out.new ≡ string_bytes out.old ++ shown fault.now) }
 {
     match fault {
         CompileFault::Dup | CompileFault::SetsSwitch | CompileFault::SetsType => Ok(()),
-        CompileFault::StarDeep { packet, output } => put_pair(alloc, out, packet, output),
+        CompileFault::StarDeep { packet, output } => put_pair(out, packet, output),
         CompileFault::Unguarded { packet } => {
             out.push_str(" ")?;
-            put_packet(alloc, out, packet)
+            put_packet(out, packet)
         }
     }
 }
 
 // Puts a packet and its output at the end.
-fn put_pair(
-    alloc: Global,
-    out: &mut String,
-    packet: &Packet,
-    output: &Packet,
-) -> Result<(), AllocError>
+fn put_pair(out: &mut String, packet: &Packet, output: &Packet) -> Result<(), AllocError>
     ensures { OnOk result (string_bytes out.new ≡ string_bytes out.old ++ pair_text packet.now output.now) }
 {
     out.push_str(" ")?;
-    put_packet(alloc, out, packet)?;
+    put_packet(out, packet)?;
     out.push_str(" to ")?;
-    put_packet(alloc, out, output)
+    put_packet(out, output)
 }
 
 // Puts a number and a name at the end, behind a colon.

@@ -1,15 +1,26 @@
 // The texts of numbers and fields.
-ghost use Rattle.std.specs.Prelude.{◌≡◌, ◌++◌, ◌<◌, ◌∷◌, [], OnOk, string_bytes, decimal};
+ghost use Rattle.std.specs.Prelude.{◌≡◌, ◌+◌, ◌++◌, ◌<◌, ◌∷◌, [], OnOk, string_bytes, decimal};
 ghost use Rattle.report_text.specs.Values.{hex_digit, hex_byte, hex_half, colon_triple, mac_text, dotted_pair, ip_text, value_text, field_text, fields_text, packet_text, place_text};
 
 use nk_values::{Field, Packet};
-use std::alloc::{AllocError, Global};
+use std::alloc::AllocError;
 
 /// Puts a number in decimal at the end.
-pub fn put_number(alloc: Global, out: &mut String, number: u64) -> Result<(), AllocError>
+pub fn put_number(out: &mut String, number: u64) -> Result<(), AllocError>
     ensures { OnOk result (string_bytes out.new ≡ string_bytes out.old ++ decimal number) }
 {
-    out.push_str(&number.to_string(alloc)?)
+    if number < 10 {
+        return put_digit(out, number);
+    }
+    put_number(out, number / 10)?;
+    put_digit(out, number % 10)
+}
+
+fn put_digit(out: &mut String, digit: u64) -> Result<(), AllocError>
+    requires { digit < 10 }
+    ensures { OnOk result (string_bytes out.new ≡ string_bytes out.old ++ (48 + digit) ∷ []) }
+{
+    out.push(char::from(48 + digit as u8))
 }
 
 // A digit below 16.
@@ -49,20 +60,20 @@ fn put_mac(out: &mut String, number: u64) -> Result<(), AllocError>
 }
 
 // Puts the last two bytes at the end, in decimal.
-fn put_dotted_pair(alloc: Global, out: &mut String, number: u64) -> Result<(), AllocError>
+fn put_dotted_pair(out: &mut String, number: u64) -> Result<(), AllocError>
     ensures { OnOk result (string_bytes out.new ≡ string_bytes out.old ++ dotted_pair number) }
 {
-    put_number(alloc, out, number / 256 % 256)?;
+    put_number(out, number / 256 % 256)?;
     out.push_str(".")?;
-    put_number(alloc, out, number % 256)
+    put_number(out, number % 256)
 }
 
-fn put_ip(alloc: Global, out: &mut String, number: u64) -> Result<(), AllocError>
+fn put_ip(out: &mut String, number: u64) -> Result<(), AllocError>
     ensures { OnOk result (string_bytes out.new ≡ string_bytes out.old ++ ip_text number) }
 {
-    put_dotted_pair(alloc, out, number / 65536)?;
+    put_dotted_pair(out, number / 65536)?;
     out.push_str(".")?;
-    put_dotted_pair(alloc, out, number)
+    put_dotted_pair(out, number)
 }
 
 fn put_hex_half(out: &mut String, number: u64) -> Result<(), AllocError>
@@ -74,12 +85,7 @@ fn put_hex_half(out: &mut String, number: u64) -> Result<(), AllocError>
 
 /// Puts the number of a field at the end: ethTyp in hexadecimal, addresses in their usual forms, others in
 /// decimal.
-pub fn put_value(
-    alloc: Global,
-    out: &mut String,
-    field: Field,
-    number: u64,
-) -> Result<(), AllocError>
+pub fn put_value(out: &mut String, field: Field, number: u64) -> Result<(), AllocError>
     ensures { OnOk result (string_bytes out.new ≡ string_bytes out.old ++ value_text field number) }
 {
     match field {
@@ -88,56 +94,46 @@ pub fn put_value(
             put_hex_half(out, number)
         }
         Field::EthSrc | Field::EthDst => put_mac(out, number),
-        Field::Ip4Src | Field::Ip4Dst => put_ip(alloc, out, number),
+        Field::Ip4Src | Field::Ip4Dst => put_ip(out, number),
         Field::Sw | Field::Pt | Field::IpProto | Field::TcpSrcPort | Field::TcpDstPort => {
-            put_number(alloc, out, number)
+            put_number(out, number)
         }
     }
 }
 
 /// Puts `f=value` at the end.
-pub fn put_field(
-    alloc: Global,
-    out: &mut String,
-    field: Field,
-    number: u64,
-) -> Result<(), AllocError>
+pub fn put_field(out: &mut String, field: Field, number: u64) -> Result<(), AllocError>
     ensures { OnOk result (string_bytes out.new ≡ string_bytes out.old ++ field_text field number) }
 {
     out.push_str(field.name())?;
     out.push_str("=")?;
-    put_value(alloc, out, field, number)
+    put_value(out, field, number)
 }
 
 /// Puts `S:B` at the end.
-pub fn put_place(alloc: Global, out: &mut String, sw: u64, pt: u64) -> Result<(), AllocError>
+pub fn put_place(out: &mut String, sw: u64, pt: u64) -> Result<(), AllocError>
     ensures { OnOk result (string_bytes out.new ≡ string_bytes out.old ++ place_text sw pt) }
 {
-    put_number(alloc, out, sw)?;
+    put_number(out, sw)?;
     out.push_str(":")?;
-    put_number(alloc, out, pt)
+    put_number(out, pt)
 }
 
 /// Puts a packet at the end: `S:B` and then ` f=value` for the header.
-pub fn put_packet(alloc: Global, out: &mut String, packet: &Packet) -> Result<(), AllocError>
+pub fn put_packet(out: &mut String, packet: &Packet) -> Result<(), AllocError>
     ensures { OnOk result (string_bytes out.new ≡ string_bytes out.old ++ packet_text packet.now) }
 {
-    put_place(alloc, out, packet.sw, packet.pt)?;
-    put_fields(alloc, out, packet, &Field::HEADER)
+    put_place(out, packet.sw, packet.pt)?;
+    put_fields(out, packet, &Field::HEADER)
 }
 
 // Puts fields with their numbers at the end, each behind a blank.
-fn put_fields(
-    alloc: Global,
-    out: &mut String,
-    packet: &Packet,
-    fields: &[Field],
-) -> Result<(), AllocError>
+fn put_fields(out: &mut String, packet: &Packet, fields: &[Field]) -> Result<(), AllocError>
     ensures { OnOk result (string_bytes out.new ≡ string_bytes out.old ++ fields_text packet.now fields.now) }
 {
     for field in fields {
         out.push_str(" ")?;
-        put_field(alloc, out, *field, packet.get(*field))?;
+        put_field(out, *field, packet.get(*field))?;
     }
     Ok(())
 }
