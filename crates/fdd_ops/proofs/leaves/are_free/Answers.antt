@@ -1,7 +1,7 @@
 use Rattle.std.proofs.Common.{◌≡◌, List, [], ◌∷◌, ◌++◌, take, refl, sym, subst, ap, ◌∙◌}
 use Rattle.std.proofs.lemmas.List.{take_more}
 use Rattle.nk_values.specs.declared.lit.Lit.{Lit}
-use Rattle.fdd_nodes.specs.Copies.{IsCopy, strip}
+use Rattle.fdd_nodes.specs.Copies.{strip}
 use Rattle.fdd_ops.specs.Unions.{AreFree}
 use Rattle.fdd_ops.proofs.UnionLaws.{free_more}
 use Rattle.fdd_ops.proofs.leaves.are_free.Goals as goal
