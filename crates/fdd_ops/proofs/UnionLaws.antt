@@ -73,6 +73,13 @@ adds_both cell xs ys a b h k = record {
   ];
 }
 
+pub adds_second : (cell : Packet) (ys b : List (List Lit)) → Adds cell ys [] b → AddsBoth cell [] ys b
+adds_second cell ys b h = record {
+  left = λ x m. absurd m;
+  right = λ x m. h.has x m;
+  only = λ x m. elim (h.only x m) [ inl o ↦ absurd o | inr o ↦ (o.0, inr o.1, o.2) ];
+}
+
 union_via : (a a' b b' r r' : Tree) (p : Packet) → leaf_at a p ≡ leaf_at a' p → leaf_at b p ≡ leaf_at b' p → SameAnswers (answers r p) (answers r' p) → IsUnion (answers a' p) (answers b' p) (answers r' p) → IsUnion (answers a p) (answers b p) (answers r p)
 union_via a a' b b' r r' p ea eb s u =
     subst (λ (x : List (List Lit)). IsUnion (outcomes x p) (answers b p) (answers r p)) (sym ea)

@@ -47,6 +47,9 @@ fn is_free(lits: &[Lit], cell: &Cell) -> bool
 pub(crate) fn joined(alloc: Global, cell: &Cell, a: &Leaf, b: &Leaf) -> Result<Leaf, AllocError>
     ensures { IfOk result (λ r. AddsBoth cell.now a.now b.now r) }
 {
+    if a.copies().is_empty() {
+        return settled(alloc, cell, b);
+    }
     let mut all = settled(alloc, cell, a)?;
     add_stripped(alloc, &mut all, cell, b.copies())?;
     Ok(all)
