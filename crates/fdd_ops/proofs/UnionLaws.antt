@@ -73,6 +73,13 @@ adds_both cell xs ys a b h k = record {
   ];
 }
 
+pub adds_first : (cell : Packet) (xs a : List (List Lit)) → Adds cell xs [] a → AddsBoth cell xs [] a
+adds_first cell xs a h = record {
+  left = λ x m. h.has x m;
+  right = λ x m. absurd m;
+  only = λ x m. elim (h.only x m) [ inl o ↦ absurd o | inr o ↦ (o.0, inl o.1, o.2) ];
+}
+
 pub adds_second : (cell : Packet) (ys b : List (List Lit)) → Adds cell ys [] b → AddsBoth cell [] ys b
 adds_second cell ys b h = record {
   left = λ x m. absurd m;

@@ -50,7 +50,11 @@ pub(crate) fn joined(alloc: Global, cell: &Cell, a: &Leaf, b: &Leaf) -> Result<L
     if a.copies().is_empty() {
         return settled(alloc, cell, b);
     }
-    let mut all = settled(alloc, cell, a)?;
+    if b.copies().is_empty() {
+        return settled(alloc, cell, a);
+    }
+    let mut all = Leaf::empty(alloc);
+    add_stripped(alloc, &mut all, cell, a.copies())?;
     add_stripped(alloc, &mut all, cell, b.copies())?;
     Ok(all)
 }
