@@ -195,6 +195,51 @@ sequence_pair parts x y r h ex ey small u =
     let n = (subst AreSmall e small).normal in
     subst (λ (ts : List Tree). SequenceOfAll ts r) (sym e) (sequence_both (tree_of x ∷ []) (tree_of y ∷ []) (tree_of x) (tree_of y) r (sequence_one (tree_of x) n.0) (sequence_one (tree_of y) n.1.0) u)
 
+-- three diagrams, the last two first
+
+triple_parts : (parts : List Fdd) (x y z : Fdd) → length parts ≡ 3 → x ≡ get_or parts 0 x → y ≡ get_or parts 1 y → z ≡ get_or parts 2 z → map tree_of parts ≡ tree_of x ∷ tree_of y ∷ tree_of z ∷ []
+triple_parts [] x y z h ex ey ez = absurd (omega (arith, h))
+triple_parts (a ∷ []) x y z h ex ey ez = absurd (omega (arith, h))
+triple_parts (a ∷ b ∷ []) x y z h ex ey ez = absurd (omega (arith, h))
+triple_parts (a ∷ b ∷ c ∷ []) x y z h ex ey ez = let e : x ≡ a = ex in let f : y ≡ b = ey in let g : z ≡ c = ez in cc
+triple_parts (a ∷ b ∷ c ∷ d ∷ cs) x y z h ex ey ez = absurd (omega (arith, h))
+
+pub triple_small : (parts : List Fdd) (x y z : Fdd) → length parts ≡ 3 → x ≡ get_or parts 0 x → y ≡ get_or parts 1 y → z ≡ get_or parts 2 z → AreSmall (map tree_of parts) → AreSmall (tree_of x ∷ tree_of y ∷ tree_of z ∷ [])
+triple_small parts x y z h ex ey ez small = subst AreSmall (triple_parts parts x y z h ex ey ez) small
+
+pub few_behind : (x y z : Tree) → AreSmall (x ∷ y ∷ z ∷ []) → AreFew y z
+few_behind x y z small = few_of_parts (y ∷ []) (z ∷ []) y z (small_right (x ∷ []) (y ∷ z ∷ []) small) (λ m k. inl k) (λ m k. inl k) (λ m k. inl k) (λ m k. inl k)
+
+union_behind : (x y z b : Tree) → AreSmall (x ∷ y ∷ z ∷ []) → UnionOf y z b → UnionOfAll (y ∷ z ∷ []) b
+union_behind x y z b small u = union_both (y ∷ []) (z ∷ []) y z b (union_one y small.normal.1.0) (union_one z small.normal.1.1.0) u
+
+pub union_few : (x y z b : Tree) → AreSmall (x ∷ y ∷ z ∷ []) → UnionOf y z b → AreFew x b
+union_few x y z b small u =
+    let all = union_behind x y z b small u in
+    few_of_parts (x ∷ []) (y ∷ z ∷ []) x b small (λ m k. inl k) (λ m k. inl k) all.tests all.assigns
+
+pub union_triple : (parts : List Fdd) (x y z : Fdd) (b r : Tree) → length parts ≡ 3 → x ≡ get_or parts 0 x → y ≡ get_or parts 1 y → z ≡ get_or parts 2 z → AreSmall (map tree_of parts) → UnionOf (tree_of y) (tree_of z) b → UnionOf (tree_of x) b r → UnionOfAll (map tree_of parts) r
+union_triple parts x y z b r h ex ey ez small u v =
+    let e = triple_parts parts x y z h ex ey ez in
+    let s = subst AreSmall e small in
+    subst (λ (ts : List Tree). UnionOfAll ts r) (sym e)
+    (union_both (tree_of x ∷ []) (tree_of y ∷ tree_of z ∷ []) (tree_of x) b r (union_one (tree_of x) s.normal.0) (union_behind (tree_of x) (tree_of y) (tree_of z) b s u) v)
+
+sequence_behind : (x y z b : Tree) → AreSmall (x ∷ y ∷ z ∷ []) → SequenceOf y z b → SequenceOfAll (y ∷ z ∷ []) b
+sequence_behind x y z b small u = sequence_both (y ∷ []) (z ∷ []) y z b (sequence_one y small.normal.1.0) (sequence_one z small.normal.1.1.0) u
+
+pub sequence_few : (x y z b : Tree) → AreSmall (x ∷ y ∷ z ∷ []) → SequenceOf y z b → AreFew x b
+sequence_few x y z b small u =
+    let all = sequence_behind x y z b small u in
+    few_of_parts (x ∷ []) (y ∷ z ∷ []) x b small (λ m k. inl k) (λ m k. inl k) all.tests all.assigns
+
+pub sequence_triple : (parts : List Fdd) (x y z : Fdd) (b r : Tree) → length parts ≡ 3 → x ≡ get_or parts 0 x → y ≡ get_or parts 1 y → z ≡ get_or parts 2 z → AreSmall (map tree_of parts) → SequenceOf (tree_of y) (tree_of z) b → SequenceOf (tree_of x) b r → SequenceOfAll (map tree_of parts) r
+sequence_triple parts x y z b r h ex ey ez small u v =
+    let e = triple_parts parts x y z h ex ey ez in
+    let s = subst AreSmall e small in
+    subst (λ (ts : List Tree). SequenceOfAll ts r) (sym e)
+    (sequence_both (tree_of x ∷ []) (tree_of y ∷ tree_of z ∷ []) (tree_of x) b r (sequence_one (tree_of x) s.normal.0) (sequence_behind (tree_of x) (tree_of y) (tree_of z) b s u) v)
+
 -- a list of diagrams in two parts, under names of their own
 pub cut : (parts front back : List Fdd) (n : ℕ) → front ≡ take n parts → back ≡ drop n parts → map tree_of front ++ map tree_of back ≡ map tree_of parts
 cut parts front back n ef eb =

@@ -48,7 +48,7 @@ fn builds(alloc: Global, pols: &Pols) -> Result<Vec<Fdd>, StarError>
     requires few { AreFewNamed (TermsName (terms_of pols.now)) }
     ensures { MatchResult result (λ rs. BuiltAll (map term_of pols.now.items.items) (terms_of pols.now) (map tree_of rs.items)) (λ e. TellsDeepOf (terms_of pols.now) e) }
 {
-    let mut all = Vec::new(alloc);
+    let mut all = Vec::with_capacity(alloc, pols.items.len())?;
     for pol in &pols.items {
         let part = build(alloc, pol)?;
         if let Err(full) = all.push(part) {

@@ -41,7 +41,7 @@ fn filters(alloc: Global, preds: &Preds) -> Result<Vec<Fdd>, AllocError>
     requires { AreFewNamed (GuardsTest (guards_of preds.now)) }
     ensures { IfOk result (λ rs. FiltersOf (map guard_of preds.now.items.items) (map tree_of rs.items)) }
 {
-    let mut all = Vec::new(alloc);
+    let mut all = Vec::with_capacity(alloc, preds.items.len())?;
     for pred in &preds.items {
         all.push(filter(alloc, pred)?)?;
     }

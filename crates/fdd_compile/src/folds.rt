@@ -16,6 +16,10 @@ pub fn union_of_all(alloc: Global, parts: &[Fdd]) -> Result<Fdd, AllocError>
         [] => Ok(zero(alloc)),
         [part] => part.copy(alloc),
         [first, second] => union(alloc, first, second),
+        [first, second, third] => {
+            let back = union(alloc, second, third)?;
+            union(alloc, first, &back)
+        }
         _ => {
             let (front, back) = parts.split_at(parts.len() / 2);
             let left = union_of_all(alloc, front)?;
@@ -34,6 +38,10 @@ pub fn sequence_of_all(alloc: Global, parts: &[Fdd]) -> Result<Fdd, AllocError>
         [] => one(alloc),
         [part] => part.copy(alloc),
         [first, second] => sequence(alloc, first, second),
+        [first, second, third] => {
+            let back = sequence(alloc, second, third)?;
+            sequence(alloc, first, &back)
+        }
         _ => {
             let (front, back) = parts.split_at(parts.len() / 2);
             let left = sequence_of_all(alloc, front)?;

@@ -205,7 +205,7 @@ follows_none c cs ds h =
     let p = pushed c (Leaf cs) (Leaf ds) (settles_leaf c cs ds h) in
     record { image = p.image; fixed = p.sound.respects; assigns = p.sound.assigns }
 
-pub none_of_length : (x : List Lit) → length x ≡ 0 → x ≡ []
+pub none_of_length : {X : Type 0} (x : List X) → length x ≡ 0 → x ≡ []
 none_of_length [] h = refl
 none_of_length (l ∷ x) h = absurd (omega (arith, h))
 

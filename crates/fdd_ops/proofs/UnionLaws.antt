@@ -1,5 +1,5 @@
 -- Unions.
-use Rattle.std.proofs.Common.{◌≡◌, ◌⊎◌, inl, inr, refl, ap, sym, ◌∙◌, subst, arith, List, [], ◌∷◌, ◌++◌}
+use Rattle.std.proofs.Common.{◌≡◌, ◌⊎◌, inl, inr, refl, ap, sym, ◌∙◌, subst, arith, cond, List, [], ◌∷◌, ◌++◌}
 use Rattle.std.proofs.lemmas.Bool.Decides.{eqb_tells}
 use Rattle.nk_values.specs.declared.packet.Packet.{Packet}
 use Rattle.nk_values.specs.declared.lit.Lit.{Lit}
@@ -15,7 +15,7 @@ use Rattle.fdd_nodes.specs.Cells.{IsOpen}
 use Rattle.fdd_nodes.specs.Known.{Bars}
 use Rattle.fdd_ops.specs.Builds.{NodeOf, Sound}
 use Rattle.fdd_ops.specs.Skips.{Skips}
-use Rattle.fdd_ops.specs.Unions.{IsUnion, Joins, Adds, AddsBoth}
+use Rattle.fdd_ops.specs.Unions.{IsUnion, Joins, Adds, AddsBoth, AreFree}
 use Rattle.fdd_nodes.proofs.MakesLaws.{source, outcome, among_lists}
 use Rattle.fdd_nodes.proofs.SplitLaws.{Splits, ordered_weaken, first_from, first_tested}
 use Rattle.fdd_nodes.proofs.CellLaws.{holds_fixed, agrees_with}
@@ -42,6 +42,27 @@ adds_more cell cs c a b d w h k = record {
   ];
 }
 
+-- what a cell fixes nothing of stays as it is
+
+pub strip_keeps : (cell : Packet) (l : Lit) (x : List Lit) → ¬ Holds cell l → strip cell x ≡ x → strip cell (l ∷ x) ≡ l ∷ x
+strip_keeps cell l x n e = elim (eqb_tells (get cell (lit_field l)) (lit_value l)) [
+  | inl y ↦ absurd (n y.1)
+  | inr d ↦ ap (λ b. cond b (strip cell x) (l ∷ strip cell x)) d.0 ∙ ap (λ (z : List Lit). l ∷ z) e
+]
+
+pub free_more : (cell : Packet) (cs : List (List Lit)) (c : List Lit) → IsCopy c → strip cell c ≡ c → AreFree cell cs → AreFree cell (cs ++ c ∷ [])
+free_more cell cs c w e h x m = elim (in-either cs (c ∷ []) x m) [
+  | inl n ↦ h x n
+  | inr n ↦ subst (λ (y : List Lit). IsCopy y × (strip cell y ≡ y)) (one c x n) (w, e)
+]
+
+pub free_adds : (cell : Packet) (cs : List (List Lit)) → AreFree cell cs → Adds cell cs [] cs
+free_adds cell cs h = record {
+  kept = λ x m. absurd m;
+  has = λ x m. let t = h x m in (t.0, subst (λ (y : List Lit). IsIn cs y) (sym t.1) m);
+  only = λ x m. inr (x, m, (h x m).1);
+}
+
 pub adds_both : (cell : Packet) (xs ys a b : List (List Lit)) → Adds cell xs [] a → Adds cell ys a b → AddsBoth cell xs ys b
 adds_both cell xs ys a b h k = record {
   left = λ x m. let t = h.has x m in (t.0, k.kept _ t.1);
@@ -50,6 +71,20 @@ adds_both cell xs ys a b h k = record {
     | inl n ↦ elim (h.only x n) [ inl o ↦ absurd o | inr o ↦ (o.0, inl o.1, o.2) ]
     | inr o ↦ (o.0, inr o.1, o.2)
   ];
+}
+
+pub adds_first : (cell : Packet) (xs a : List (List Lit)) → Adds cell xs [] a → AddsBoth cell xs [] a
+adds_first cell xs a h = record {
+  left = λ x m. h.has x m;
+  right = λ x m. absurd m;
+  only = λ x m. elim (h.only x m) [ inl o ↦ absurd o | inr o ↦ (o.0, inl o.1, o.2) ];
+}
+
+pub adds_second : (cell : Packet) (ys b : List (List Lit)) → Adds cell ys [] b → AddsBoth cell [] ys b
+adds_second cell ys b h = record {
+  left = λ x m. absurd m;
+  right = λ x m. h.has x m;
+  only = λ x m. elim (h.only x m) [ inl o ↦ absurd o | inr o ↦ (o.0, inr o.1, o.2) ];
 }
 
 union_via : (a a' b b' r r' : Tree) (p : Packet) → leaf_at a p ≡ leaf_at a' p → leaf_at b p ≡ leaf_at b' p → SameAnswers (answers r p) (answers r' p) → IsUnion (answers a' p) (answers b' p) (answers r' p) → IsUnion (answers a p) (answers b p) (answers r p)

@@ -32,6 +32,10 @@ pub record Adds (c : Packet) (cs old new : List (List Lit)) : Type 0 where
   pub has : (x : List Lit) → IsIn cs x → IsCopy x × IsIn new (strip c x)
   pub only : (x : List Lit) → IsIn new x → IsIn old x ⊎ ((y : List Lit) × IsIn cs y × (strip c y ≡ x))
 
+-- the cell fixes nothing of the copies
+abbrev pub AreFree : Packet → List (List Lit) → Type 0
+AreFree c cs = (x : List Lit) → IsIn cs x → IsCopy x × (strip c x ≡ x)
+
 -- ds has the copies of both, stripped, and no others
 pub record AddsBoth (c : Packet) (xs ys ds : List (List Lit)) : Type 0 where
   pub left : (x : List Lit) → IsIn xs x → IsCopy x × IsIn ds (strip c x)

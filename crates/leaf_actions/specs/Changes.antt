@@ -12,6 +12,10 @@ use Rattle.leaf_actions.specs.Settable.{settable}
 abbrev pub changes : Packet → List Lit → Field → Bool
 changes x c f = is_open x f && not (is_open (apply c x) f)
 
+-- the cell x leaves the field open, and the cell y fixes it
+abbrev pub fixes : Packet → Packet → Field → Bool
+fixes x y f = is_open x f && not (is_open y f)
+
 abbrev pub bit : Bool → ℕ
 bit true = 1
 bit false = 0

@@ -1,6 +1,6 @@
 // The header fields that copies set and their path does not fix.
 ghost use Rattle.std.specs.Prelude.{◌≡◌, ◌<◌, ◌^◌, length};
-ghost use Rattle.leaf_actions.specs.Changes.{changes, count_of, change_count, goes_beyond, first_of_fields, first_beyond};
+ghost use Rattle.leaf_actions.specs.Changes.{changes, fixes, count_of, change_count, goes_beyond, first_of_fields, first_beyond};
 
 use fdd_nodes::{Assignments, Cell};
 use nk_values::Field;
@@ -19,23 +19,30 @@ pub(crate) const SETTABLE: [Field; 6] = [
 fn changes(cell: &Cell, copy: &Assignments, f: Field) -> bool
     ensures { result ≡ changes cell.now copy.now f }
 {
-    cell.is_open(f) && !cell.after(copy).is_open(f)
+    fixes(cell, &cell.after(copy), f)
+}
+
+// Whether a field is open in a cell, and fixed in a later one.
+fn fixes(cell: &Cell, later: &Cell, f: Field) -> bool
+    ensures { result ≡ fixes cell.now later.now f }
+{
+    cell.is_open(f) && !later.is_open(f)
 }
 
 // How many header fields are open in a cell and set by a copy.
 pub(crate) fn change_count(cell: &Cell, copy: &Assignments) -> u64
     ensures { result ≡ change_count cell.now copy.now }
 {
-    count_in(cell, copy, &SETTABLE)
+    count_in(cell, &cell.after(copy), &SETTABLE)
 }
 
-fn count_in(cell: &Cell, copy: &Assignments, fields: &[Field]) -> u64
+fn count_in(cell: &Cell, later: &Cell, fields: &[Field]) -> u64
     requires { length fields.now < 2 ^ 32 }
-    ensures { result ≡ count_of (changes cell.now copy.now) fields.now }
+    ensures { result ≡ count_of (fixes cell.now later.now) fields.now }
 {
     let mut count = 0;
     for f in fields {
-        if changes(cell, copy, *f) {
+        if fixes(cell, later, *f) {
             count += 1;
         }
     }

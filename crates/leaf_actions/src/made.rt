@@ -86,7 +86,8 @@ fn listed(
     requires valid { IsValid cell.now }
     ensures { IfOk result (λ as'. as' ≡ listed view.now cell.now cell.now view.now.kind routes.now) }
 {
-    let mut actions = Actions::new(alloc);
+    // room for a tag and an output each
+    let mut actions = Actions::of(Vec::with_capacity(alloc, 2 * routes.len())?);
     let mut known = *cell.generic();
     let mut kind = view.kind;
     for route in routes {

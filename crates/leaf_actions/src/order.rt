@@ -32,7 +32,7 @@ fn routes_of(
 ) -> Result<Vec<Route>, AllocError>
     ensures { IfOk result (λ rs. rs.items ≡ routes_of view.now cell.now copies.now) }
 {
-    let mut routes = Vec::new(alloc);
+    let mut routes = Vec::with_capacity(alloc, copies.len())?;
     for copy in copies {
         if let Some(port) = view.port(out_of(view, copy)) {
             routes.push(Route {

@@ -40,18 +40,14 @@ pub fn report_text(
     ensures { IfOk result (λ t. IsReportText standing.now.switches.now events.now standing.now.phase (option_map (λ c. c.now) standing.now.halt) standing.now.flights.now standing.now.arrivals.now t) }
 {
     let mut out = String::new(alloc);
-    put_events(alloc, &mut out, standing.switches, events)?;
+    put_events(&mut out, standing.switches, events)?;
     put_state(alloc, &mut out, standing.phase, standing.halt)?;
     put_arrivals(alloc, &mut out, standing.arrivals, standing.flights)?;
     Ok(Text::new(out))
 }
 
 /// The report of a world and of the events that led to it.
-pub fn world_report(
-    alloc: Global,
-    world: &World,
-    events: &[Event],
-) -> Result<Text, AllocError>
+pub fn world_report(alloc: Global, world: &World, events: &[Event]) -> Result<Text, AllocError>
     ensures { IfOk result (λ t. IsWorldReport world.now events.now t) }
 {
     let coordinator = world.coordinator();
@@ -93,23 +89,18 @@ fn put_arrival(
     ensures { OnOk result (Adds (HasFate (map string_bytes copies.now) number arrival.now) (string_bytes out.old) (string_bytes out.new)) }
 {
     let done = lines(alloc, "done ", arrival.finished())?;
-    put_head(alloc, out, number, arrival)?;
+    put_head(out, number, arrival)?;
     put_lines(out, &done)?;
     put_lines(out, copies)
 }
 
 // Puts the line of an arrival at the end.
-fn put_head(
-    alloc: Global,
-    out: &mut String,
-    number: u64,
-    arrival: &Arrival,
-) -> Result<(), AllocError>
+fn put_head(out: &mut String, number: u64, arrival: &Arrival) -> Result<(), AllocError>
     ensures { OnOk result (string_bytes out.new ≡ string_bytes out.old ++ line (arrival_text number arrival.now)) }
 {
     let packet = arrival.packet();
     write!(out, "arrival {number} at ")?;
-    put_place(alloc, out, packet.sw, packet.pt)?;
+    put_place(out, packet.sw, packet.pt)?;
     out.push_str(" ")?;
     put_entry(out, arrival.entry())?;
     out.push_str("\n")

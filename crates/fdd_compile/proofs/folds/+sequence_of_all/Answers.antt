@@ -3,7 +3,7 @@ use Rattle.fdd_nodes.specs.Fdds.{tree_of}
 use Rattle.fdd_nodes.specs.Trees.{Tree}
 use Rattle.fdd_nodes.proofs.MakesLaws.{if_ok}
 use Rattle.fdd_compile.specs.Folds.{SequenceOfAll}
-use Rattle.fdd_compile.proofs.FoldLaws.{small_front, small_back, small_cut, shorter, few_of_parts, pair_few, sequence_both, sequence_pair, cut}
+use Rattle.fdd_compile.proofs.FoldLaws.{small_front, small_back, small_cut, shorter, few_of_parts, pair_few, sequence_both, sequence_pair, triple_small, few_behind, sequence_few, sequence_triple, cut}
 use Rattle.fdd_compile.proofs.folds.+sequence_of_all.Goals as goal
 
 pub sequence_of_all-requires : goal.sequence_of_all-requires
@@ -21,6 +21,16 @@ sequence-requires t c = pair_few _ _ _ (omega arith) c.first-item.is c.second-it
 
 pub returns-in-len2 : goal.returns-in-len2
 returns-in-len2 t c = if_ok c.sequence.result _ _ c.sequence.ensures (λ r h. sequence_pair _ _ _ _ (omega arith) c.first-item.is c.second-item.is c.requires h)
+
+pub sequence-requires-in-len3 : goal.sequence-requires-in-len3
+sequence-requires-in-len3 t c = few_behind _ _ _ (triple_small _ _ _ _ (omega arith) c.first-item-then-parts-lt4.is c.second-item-then-parts-lt4.is c.third-item.is c.requires)
+
+pub sequence-requires-in-len3-2 : goal.sequence-requires-in-len3-2
+sequence-requires-in-len3-2 t c = sequence_few _ _ _ _ (triple_small _ _ _ _ (omega arith) c.first-item-then-parts-lt4.is c.second-item-then-parts-lt4.is c.third-item.is c.requires) c.in_ok-back-in-len3.ensures
+
+pub returns-in_ok-back-in-len3 : goal.returns-in_ok-back-in-len3
+returns-in_ok-back-in-len3 t c =
+    if_ok c.sequence-in-len3-2.result _ _ c.sequence-in-len3-2.ensures (λ r h. sequence_triple _ _ _ _ _ _ (omega arith) c.first-item-then-parts-lt4.is c.second-item-then-parts-lt4.is c.third-item.is c.requires c.in_ok-back-in-len3.ensures h)
 
 pub sequence-requires-in_default : goal.sequence-requires-in_default
 sequence-requires-in_default t c =

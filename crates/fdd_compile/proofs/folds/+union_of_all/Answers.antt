@@ -3,7 +3,7 @@ use Rattle.fdd_nodes.specs.Fdds.{tree_of}
 use Rattle.fdd_nodes.specs.Trees.{Tree}
 use Rattle.fdd_nodes.proofs.MakesLaws.{if_ok}
 use Rattle.fdd_compile.specs.Folds.{UnionOfAll}
-use Rattle.fdd_compile.proofs.FoldLaws.{small_front, small_back, small_cut, shorter, few_of_parts, pair_few, union_both, union_pair, cut}
+use Rattle.fdd_compile.proofs.FoldLaws.{small_front, small_back, small_cut, shorter, few_of_parts, pair_few, union_both, union_pair, triple_small, few_behind, union_few, union_triple, cut}
 use Rattle.fdd_compile.proofs.folds.+union_of_all.Goals as goal
 
 pub union_of_all-requires : goal.union_of_all-requires
@@ -21,6 +21,16 @@ union-requires t c = pair_few _ _ _ (omega arith) c.first-item.is c.second-item.
 
 pub returns-in-len2 : goal.returns-in-len2
 returns-in-len2 t c = if_ok c.union.result _ _ c.union.ensures (λ r h. union_pair _ _ _ _ (omega arith) c.first-item.is c.second-item.is c.requires h)
+
+pub union-requires-in-len3 : goal.union-requires-in-len3
+union-requires-in-len3 t c = few_behind _ _ _ (triple_small _ _ _ _ (omega arith) c.first-item-then-parts-lt4.is c.second-item-then-parts-lt4.is c.third-item.is c.requires)
+
+pub union-requires-in-len3-2 : goal.union-requires-in-len3-2
+union-requires-in-len3-2 t c = union_few _ _ _ _ (triple_small _ _ _ _ (omega arith) c.first-item-then-parts-lt4.is c.second-item-then-parts-lt4.is c.third-item.is c.requires) c.in_ok-back-in-len3.ensures
+
+pub returns-in_ok-back-in-len3 : goal.returns-in_ok-back-in-len3
+returns-in_ok-back-in-len3 t c =
+    if_ok c.union-in-len3-2.result _ _ c.union-in-len3-2.ensures (λ r h. union_triple _ _ _ _ _ _ (omega arith) c.first-item-then-parts-lt4.is c.second-item-then-parts-lt4.is c.third-item.is c.requires c.in_ok-back-in-len3.ensures h)
 
 pub union-requires-in_default : goal.union-requires-in_default
 union-requires-in_default t c =
