@@ -1,6 +1,7 @@
 -- What a schedule does is a run of the world.
-use Rattle.std.proofs.Common.{◌≡◌, ◌≢◌, ℕ, suc, ◌+◌, ◌<◌, List, [], ◌∷◌, ◌++◌, length, take, drop, get_or, refl, sym, ◌∙◌, ap, subst, Option, Some, arith}
+use Rattle.std.proofs.Common.{◌≡◌, ◌≢◌, ℕ, zero, suc, ◌+◌, ◌<◌, List, [], ◌∷◌, ◌++◌, length, take, drop, get_or, refl, sym, ◌∙◌, ap, subst, Option, Some, arith}
 use Rattle.std.proofs.lemmas.List.{append_assoc, append-nil}
+use Rattle.topology_model.specs.Layouts.{Layout}
 use Rattle.topology_model.specs.declared.line.Site.{Site}
 use Rattle.document_text.specs.declared.document.Event.{Event as Command}
 use Rattle.document_text.specs.declared.document.Event.TheVariants as command
@@ -9,9 +10,9 @@ use Rattle.document_text.specs.declared.document.ScheduleLine.{ScheduleLine}
 use Rattle.world_core.specs.declared.event.Event.{Event}
 use Rattle.world_core.specs.declared.event.Event.TheVariants as event
 use Rattle.world_core.specs.Worlds.{WorldValue}
-use Rattle.world_core.specs.Steps.{Step, Runs}
+use Rattle.world_core.specs.Steps.{IsEnabled, Step, Runs}
 use Rattle.world_core.specs.Settling.{Followed, settling, flowing}
-use Rattle.controller_program.specs.Schedules.{event_of, DoesOne, Does, CarriedOut}
+use Rattle.controller_program.specs.Schedules.{event_of, DoesOne, Does, CarriedOut, StopsAt}
 
 -- no event changes the topology
 pub step-topology : (w : WorldValue) (e : Event) (v : WorldValue) → Step w e v → v.topology ≡ w.topology
@@ -88,3 +89,39 @@ carried-more sites packets w [] es x l more v c d =
     (more, v, [], subst (λ (z : WorldValue). Does sites packets l.event z more v) (sym c.1) d, (refl, refl), ap (λ (z : List Event). z ++ more) c.0 ∙ sym (append-nil more))
 carried-more sites packets w (k ∷ ls) es x l more v c d =
     (c.0, c.1, c.2 ++ more, c.3, carried-more sites packets c.1 ls c.2 x l more v c.4 d, ap (λ (z : List Event). z ++ more) c.5 ∙ append_assoc c.0 c.2 more)
+
+-- a list about the element at a place
+split-at : {X : Type 0} (xs : List X) (k : ℕ) (d : X) → k < length xs → xs ≡ take k xs ++ get_or xs k d ∷ drop (suc k) xs
+split-at [] k d l = absurd (omega (arith, l))
+split-at (x ∷ xs) zero d l = refl
+split-at {X} (x ∷ xs) (suc k) d l = ap (λ (zs : List X). x ∷ zs) (split-at xs k d (omega (arith, l)))
+
+take-more : {X : Type 0} (xs : List X) (k : ℕ) (d : X) → k < length xs → take (suc k) xs ≡ take k xs ++ get_or xs k d ∷ []
+take-more [] k d l = absurd (omega (arith, l))
+take-more (x ∷ xs) zero d l = refl
+take-more {X} (x ∷ xs) (suc k) d l = ap (λ (zs : List X). x ∷ zs) (take-more xs k d (omega (arith, l)))
+
+-- the line at a place is carried out too
+pub carried-next : (sites : List Site) (packets : List PacketLine) (w : WorldValue) (ls : List ScheduleLine) (k : ℕ) (d : ScheduleLine) (es : List Event) (x : WorldValue) (now : List Event) (v : WorldValue) → k < length ls →
+    CarriedOut sites packets w (take k ls) es x → x.topology ≡ w.topology → sites ≡ w.topology.switches →
+    ((more : List Event) × Does x.topology.switches packets (get_or ls k d).event x more v × (now ≡ es ++ more)) → CarriedOut sites packets w (take (k + 1) ls) now v
+carried-next sites packets w ls k d es x now v l c same of h =
+    let does = subst (λ (ss : List Site). Does ss packets (get_or ls k d).event x h.0 v) (ap (λ (t : Layout). t.switches) same ∙ sym of) h.1 in
+    let next : suc k ≡ k + 1 = omega arith in
+    subst (λ (zs : List ScheduleLine). CarriedOut sites packets w zs now v) (sym (take-more ls k d l) ∙ ap (λ (n : ℕ). take n ls) next)
+    (subst (λ (fs : List Event). CarriedOut sites packets w (take k ls ++ get_or ls k d ∷ []) fs v) (sym h.2) (carried-more sites packets w (take k ls) es x (get_or ls k d) h.0 v c does))
+
+-- or its event cannot happen
+pub stops : (sites : List Site) (packets : List PacketLine) (w : WorldValue) (ls : List ScheduleLine) (k : ℕ) (d : ScheduleLine) (es : List Event) (x : WorldValue) → k < length ls → CarriedOut sites packets w (take k ls) es x →
+    x.topology ≡ w.topology → sites ≡ w.topology.switches → ((e : Event) → event_of x.topology.switches packets (get_or ls k d).event ≡ Some e → ¬ (IsEnabled x e)) → StopsAt sites packets w ls (get_or ls k d).line
+stops sites packets w ls k d es x l c same of h = record {
+  before = take k ls;
+  here = get_or ls k d;
+  behind = drop (suc k) ls;
+  all = split-at ls k d l;
+  number = refl;
+  events = es;
+  world = x;
+  done = c;
+  refused = λ e q. h e (ap (λ (t : Layout). event_of t.switches packets (get_or ls k d).event) same ∙ ap (λ (ss : List Site). event_of ss packets (get_or ls k d).event) (sym of) ∙ q);
+}

@@ -1,15 +1,12 @@
 -- The versions of a document are those that a world starts with.
-use Rattle.std.proofs.Common.{◌≡◌, ◌≢◌, ℕ, zero, suc, ◌+◌, ◌-◌, ◌%◌, ◌<◌, ◌≤◌, ◌⊎◌, inl, inr, List, [], ◌∷◌, length, refl, sym, ◌∙◌, ap, subst, Some, slice_get, arith}
+use Rattle.std.proofs.Common.{◌≡◌, ◌≢◌, ℕ, zero, suc, ◌+◌, ◌-◌, ◌%◌, ◌≤◌, inl, inr, List, [], ◌∷◌, length, refl, sym, ◌∙◌, ap, subst, Some, slice_get, arith}
 use Rattle.std.proofs.Math.Nat.{suc-mod, mod_self, mod-lt, mod-eq_of_lt}
 use Rattle.std.proofs.lemmas.Bool.{cases_lt}
-use Rattle.nk_values.specs.declared.rows.Band.{Band}
 use Rattle.nk_syntax.specs.Terms.{Term}
-use Rattle.nk_syntax.specs.Views.{term_of}
 use Rattle.topology_model.specs.Layouts.{Layout}
 use Rattle.document_text.specs.declared.document.Settings.{Settings}
 use Rattle.policy_rows.specs.declared.version.Version.{Version}
 use Rattle.policy_rows.specs.Means.{RowsMean}
-use Rattle.policy_rows.specs.Numbers.{stamp_at, band_at}
 use Rattle.update_laws.specs.Settings as settings
 use Rattle.controller_program.specs.Sound.{AreStamps}
 use Rattle.controller_program.specs.Versions.{IsVersion, AreVersions, stamp_in}
@@ -19,7 +16,7 @@ apart : (k m : ℕ) → 2 ≤ m → k % m ≢ suc k % m
 apart k m two e = elim (cases_lt (suc (k % m)) m) [
   | inl l ↦ let a = suc-mod k m in let b = mod-eq_of_lt l in omega (arith, e, a, b)
   | inr g ↦
-      let r = mod-lt k {m} (omega (arith, two)) in
+      let r = mod-lt k {m = m} (omega (arith, two)) in
       let full : suc (k % m) ≡ m = omega (arith, r, g) in
       let none : suc k % m ≡ 0 = suc-mod k m ∙ ap (λ (n : ℕ). n % m) full ∙ mod_self m in
       omega (arith, e, none, full, two)

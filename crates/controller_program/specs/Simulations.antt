@@ -1,5 +1,7 @@
 -- Simulations: a schedule in the world of a document's policies.
-use Rattle.std.specs.Prelude.{◌≡◌, ◌≢◌, ℕ, Bool, List, is_some}
+use Rattle.std.specs.Prelude.{◌≡◌, ℕ, Bool, List, is_some}
+use Rattle.document_text.specs.declared.document.PacketLine.{PacketLine}
+use Rattle.document_text.specs.declared.document.ScheduleLine.{ScheduleLine}
 use Rattle.document_text.specs.Documents.{Doc}
 use Rattle.policy_rows.specs.declared.version.Version.{Version}
 use Rattle.world_core.specs.declared.event.Event.{Event}
@@ -12,6 +14,14 @@ use Rattle.controller_program.specs.Schedules.{CarriedOut, StopsAt}
 -- the world of these versions in the document's topology, before anything has happened
 abbrev pub start_of : Doc → List Version → WorldValue
 start_of d versions = start d.layout versions d.settings.hops d.settings.capacity
+
+-- The lines are carried out from a world on, and the text is the report of their events and of the world then; `halts` says whether the updates stand still then.
+pub record HasReport (halts : Bool) (packets : List PacketLine) (w : WorldValue) (schedule : List ScheduleLine) (text : List ℕ) : Type 0 where
+  pub events : List Event
+  pub world : WorldValue
+  pub done : CarriedOut w.topology.switches packets w schedule events world
+  pub ends : is_some world.fleet.control.halt ≡ halts
+  pub text_is : IsWorldReport world events text
 
 -- The whole schedule is carried out, and the text is the report of its events and of the world then, in which each packet that came in is handled by one policy; `halts` says whether the updates stand still then.
 pub record IsSimulationOf (halts : Bool) (d : Doc) (versions : List Version) (text : List ℕ) : Type 0 where

@@ -3,12 +3,12 @@ ghost use Rattle.std.specs.Prelude.{IfOk, IfErr};
 ghost use Rattle.document_text.specs.Answers.{doc_of};
 ghost use Rattle.controller_program.specs.Sound.{IsSound};
 ghost use Rattle.controller_program.specs.Versions.{AreVersions};
-ghost use Rattle.controller_program.specs.Views.{policies_of, IsSimulatedAs, TellsStopIn};
+ghost use Rattle.controller_program.specs.Views.{policies_of, IsReported, IsSimulatedAs, TellsStop, TellsStopIn};
 
 use crate::answer::Ending;
 use crate::schedule::carry_out;
 use crate::versions::PolicyError;
-use document_text::Document;
+use document_text::{Document, PacketLine, ScheduleLine};
 use policy_rows::Version;
 use report_text::world_report;
 use std::alloc::Global;
@@ -34,8 +34,21 @@ pub fn simulate(
     } = document;
     let hops = u64::from(settings.hops);
     let mut world = World::start(alloc, versions, topology, hops, settings.capacity as usize)?;
-    let events = carry_out(alloc, &mut world, &packets, &schedule)?;
-    let text = world_report(alloc, &world, &events)?;
+    report(alloc, &mut world, &packets, &schedule)
+}
+
+// Carries out lines in a world, and reports them.
+fn report(
+    alloc: Global,
+    world: &mut World,
+    packets: &[PacketLine],
+    schedule: &[ScheduleLine],
+) -> Result<Ending, PolicyError>
+    ensures ending { IfOk result (IsReported packets.now world.old schedule.now) }
+    ensures stop { IfErr result (TellsStop world.old.topology.switches packets.now world.old schedule.now) }
+{
+    let events = carry_out(alloc, world, packets, schedule)?;
+    let text = world_report(alloc, world, &events)?;
     if world.coordinator().halt().is_some() {
         Ok(Ending::Halted(text))
     } else {

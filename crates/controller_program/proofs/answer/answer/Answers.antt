@@ -1,8 +1,8 @@
-use Rattle.controller_program.proofs.Wrote.{output_of, refusal_told, refusal_taken, refusal_counted}
+use Rattle.controller_program.proofs.Wrote.{ending_told, refusal_told, refusal_taken, refusal_counted}
 use Rattle.controller_program.proofs.answer.answer.Goals as goal
 
 pub returns-in-Ok-output-clause-tells : goal.returns-in-Ok-output-clause-tells
-returns-in-Ok-output-clause-tells g c = output_of _ _ c.in-Ok.document _ c.in-Ok.ensures.document c.in-Ok-output.ensures.text
+returns-in-Ok-output-clause-tells g c = ending_told _ _ c.in-Ok.document _ c.in-Ok.ensures.document c.in-Ok-output.ensures.ending
 
 pub returns-in-Err-Fault-output-clause-tells : goal.returns-in-Err-Fault-output-clause-tells
 returns-in-Err-Fault-output-clause-tells g c =

@@ -1,4 +1,4 @@
-use Rattle.std.proofs.Common.{◌≡◌, List, [], ◌∷◌, ◌++◌, refl, sym, ◌∙◌, ap, subst}
+use Rattle.std.proofs.Common.{List, [], ◌∷◌, ◌++◌, refl, sym, ◌∙◌, ap}
 use Rattle.topology_model.specs.Layouts.{Layout}
 use Rattle.controller_program.specs.Schedules.{event_of}
 use Rattle.world_core.specs.declared.event.Event.{Event}
