@@ -11,3 +11,5 @@ mod reports;
 mod rules;
 #[cfg(test)]
 mod traces;
+#[cfg(test)]
+mod worlds;

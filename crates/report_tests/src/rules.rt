@@ -29,7 +29,11 @@ fn lines(alloc: Global, switches: u16, links: &[(End, End)]) -> Result<Vec<TopoL
     Ok(lines)
 }
 
-fn topology(rt: &impl Abort, alloc: Global, switches: u16) -> Result<Topology, TopoError> {
+pub(crate) fn topology(
+    rt: &impl Abort,
+    alloc: Global,
+    switches: u16,
+) -> Result<Topology, TopoError> {
     let lines = lines(alloc, switches, &[])?;
     assert!(rt; lines.iter().all(|line| line.is_in_range()));
     Topology::build(alloc, &lines)
