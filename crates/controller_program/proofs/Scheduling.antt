@@ -12,7 +12,7 @@ use Rattle.world_core.specs.declared.event.Event.TheVariants as event
 use Rattle.world_core.specs.Worlds.{WorldValue}
 use Rattle.world_core.specs.Steps.{IsEnabled, Step, Runs}
 use Rattle.world_core.specs.Settling.{Followed, settling, flowing}
-use Rattle.controller_program.specs.Schedules.{event_of, DoesOne, Does, CarriedOut, StopsAt}
+use Rattle.controller_program.specs.Schedules.{event_of, CannotHappen, DoesOne, Does, CarriedOut, StopsAt}
 
 -- no event changes the topology
 pub step-topology : (w : WorldValue) (e : Event) (v : WorldValue) → Step w e v → v.topology ≡ w.topology
@@ -82,6 +82,22 @@ does-one sites packets (command.Drained stamp) w es v a b d = d
 does-one sites packets (command.Lost sw) w es v a b d = d
 does-one sites packets (command.Stuck k) w es v a b d = d
 
+-- and cannot happen where its event cannot
+pub cannot-one : (sites : List Site) (packets : List PacketLine) (c : Command) (w : WorldValue) → c ≢ command.Settle → c ≢ command.Flow → ((e : Event) → event_of sites packets c ≡ Some e → ¬ (IsEnabled w e)) → CannotHappen sites packets c w
+cannot-one sites packets command.Settle w a b h = absurd (a refl)
+cannot-one sites packets command.Flow w a b h = absurd (b refl)
+cannot-one sites packets command.Begin w a b h = h
+cannot-one sites packets (command.Send sw) w a b h = h
+cannot-one sites packets (command.Take sw) w a b h = h
+cannot-one sites packets (command.Apply sw k) w a b h = h
+cannot-one sites packets (command.Reply sw) w a b h = h
+cannot-one sites packets (command.Heard sw) w a b h = h
+cannot-one sites packets (command.Arrive n) w a b h = h
+cannot-one sites packets (command.Hop k) w a b h = h
+cannot-one sites packets (command.Drained stamp) w a b h = h
+cannot-one sites packets (command.Lost sw) w a b h = h
+cannot-one sites packets (command.Stuck k) w a b h = h
+
 -- one line more is carried out
 pub carried-more : (sites : List Site) (packets : List PacketLine) (w : WorldValue) (ls : List ScheduleLine) (es : List Event) (x : WorldValue) (l : ScheduleLine) (more : List Event) (v : WorldValue) →
     CarriedOut sites packets w ls es x → Does sites packets l.event x more v → CarriedOut sites packets w (ls ++ l ∷ []) (es ++ more) v
@@ -113,7 +129,7 @@ carried-next sites packets w ls k d es x now v l c same of h =
 
 -- or its event cannot happen
 pub stops : (sites : List Site) (packets : List PacketLine) (w : WorldValue) (ls : List ScheduleLine) (k : ℕ) (d : ScheduleLine) (es : List Event) (x : WorldValue) → k < length ls → CarriedOut sites packets w (take k ls) es x →
-    x.topology ≡ w.topology → sites ≡ w.topology.switches → ((e : Event) → event_of x.topology.switches packets (get_or ls k d).event ≡ Some e → ¬ (IsEnabled x e)) → StopsAt sites packets w ls (get_or ls k d).line
+    x.topology ≡ w.topology → sites ≡ w.topology.switches → CannotHappen x.topology.switches packets (get_or ls k d).event x → StopsAt sites packets w ls (get_or ls k d).line
 stops sites packets w ls k d es x l c same of h = record {
   before = take k ls;
   here = get_or ls k d;
@@ -123,5 +139,5 @@ stops sites packets w ls k d es x l c same of h = record {
   events = es;
   world = x;
   done = c;
-  refused = λ e q. h e (ap (λ (t : Layout). event_of t.switches packets (get_or ls k d).event) same ∙ ap (λ (ss : List Site). event_of ss packets (get_or ls k d).event) (sym of) ∙ q);
+  refused = subst (λ (ss : List Site). CannotHappen ss packets (get_or ls k d).event x) (ap (λ (t : Layout). t.switches) same ∙ sym of) h;
 }

@@ -51,6 +51,12 @@ CarriedOut sites packets w [] events v = (events ≡ []) × (w ≡ v)
 CarriedOut sites packets w (l ∷ ls) events v =
     (first : List Event) × (x : WorldValue) × (more : List Event) × Does sites packets l.event w first x × CarriedOut sites packets x ls more v × (events ≡ first ++ more)
 
+-- The event that a command names cannot happen; `settle` and `flow` always can.
+abbrev pub CannotHappen : List Site → List PacketLine → Command → WorldValue → Type 0
+CannotHappen sites packets command.Settle w = ⊥
+CannotHappen sites packets command.Flow w = ⊥
+CannotHappen sites packets c w = (e : Event) → event_of sites packets c ≡ Some e → ¬ (IsEnabled w e)
+
 -- The lines before the one with this number are carried out, and its event cannot happen then.
 pub record StopsAt (sites : List Site) (packets : List PacketLine) (w : WorldValue) (schedule : List ScheduleLine) (line : ℕ) : Type 0 where
   pub before : List ScheduleLine
@@ -61,4 +67,4 @@ pub record StopsAt (sites : List Site) (packets : List PacketLine) (w : WorldVal
   pub events : List Event
   pub world : WorldValue
   pub done : CarriedOut sites packets w before events world
-  pub refused : (e : Event) → event_of sites packets here.event ≡ Some e → ¬ (IsEnabled world e)
+  pub refused : CannotHappen sites packets here.event world

@@ -7,7 +7,7 @@ use Rattle.policy_rows.specs.declared.version.Version.{Version}
 use Rattle.world_core.specs.declared.event.Event.{Event}
 use Rattle.world_core.specs.Laws.{AreGood}
 use Rattle.world_core.specs.Steps.{Runs}
-use Rattle.world_core.specs.Worlds.{WorldValue, start}
+use Rattle.world_core.specs.Worlds.{WorldValue, start, IsKept}
 use Rattle.report_text.specs.Reports.{IsWorldReport}
 use Rattle.controller_program.specs.Schedules.{CarriedOut, StopsAt}
 
@@ -36,3 +36,17 @@ pub record IsSimulationOf (halts : Bool) (d : Doc) (versions : List Version) (te
 -- the first line of the schedule whose event cannot happen
 abbrev pub StopsIn : Doc → List Version → ℕ → Type 0
 StopsIn d versions line = StopsAt d.layout.switches d.packets (start_of d versions) d.schedule line
+
+-- ---- what a schedule comes to is decided by the document and the rows of its policies
+
+-- It has one report, and one way to end.
+abbrev pub OneReport : Type 0
+OneReport = (d : Doc) (versions : List Version) (halts stands : Bool) (text other : List ℕ) → IsKept (start_of d versions) → IsSimulationOf halts d versions text → IsSimulationOf stands d versions other → (halts ≡ stands) × (text ≡ other)
+
+-- It stops at one line.
+abbrev pub OneStop : Type 0
+OneStop = (d : Doc) (versions : List Version) (line other : ℕ) → IsKept (start_of d versions) → StopsIn d versions line → StopsIn d versions other → line ≡ other
+
+-- And where it stops it has no report.
+abbrev pub NotBoth : Type 0
+NotBoth = (d : Doc) (versions : List Version) (halts : Bool) (text : List ℕ) (line : ℕ) → IsKept (start_of d versions) → IsSimulationOf halts d versions text → StopsIn d versions line → ⊥

@@ -1,9 +1,8 @@
 // Schedules, carried out in a world.
-ghost use Rattle.std.specs.Prelude.{◌≡◌, ◌++◌, List, Err, Some, IfOk, IfErr, OnOk};
-ghost use Rattle.world_core.specs.Steps.{IsEnabled};
+ghost use Rattle.std.specs.Prelude.{◌≡◌, ◌++◌, List, Err, IfOk, IfErr, OnOk};
 ghost use Rattle.world_core.specs.declared.event.Event.{Event as EventValue};
 ghost use Rattle.world_core.specs.declared.fault.StepFault.TheVariants as faults;
-ghost use Rattle.controller_program.specs.Schedules.{event_of, Does, CarriedOut};
+ghost use Rattle.controller_program.specs.Schedules.{event_of, CannotHappen, CarriedOut, Does};
 ghost use Rattle.controller_program.specs.Views.{TellsStop};
 
 use crate::versions::PolicyError;
@@ -47,7 +46,7 @@ fn carry(
 ) -> Result<(), StepFault>
     ensures done { OnOk result ((more : List EventValue) × Does world.old.topology.switches packets.now command world.old more world.new × (events.new.items ≡ events.old.items ++ more)) }
     ensures topology { OnOk result (world.new.topology ≡ world.old.topology) }
-    ensures refused { result ≡ Err faults.NotEnabled → (e : EventValue) → event_of world.old.topology.switches packets.now command ≡ Some e → ¬ IsEnabled world.old e }
+    ensures refused { result ≡ Err faults.NotEnabled → CannotHappen world.old.topology.switches packets.now command world.old }
 {
     match command {
         Command::Settle => {

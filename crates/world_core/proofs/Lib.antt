@@ -1,4 +1,4 @@
-mod Kept
+pub mod Kept
 mod Doing
 mod Standing
 mod Beginning
@@ -7,4 +7,5 @@ mod Good
 mod Runs
 mod Tables
 mod Ending
-mod Agreeing
+pub mod Agreeing
+pub mod Repeating

@@ -8,6 +8,7 @@ use Rattle.update_laws.specs.Traffic.{Arrived, IsGood, IsLanded}
 use Rattle.world_core.specs.declared.event.Event.{Event}
 use Rattle.world_core.specs.declared.event.Event.TheVariants as event
 use Rattle.world_core.specs.Worlds.{WorldValue, setting, IsKept}
+use Rattle.world_core.specs.Settling.{Follows}
 use Rattle.world_core.specs.Steps.{InFleet, IsEnabled, Step, Runs}
 
 -- Of each packet that came in: its finished histories and the futures of its copies are exactly its complete histories under one policy, the one that was current when it came in or the one that was coming in.
@@ -65,3 +66,11 @@ pub record ShowsSame (w v : WorldValue) : Type 0 where
 -- What a world shows is decided by its start and its events, in whatever order its tables keep their rows.
 abbrev pub RunsAgree : Type 0
 RunsAgree = (w : WorldValue) (events : List Event) (v x : WorldValue) → IsKept w → Runs w events v → Runs w events x → ShowsSame v x
+
+-- What is done by itself is decided by where it starts.
+abbrev pub FollowsAgree : (WorldValue → List Event) → Type 0
+FollowsAgree tried = (w : WorldValue) (es : List Event) (v : WorldValue) (fs : List Event) (u : WorldValue) → IsKept w → Follows tried w es v → Follows tried w fs u → es ≡ fs
+
+-- An event that happens could happen.
+abbrev pub StepIsEnabled : Type 0
+StepIsEnabled = (w : WorldValue) (e : Event) (v : WorldValue) → IsKept w → Step w e v → IsEnabled w e

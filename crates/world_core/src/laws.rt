@@ -1,5 +1,6 @@
 // Laws of the world, each the contract of a call that does nothing.
-ghost use Rattle.world_core.specs.Laws.{HaltsStay, HasRoom, NoDeadEnd, PacketsLand, RunsAgree};
+ghost use Rattle.world_core.specs.Laws.{FollowsAgree, HaltsStay, HasRoom, NoDeadEnd, PacketsLand, RunsAgree, StepIsEnabled};
+ghost use Rattle.world_core.specs.Settling.{flowing, settling};
 
 /// Once no copy of a packet is in flight, its finished histories are exactly its complete ones under one policy:
 /// the one that was current when it came in, or the one that was coming in.
@@ -27,4 +28,15 @@ pub fn has_room()
 /// and its events, in whatever order its tables keep their rows.
 pub fn runs_agree()
     ensures { RunsAgree }
+{}
+
+/// Where an event is told not to be enabled, there is no step of it.
+pub fn step_is_enabled()
+    ensures { StepIsEnabled }
+{}
+
+/// The events that `settle` and `flow` do are decided by the world that they start in.
+pub fn follows_agree()
+    ensures settle { FollowsAgree settling }
+    ensures flow { FollowsAgree flowing }
 {}

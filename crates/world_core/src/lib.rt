@@ -19,5 +19,7 @@ pub use arrival::Arrival;
 pub use event::Event;
 pub use fault::StepFault;
 pub use flights::Flights;
-pub use laws::{halts_stay, has_room, no_dead_end, packets_land, runs_agree};
+pub use laws::{
+    follows_agree, halts_stay, has_room, no_dead_end, packets_land, runs_agree, step_is_enabled,
+};
 pub use world::World;
