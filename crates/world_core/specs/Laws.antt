@@ -1,9 +1,11 @@
 -- What holds of every run of the world.
 use Rattle.std.specs.Prelude.{◌≡◌, ◌≢◌, ◌⊎◌, ◌≤◌, ℕ, ◌-◌, List, length, slice_get, Some, None}
 use Rattle.nk_values.specs.Members.{IsIn}
+use Rattle.nk_values.specs.Patterns.{Incoming}
 use Rattle.packet_tracer.specs.declared.flight.Flight.{Flight}
+use Rattle.packet_tracer.specs.Hops.{NoTie}
 use Rattle.update_coordinator.specs.declared.phase.Phase.TheVariants as phase
-use Rattle.update_laws.specs.Fleets.{AppliesAt}
+use Rattle.update_laws.specs.Fleets.{End, AppliesAt, IsFleet}
 use Rattle.update_laws.specs.Traffic.{Arrived, IsGood, IsLanded}
 use Rattle.world_core.specs.declared.event.Event.{Event}
 use Rattle.world_core.specs.declared.event.Event.TheVariants as event
@@ -74,3 +76,11 @@ FollowsAgree tried = (w : WorldValue) (es : List Event) (v : WorldValue) (fs : L
 -- An event that happens could happen.
 abbrev pub StepIsEnabled : Type 0
 StepIsEnabled = (w : WorldValue) (e : Event) (v : WorldValue) → IsKept w → Step w e v → IsEnabled w e
+
+-- At each switch what is unsent, on its way, pending and awaited is what is left of its batch, in order, and its table has the rows of the phase but for what is left.
+abbrev pub SwitchesFollow : Type 0
+SwitchesFollow = (w : WorldValue) → IsKept w → IsFleet (setting w) w.fleet
+
+-- No two rows of a table tie, whatever packet and tag come in.
+abbrev pub NoRowsTie : Type 0
+NoRowsTie = (w : WorldValue) (place : ℕ) (e : End) → IsKept w → slice_get w.fleet.ends place ≡ Some e → (i : Incoming) → NoTie e.switch.table.rows i

@@ -20,6 +20,7 @@ pub use event::Event;
 pub use fault::StepFault;
 pub use flights::Flights;
 pub use laws::{
-    follows_agree, halts_stay, has_room, no_dead_end, packets_land, runs_agree, step_is_enabled,
+    follows_agree, halts_stay, has_room, no_dead_end, no_rows_tie, packets_land, runs_agree,
+    step_is_enabled, switches_follow,
 };
 pub use world::World;
