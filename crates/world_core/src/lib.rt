@@ -2,6 +2,7 @@
 #![tactic(auto)]
 
 mod arrival;
+mod channels;
 mod enabling;
 mod end;
 mod event;

@@ -1,0 +1,24 @@
+use Rattle.std.proofs.Common.{◌≡◌, refl, rules}
+use Rattle.fleet_workers.proofs.Turning.{at-start, following-start}
+use Rattle.fleet_workers.proofs.post.Post.work.Goals as goal
+
+pub loop-init : goal.loop-init
+loop-init g c = record {
+  seated = c.requires.seat.0;
+  place = refl;
+  named = refl;
+  following = following-start (g.D.End.Link.received c.args.end) c.new-framer.result c.requires.fresh c.new-framer.ensures;
+  at = at-start (g.D.Desk.given c.args.seat.now) (g.D.Desk.told c.args.seat.now) (g.D.End.Link.sent c.args.end) (g.D.End.Link.received c.args.end) c.new-framer.result c.new-framer.ensures;
+}
+
+pub returns-in-Shut-clause-worked : goal.returns-in-Shut-clause-worked
+returns-in-Shut-clause-worked g c =
+    rw (c.wait_out.ensures.given.0, c.wait_out.ensures.given.1) (c.in-Shut.ensures.worked (g.D.Desk.given c.args.seat.now) (g.D.Desk.told c.args.seat.now) (g.D.End.Link.sent c.args.end) (g.D.End.Link.received c.args.end) c.loop.invariant.at)
+
+pub returns-in-Stop-clause-worked : goal.returns-in-Stop-clause-worked
+returns-in-Stop-clause-worked g c =
+    c.in-Stop.ensures.worked (g.D.Desk.given c.args.seat.now) (g.D.Desk.told c.args.seat.now) (g.D.End.Link.sent c.args.end) (g.D.End.Link.received c.args.end) c.loop.invariant.at
+
+pub returns-in-Kept-clause-kept : goal.returns-in-Kept-clause-kept
+returns-in-Kept-clause-kept g c =
+    c.in-Kept.ensures.worked (g.D.Desk.given c.args.seat.now) (g.D.Desk.told c.args.seat.now) (g.D.End.Link.sent c.args.end) (g.D.End.Link.received c.args.end) c.loop.invariant.at

@@ -1,0 +1,43 @@
+-- What the answers of a desk say.
+use Rattle.std.specs.Prelude.{◌≡◌, List, [], ◌∷◌, ◌++◌, Option, Some, None, Result, Ok, Err}
+use Rattle.openflow_wire.specs.declared.message.Message.{Message}
+use Rattle.openflow_wire.specs.Writing.{Fits}
+use Rattle.worker_desk.specs.declared.desk.Given.{Given}
+use Rattle.worker_desk.specs.declared.desk.Given.TheVariants.{Out, Expect, Nothing, Stop}
+use Rattle.worker_desk.specs.declared.desk.Told.{Told}
+use Rattle.worker_desk.specs.declared.desk.Told.TheVariants.{Back, Kept, Memory}
+
+-- A known list grows by these, and what is not known stays so.
+abbrev pub grown : {X : Type 0} → Option (List X) → List X → Option (List X)
+grown None ys = None
+grown (Some xs) ys = Some (xs ++ ys)
+
+-- the message that is to be sent, if there is one
+abbrev pub message_of : Given → List Message
+message_of (Out m made) = m ∷ []
+message_of (Expect made) = []
+message_of (Nothing made) = []
+message_of Stop = []
+
+abbrev pub gave : {E : Type 0} → Result Given E → List Message
+gave (Ok g) = message_of g
+gave (Err e) = []
+
+-- a message that is to be sent can be written
+abbrev pub CanBeWritten : Given → Type 0
+CanBeWritten (Out m made) = Fits m
+CanBeWritten (Expect made) = Unit {0}
+CanBeWritten (Nothing made) = Unit {0}
+CanBeWritten Stop = Unit {0}
+
+-- an end that comes back is the one that was handed in
+abbrev pub GivesBack : {E : Type 0} → E → Told E → Type 0
+GivesBack end (Back e made) = e ≡ end
+GivesBack end Kept = Unit {0}
+GivesBack end (Memory e) = e ≡ end
+
+-- what holds where the end was kept
+abbrev pub OnKept : {E : Type 0} → Told E → Type 0 → Type 0
+OnKept (Back e made) P = Unit {0}
+OnKept Kept P = P
+OnKept (Memory e) P = Unit {0}

@@ -1,0 +1,57 @@
+-- Which of the packets that are to come in have come in, and when a run is over.
+use Rattle.std.specs.Prelude.{◌≡◌, ◌≢◌, ◌≤◌, ◌⊎◌, ℕ, ◌+◌, Bool, true, false, List, [], ◌∷◌, length, map, None, IsPermutation}
+use Rattle.nk_values.specs.Members.{IsIn}
+use Rattle.packet_tracer.specs.declared.flight.Flight.{Flight}
+use Rattle.update_coordinator.specs.declared.phase.Phase.TheVariants as phase
+use Rattle.update_coordinator.specs.declared.phase.Phase.{Phase}
+use Rattle.update_laws.specs.Traffic.{Arrived}
+use Rattle.world_core.specs.declared.event.Event.{Event}
+use Rattle.world_core.specs.declared.event.Event.TheVariants as event
+use Rattle.world_core.specs.Worlds.{WorldValue}
+use Rattle.world_journal.specs.declared.line.Line.{Line}
+
+abbrev pub line_of : Arrived → Line
+line_of a = record { packet = a.packet; tag = a.tag }
+
+abbrev pub lines_of : List Arrived → List Line
+lines_of arrivals = map line_of arrivals
+
+abbrev pub is_arrival : Event → Bool
+is_arrival (event.Arrive pk tag) = true
+is_arrival _ = false
+
+-- the lines that are marked
+abbrev pub marked : List Line → List Bool → List Line
+marked [] marks = []
+marked (x ∷ xs) [] = []
+marked (x ∷ xs) (true ∷ marks) = x ∷ marked xs marks
+marked (x ∷ xs) (false ∷ marks) = marked xs marks
+
+-- how many marks are not set
+abbrev pub unmarked : List Bool → ℕ
+unmarked [] = 0
+unmarked (true ∷ marks) = unmarked marks
+unmarked (false ∷ marks) = 1 + unmarked marks
+
+-- What came in is the marked lines, each once.
+pub record HaveArrived (lines : List Line) (marks : List Bool) (arrivals : List Arrived) : Type 0 where
+  pub long : length marks ≡ length lines
+  pub same : IsPermutation (lines_of arrivals) (marked lines marks)
+
+-- the last policy handles all packets
+abbrev pub last_phase : WorldValue → Phase
+last_phase w = phase.Idle (length w.versions)
+
+-- no copy may take another hop
+abbrev pub AreSpent : WorldValue → Type 0
+AreSpent w = (f : Flight) → IsIn w.flights f → w.limit ≤ f.hops
+
+-- The last policy handles all packets, each line came in once, and no copy may take another hop.
+pub record IsDone (lines : List Line) (w : WorldValue) : Type 0 where
+  pub idle : w.fleet.control.phase ≡ last_phase w
+  pub arrived : IsPermutation (lines_of w.arrivals) lines
+  pub spent : AreSpent w
+
+-- A run is over where it is done, or the coordinator has halted.
+abbrev pub IsOver : List Line → WorldValue → Type 0
+IsOver lines w = (w.fleet.control.halt ≢ None) ⊎ IsDone lines w

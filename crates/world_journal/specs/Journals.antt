@@ -1,0 +1,56 @@
+-- A journal, the world that it leads to, and the ends that were kept.
+use Rattle.std.specs.Prelude.{◌≡◌, ℕ, ◌+◌, ◌<◌, ◌==◌, if◌then◌else◌, Bool, false, List, [], ◌∷◌, ◌++◌, length, map, Option}
+use Rattle.std.specs.List.{AllByRecursion, filter}
+use Rattle.update_coordinator.specs.declared.cause.Side.{Side}
+use Rattle.update_coordinator.specs.declared.cause.Side.TheVariants as side
+use Rattle.world_core.specs.declared.event.Event.{Event}
+use Rattle.world_core.specs.declared.event.Event.TheVariants as event
+use Rattle.world_core.specs.Worlds.{WorldValue}
+use Rattle.world_core.specs.Steps.{Runs}
+use Rattle.worker_desk.specs.Streams.{TellsWhereKnown}
+use Rattle.world_journal.specs.declared.entry.Entry.{Entry}
+use Rattle.world_journal.specs.Makers.{MayMake, is_cut}
+
+abbrev pub entry : ℕ → Event → Entry
+entry worker event = record { worker = worker; event = event }
+
+abbrev pub events_of : List Entry → List Event
+events_of journal = map (λ (e : Entry). e.event) journal
+
+-- how many switches a world has
+abbrev pub switches : WorldValue → ℕ
+switches w = length w.fleet.ends
+
+-- whether a message was told at this side of switch s
+abbrev pub is_told : ℕ → Side → Event → Bool
+is_told s side.Controller (event.Heard t) = t == s
+is_told s side.Switch (event.Take t) = t == s
+is_told s _ _ = false
+
+-- how many were told there
+abbrev pub told_before : ℕ → Side → List Entry → ℕ
+told_before s side journal = length (filter (λ (e : Entry). is_told s side e.event) journal)
+
+-- What holds of the end that is kept for an event behind these entries: it is of that switch; at a lost session it had failed; at foreign bytes they came next in its stream, where that is known.
+abbrev pub MetBy : {E : Type 0} → (E → ℕ) → (E → ℕ) → (E → Option (List ℕ)) → List Entry → Event → E → Type 0
+MetBy named faults received before (event.Lost s) end = (named end ≡ s) × (0 < faults end)
+MetBy named faults received before (event.Foreign s side got) end = (named end ≡ s) × TellsWhereKnown (received end) (told_before s side before) got
+MetBy named faults received before _ end = ⊥
+
+-- One end is kept for each event that ends a session, in order, and it met the conditions there.
+pub data Kept {E : Type 0} (named faults : E → ℕ) (received : E → Option (List ℕ)) : List Entry → List E → Type 0 where
+  none : Kept named faults received [] []
+  goes : (es : List Entry) (ends : List E) (e : Entry) → is_cut e.event ≡ false → Kept named faults received es ends → Kept named faults received (es ++ e ∷ []) ends
+  cuts : (es : List Entry) (ends : List E) (e : Entry) (end : E) → MetBy named faults received es e.event end → Kept named faults received es ends → Kept named faults received (es ++ e ∷ []) (ends ++ end ∷ [])
+
+-- The world is what the journal's events lead to from the start; each entry is of a worker that may make it; and the ends were kept for it.
+pub record IsJournal {E : Type 0} (named faults : E → ℕ) (received : E → Option (List ℕ)) (start world : WorldValue) (journal : List Entry) (ends : List E) : Type 0 where
+  pub runs : Runs start (events_of journal) world
+  pub makers : AllByRecursion (λ (e : Entry). MayMake (switches start) e.worker e.event) journal
+  pub kept : Kept named faults received journal ends
+
+-- a journal with its world and the kept ends, as clauses see it
+pub record HeldValue (E : Type 0) : Type 0 where
+  pub world : WorldValue
+  pub journal : List Entry
+  pub ends : List E

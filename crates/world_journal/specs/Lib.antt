@@ -1,0 +1,9 @@
+pub mod Makers
+pub mod Journals
+pub mod Cuts
+pub mod Arriving
+pub mod Runs
+pub mod Calls
+pub mod Moves
+pub mod Finishing
+pub mod Laws

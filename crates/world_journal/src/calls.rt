@@ -1,0 +1,356 @@
+// What a session's or a switch's worker asks of a run: each answer is decided by the state found.
+ghost use Rattle.std.specs.Prelude.{◌≡◌, ◌<◌, ◌+◌, ◌≤◌, ◌↔◌, IfOk, IfErr, OnOk, OnErr, Err, Some, IsTrue};
+ghost use Rattle.openflow_wire.specs.Writing.{Fits};
+ghost use Rattle.worker_desk.specs.Answers.{CanBeWritten, GivesBack};
+ghost use Rattle.worker_desk.specs.Streams.{TellsWhereKnown};
+ghost use Rattle.world_core.specs.Channels.{newest_at};
+ghost use Rattle.world_core.specs.Steps.{IsEnabled};
+ghost use Rattle.world_core.specs.declared.fault.StepFault.TheVariants as faults;
+ghost use Rattle.world_journal.specs.Journals.{switches, is_told, told_before};
+ghost use Rattle.world_journal.specs.Makers.{WorksAt};
+ghost use Rattle.world_journal.specs.Runs.{Stops, waits};
+ghost use Rattle.world_journal.specs.Calls.{
+  Advances,
+  Gives,
+  GoesOn,
+  IsFrontAt,
+  IsUnmoved,
+  IsWorker,
+  Loses,
+  RestsAs,
+  RunsOut,
+  Shuts,
+  TakesIn,
+  Tells,
+  TurnsAway,
+  place_of,
+  receipt,
+  side_of,
+};
+
+use crate::entry::Entry;
+use crate::held::CutFault;
+use crate::name::RunName;
+use crate::run::Run;
+use crate::seat::Seat;
+use openflow_wire::{Message, Octets};
+use outside_net::{Kind, Link};
+use std::alloc::{AllocError, Global};
+use update_coordinator::Side;
+use worker_desk::{Given, Made, Shut, Told};
+use world_core::{Event, StepFault, World};
+
+impl<L: RunName, E: Link> Run<L, E> {
+    /// What the worker of this seat is to do next: to stop; to send the message that waits, or the one that its next
+    /// step puts on its channel; to receive, where a message is on its way to it and it can be taken; or nothing.
+    /// Where memory is wanting a step may stand, and its message then waits.
+    pub fn give(&mut self, alloc: Global, seat: &mut Seat<L>) -> Result<Given, AllocError>
+        requires seat { IsWorker (switches L.start) seat.old.worker }
+        ensures seat { IsUnmoved seat.old.worker seat.new.worker seat.old.share.parts seat.new.share.parts }
+        ensures fits { IfOk result CanBeWritten }
+        ensures answer { IfOk result (Gives seat.old.worker (side_of (switches L.start) seat.old.worker) (place_of (switches L.start) seat.old.worker) self.old self.new) }
+        ensures memory { OnErr result (RunsOut seat.old.worker (side_of (switches L.start) seat.old.worker) (place_of (switches L.start) seat.old.worker) self.old self.new) }
+    {
+        let (side, s) = position(self.switch_count(), seat.worker());
+        give_at(self, alloc, seat, side, s)
+    }
+
+    /// Takes the bytes of a message that the worker of this seat received behind k others, or those at which the
+    /// stream has a fault. Where they are the front of its channel it is taken, if that can be; where they are not,
+    /// and came next, the session ends and the end is kept.
+    pub fn tell(
+        &mut self,
+        alloc: Global,
+        seat: &mut Seat<L>,
+        bytes: &[u8],
+        end: E,
+        k: u64,
+    ) -> Told<E>
+        requires seat { IsWorker (switches L.start) seat.old.worker }
+        requires name { E.named end ≡ place_of (switches L.start) seat.old.worker }
+        requires stream { TellsWhereKnown (E.received end) k bytes.now }
+        ensures seat { IsUnmoved seat.old.worker seat.new.worker seat.old.share.parts seat.new.share.parts }
+        ensures answer { Tells seat.old.worker (side_of (switches L.start) seat.old.worker) (place_of (switches L.start) seat.old.worker) bytes.now k end self.old self.new result }
+        ensures back { GivesBack end result }
+    {
+        let (side, s) = position(self.switch_count(), seat.worker());
+        if self.world().is_front(s, side, bytes) {
+            receive_at(self, alloc, seat, side, s, end)
+        } else {
+            refuse_at(self, alloc, seat, side, s, bytes, end, k)
+        }
+    }
+
+    /// The end of the worker of this seat failed: the session is lost, unless the coordinator has halted.
+    pub fn lost(&mut self, alloc: Global, seat: &mut Seat<L>, end: E) -> Told<E>
+        requires seat { IsWorker (switches L.start) seat.old.worker }
+        requires name { E.named end ≡ place_of (switches L.start) seat.old.worker }
+        requires failed { 0 < E.faults end }
+        ensures seat { IsUnmoved seat.old.worker seat.new.worker seat.old.share.parts seat.new.share.parts }
+        ensures answer { Loses seat.old.worker (place_of (switches L.start) seat.old.worker) end self.old self.new result }
+        ensures back { GivesBack end result }
+    {
+        let (side, s) = position(self.switch_count(), seat.worker());
+        lose_at(self, alloc, seat, side, s, end)
+    }
+
+    /// Whether the worker of this seat, whose end is closed, is to stop.
+    pub fn shut(&self, seat: &Seat<L>) -> Shut
+        requires seat { IsWorker (switches L.start) seat.now.worker }
+        ensures answer { Shuts (Stops self.now (side_of (switches L.start) seat.now.worker) (place_of (switches L.start) seat.now.worker)) result }
+    {
+        let (side, s) = position(self.switch_count(), seat.worker());
+        if self.stops(side, s) { Shut::Stop } else { Shut::Nothing }
+    }
+}
+
+// The side of the worker of this number, and the place of its switch.
+fn position(count: usize, worker: usize) -> (Side, usize)
+    requires { IsWorker count worker }
+    ensures side { result.0 ≡ side_of count worker }
+    ensures place { result.1 ≡ place_of count worker }
+    ensures works { WorksAt count worker result.0 result.1 }
+{
+    if worker <= count {
+        (Side::Controller, worker - 1)
+    } else {
+        (Side::Switch, worker - count - 1)
+    }
+}
+
+// What the worker at this side of a switch is to do next.
+fn give_at<L: RunName, E: Link>(
+    run: &mut Run<L, E>,
+    alloc: Global,
+    seat: &mut Seat<L>,
+    side: Side,
+    s: usize,
+) -> Result<Given, AllocError>
+    requires seat { WorksAt (switches L.start) seat.old.worker side s }
+    ensures seat { IsUnmoved seat.old.worker seat.new.worker seat.old.share.parts seat.new.share.parts }
+    ensures fits { IfOk result CanBeWritten }
+    ensures answer { IfOk result (Gives seat.old.worker side s run.old run.new) }
+    ensures memory { OnErr result (RunsOut seat.old.worker side s run.old run.new) }
+{
+    if run.stops(side, s) {
+        return Ok(Given::Stop);
+    }
+    if run.waits(side, s) {
+        let message = newest_copy(run.world(), alloc, side, s)?;
+        run.mark(side, s, false);
+        return Ok(Given::Out {
+            message,
+            made: None,
+        });
+    }
+    go_on(run, alloc, seat, side, s)
+}
+
+// The same where the worker goes on and no message waits.
+fn go_on<L: RunName, E: Link>(
+    run: &mut Run<L, E>,
+    alloc: Global,
+    seat: &mut Seat<L>,
+    side: Side,
+    s: usize,
+) -> Result<Given, AllocError>
+    requires seat { WorksAt (switches L.start) seat.old.worker side s }
+    ensures seat { IsUnmoved seat.old.worker seat.new.worker seat.old.share.parts seat.new.share.parts }
+    ensures fits { IfOk result CanBeWritten }
+    ensures answer { IfOk result (GoesOn seat.old.worker side s run.old run.new) }
+    ensures memory { OnErr result (RunsOut seat.old.worker side s run.old run.new) }
+{
+    let before = run.world().sent_count(s, side);
+    let made = advance(run, alloc, seat, side, s)?;
+    let Some(kind) = made else {
+        return Ok(rest(run.world(), side, s, None));
+    };
+    if before >= run.world().sent_count(s, side) {
+        return Ok(rest(run.world(), side, s, made));
+    }
+    match newest_copy(run.world(), alloc, side, s) {
+        Ok(message) => {
+            run.mark(side, s, false);
+            Ok(Given::Out {
+                message,
+                made: Some(kind),
+            })
+        }
+        Err(_) => {
+            run.mark(side, s, true);
+            Err(AllocError)
+        }
+    }
+}
+
+// The step that this side makes by itself, if one is enabled.
+fn advance<L: RunName, E: Link>(
+    run: &mut Run<L, E>,
+    alloc: Global,
+    seat: &mut Seat<L>,
+    side: Side,
+    s: usize,
+) -> Result<Made, AllocError>
+    requires seat { WorksAt (switches L.start) seat.old.worker side s }
+    ensures seat { IsUnmoved seat.old.worker seat.new.worker seat.old.share.parts seat.new.share.parts }
+    ensures made { IfOk result (Advances seat.old.worker side s run.old run.new) }
+    ensures err { OnErr result (run.new ≡ run.old) }
+{
+    match side {
+        Side::Controller => match run.step(alloc, seat, Event::Send(s)) {
+            Ok(()) => Ok(Some(Kind::Send)),
+            Err(StepFault::Memory) => Err(AllocError),
+            Err(StepFault::NotEnabled) => Ok(None),
+        },
+        Side::Switch => match run.step(alloc, seat, Event::Apply(s, 0)) {
+            Ok(()) => Ok(Some(Kind::Apply)),
+            Err(StepFault::Memory) => Err(AllocError),
+            Err(StepFault::NotEnabled) => match run.step(alloc, seat, Event::Reply(s)) {
+                Ok(()) => Ok(Some(Kind::Reply)),
+                Err(StepFault::Memory) => Err(AllocError),
+                Err(StepFault::NotEnabled) => Ok(None),
+            },
+        },
+    }
+}
+
+// What is to be done where no message was put on the channel.
+fn rest(world: &World, side: Side, s: usize, made: Made) -> Given
+    ensures { RestsAs world.now side s made result }
+{
+    if world.enabled(&receipt(side, s)) {
+        Given::Expect { made }
+    } else {
+        Given::Nothing { made }
+    }
+}
+
+// The step of a message that is received at this side.
+fn receipt(side: Side, s: usize) -> Event
+    ensures { result ≡ receipt side s }
+{
+    match side {
+        Side::Controller => Event::Heard(s),
+        Side::Switch => Event::Take(s),
+    }
+}
+
+// A copy of the message that this side put on its channel last.
+fn newest_copy(world: &World, alloc: Global, side: Side, s: usize) -> Result<Message, AllocError>
+    ensures { IfOk result (λ m. (newest_at world.now side s ≡ Some m) × Fits m) }
+{
+    match world.newest(s, side) {
+        None => Err(AllocError),
+        Some(message) => message.copy(alloc),
+    }
+}
+
+// The front of the channel was received.
+fn receive_at<L: RunName, E: Link>(
+    run: &mut Run<L, E>,
+    alloc: Global,
+    seat: &mut Seat<L>,
+    side: Side,
+    s: usize,
+    end: E,
+) -> Told<E>
+    requires seat { WorksAt (switches L.start) seat.old.worker side s }
+    ensures seat { IsUnmoved seat.old.worker seat.new.worker seat.old.share.parts seat.new.share.parts }
+    ensures answer { TakesIn seat.old.worker side s end run.old run.new result }
+    ensures back { GivesBack end result }
+{
+    let before = run.world().sent_count(s, side);
+    let kind = match side {
+        Side::Controller => Kind::Heard,
+        Side::Switch => Kind::Take,
+    };
+    match run.step(alloc, seat, receipt(side, s)) {
+        Ok(()) => {
+            if before < run.world().sent_count(s, side) {
+                run.mark(side, s, true);
+            }
+            Told::Back {
+                end,
+                made: Some(kind),
+            }
+        }
+        Err(StepFault::NotEnabled) => Told::Back { end, made: None },
+        Err(StepFault::Memory) => Told::Memory(end),
+    }
+}
+
+// Other bytes than the front were received behind k messages.
+fn refuse_at<L: RunName, E: Link>(
+    run: &mut Run<L, E>,
+    alloc: Global,
+    seat: &mut Seat<L>,
+    side: Side,
+    s: usize,
+    bytes: &[u8],
+    end: E,
+    k: u64,
+) -> Told<E>
+    requires seat { WorksAt (switches L.start) seat.old.worker side s }
+    requires name { E.named end ≡ s }
+    requires stream { TellsWhereKnown (E.received end) k bytes.now }
+    ensures seat { IsUnmoved seat.old.worker seat.new.worker seat.old.share.parts seat.new.share.parts }
+    ensures answer { TurnsAway seat.old.worker side s bytes.now k end run.old run.new result }
+    ensures back { GivesBack end result }
+{
+    let count = told_count(run.journal(), side, s);
+    if count as u64 != k {
+        return Told::Back { end, made: None };
+    }
+    let Ok(got) = Octets::from_slice(alloc, bytes) else {
+        return Told::Memory(end);
+    };
+    match run.cut(alloc, seat, Event::Foreign(s, side, got), end) {
+        Ok(()) => Told::Kept,
+        Err(CutFault::NotEnabled(end)) => Told::Back { end, made: None },
+        Err(CutFault::Memory(end)) => Told::Memory(end),
+    }
+}
+
+// The end failed.
+fn lose_at<L: RunName, E: Link>(
+    run: &mut Run<L, E>,
+    alloc: Global,
+    seat: &mut Seat<L>,
+    side: Side,
+    s: usize,
+    end: E,
+) -> Told<E>
+    requires seat { WorksAt (switches L.start) seat.old.worker side s }
+    requires name { E.named end ≡ s }
+    requires failed { 0 < E.faults end }
+    ensures seat { IsUnmoved seat.old.worker seat.new.worker seat.old.share.parts seat.new.share.parts }
+    ensures answer { Loses seat.old.worker s end run.old run.new result }
+    ensures back { GivesBack end result }
+{
+    match run.cut(alloc, seat, Event::Lost(s), end) {
+        Ok(()) => Told::Kept,
+        Err(CutFault::NotEnabled(end)) => Told::Back { end, made: None },
+        Err(CutFault::Memory(end)) => Told::Memory(end),
+    }
+}
+
+// How many messages were told at this side of a switch.
+fn told_count(journal: &[Entry], side: Side, s: usize) -> usize
+    ensures { result ≡ told_before s side journal.now }
+{
+    journal
+        .iter()
+        .filter(|entry| is_told(&entry.event, side, s))
+        .count()
+}
+
+// Whether an event tells a message at this side of a switch.
+fn is_told(event: &Event, side: Side, s: usize) -> bool
+    ensures { result ≡ is_told s side event.now }
+{
+    match (event, side) {
+        (Event::Heard(place), Side::Controller) => *place == s,
+        (Event::Take(place), Side::Switch) => *place == s,
+        _ => false,
+    }
+}

@@ -1,0 +1,24 @@
+//! A world beside the journal of what happened to it, and the one lock over which workers share both.
+#![tactic(auto)]
+
+mod calls;
+mod entry;
+mod held;
+mod laws;
+mod line;
+mod moves;
+mod name;
+mod run;
+mod run_desk;
+mod seat;
+
+pub use entry::Entry;
+pub use held::{CutFault, Held};
+pub use laws::{hello_waits, sent_is_put};
+pub use line::Line;
+pub use name::RunName;
+pub use moves::Did;
+pub use run::{Run, RunFault};
+pub use run_desk::RunDesk;
+pub use seat::Seat;
+pub use worker_desk::Desk;

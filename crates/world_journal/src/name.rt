@@ -1,0 +1,28 @@
+// What a run is named after.
+ghost use Rattle.std.specs.Prelude.{ℕ, List, []};
+ghost use Rattle.topology_model.specs.Layouts.{empty};
+ghost use Rattle.world_core.specs.Worlds.{WorldValue, start};
+ghost use Rattle.world_journal.specs.declared.line.Line.{Line as LineValue};
+
+use std::marker::Brand;
+use std::sync::ledger::Ledger;
+
+/// Names where a run begins, in contracts alone.
+pub trait RunName: Ledger {
+    /// The world at the start.
+    ghost start: { WorldValue };
+
+    /// The packets that are to come in.
+    ghost lines: { List LineValue };
+
+    /// Into how many parts the seats are cut.
+    ghost all: { ℕ };
+}
+
+impl RunName for Brand {
+    ghost start = { start empty [] 1 0 };
+
+    ghost lines = { [] };
+
+    ghost all = { 0 };
+}

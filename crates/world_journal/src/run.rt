@@ -1,0 +1,324 @@
+// What lies under the one lock of a run.
+ghost use Rattle.std.specs.Prelude.{◌≡◌, ◌↔◌, IsTrue};
+ghost use Rattle.world_core.specs.Worlds.{WorldValue};
+ghost use Rattle.world_journal.specs.Arriving.{AreSpent, last_phase};
+
+use crate::entry::Entry;
+use crate::held::{CutFault, Held};
+use crate::line::Line;
+use crate::name::RunName;
+use crate::seat::Seat;
+use outside_net::Link;
+use std::alloc::Global;
+use std::marker::Model;
+use std::sync::ledger::Share;
+use update_coordinator::{Phase, Side};
+use world_core::{Event, StepFault, World};
+
+/// Why a run gave no journal.
+#[derive(Clone, Copy, Debug, PartialEq, Eq)]
+pub enum RunFault {
+    /// A thread could not be made.
+    NoThread,
+    /// Want of memory.
+    Memory,
+}
+
+/// A journal with its world; which of the packets that `L` names have come in, each once; whether the run was closed;
+/// and the seats that were laid back.
+#[derive(Drop)]
+pub struct Run<L: RunName, E: Link> {
+    held: Held<L, E>,
+    lines: Vec<Line>,
+    arrived: Vec<bool>,
+    left: usize,
+    closed: bool,
+    laid: Share<L>,
+    back: u64,
+    all: u64,
+    to_waits: Vec<bool>,
+    back_waits: Vec<bool>,
+}
+
+impl<L: RunName, E: Link> Model for Run<L, E> {
+    ghost use Rattle.std.specs.Prelude.{◌≡◌, length};
+    ghost use Rattle.world_journal.specs.Arriving.{HaveArrived, unmarked};
+    ghost use Rattle.world_journal.specs.Journals.{switches};
+    ghost use Rattle.world_journal.specs.Runs.{RunValue};
+
+    ghost Value = { RunValue E };
+
+    ghost view = { λ r. record { held = r.held; arrived = r.arrived.items; closed = r.closed; back = r.back; to_waits = r.to_waits.items; back_waits = r.back_waits.items } };
+
+    ghost invariant = { λ r. (r.lines.items ≡ L.lines) × HaveArrived L.lines r.arrived.items r.held.world.arrivals × (r.left ≡ unmarked r.arrived.items) × (r.laid.parts ≡ r.back) × (r.all ≡ L.all) × (length r.to_waits.items ≡ switches L.start) × (length r.back_waits.items ≡ switches L.start) };
+}
+
+impl<L: RunName, E: Link> Run<L, E> {
+    ghost use Rattle.std.specs.Prelude.{◌<◌, ◌+◌, ◌++◌, ◌∷◌, [], false, true, OnOk, OnErr, Err, IfErr, IfOk, IfSome, ◌⊎◌, replicate, length, Some, slice_get, slice_set};
+    ghost use Rattle.nk_values.specs.declared.packet.Packet.{Packet as PacketValue};
+    ghost use Rattle.world_core.specs.Steps.{Step, IsEnabled};
+    ghost use Rattle.world_core.specs.declared.event.Event.TheVariants as event;
+    ghost use Rattle.world_core.specs.declared.fault.StepFault.TheVariants as faults;
+    ghost use Rattle.world_journal.specs.Makers.{MayMake, IsTraffic, is_cut};
+    ghost use Rattle.world_journal.specs.Journals.{switches, entry, MetBy};
+    ghost use Rattle.world_journal.specs.Cuts.{HandsBack, Refuses};
+    ghost use Rattle.world_journal.specs.Arriving.{IsOver, is_arrival};
+    ghost use Rattle.world_journal.specs.Runs.{RunValue, Stops, waits, marking};
+    ghost use Rattle.world_journal.specs.Calls.{Made, Cuts, Arrives};
+
+    /// A run that begins: no packet has come in, and each switch's HELLO waits to be handed out.
+    pub fn new(
+        alloc: Global,
+        held: Held<L, E>,
+        seat: &mut Seat<L>,
+        lines: Vec<Line>,
+        all: u64,
+    ) -> Option<Run<L, E>>
+        requires arrivals { held.world.arrivals ≡ [] }
+        requires lines { lines.items ≡ L.lines }
+        requires all { all ≡ L.all }
+        ensures held { IfSome result (λ r. r.held ≡ held) }
+        ensures back { IfSome result (λ r. (r.back ≡ 0) × (r.closed ≡ false)) }
+        ensures waits { IfSome result (λ r. (r.to_waits ≡ replicate (switches L.start) false) × (r.back_waits ≡ replicate (switches L.start) true)) }
+        ensures arrived { IfSome result (λ r. r.arrived ≡ replicate (length L.lines) false) }
+        ensures seat { (seat.new.worker ≡ seat.old.worker) × (seat.new.share.parts ≡ seat.old.share.parts) × (seat.new.share.amount ≡ seat.old.share.amount) }
+    {
+        let left = lines.len();
+        let count = held.switch_count();
+        let Ok(arrived) = vec![in alloc; false; left] else {
+            return None;
+        };
+        let Ok(to_waits) = vec![in alloc; false; count] else {
+            return None;
+        };
+        let Ok(back_waits) = vec![in alloc; true; count] else {
+            return None;
+        };
+        Some(Run {
+            held,
+            lines,
+            arrived,
+            left,
+            closed: false,
+            laid: seat.nothing(),
+            back: 0,
+            all,
+            to_waits,
+            back_waits,
+        })
+    }
+
+    /// Makes a step, but for arrivals and for what ends a session.
+    pub fn step(
+        &mut self,
+        alloc: Global,
+        seat: &mut Seat<L>,
+        event: Event,
+    ) -> Result<(), StepFault>
+        requires maker { MayMake (switches L.start) seat.old.worker event }
+        requires plain { (is_cut event ≡ false) × (is_arrival event ≡ false) }
+        ensures made { OnOk result (Made seat.old.worker event self.old self.new) }
+        ensures refused { result ≡ Err faults.NotEnabled → ¬ IsEnabled self.old.held.world event }
+        ensures seat { (seat.new.worker ≡ seat.old.worker) × (seat.new.share.parts ≡ seat.old.share.parts) }
+        ensures booked { OnOk result (seat.new.share.amount ≡ seat.old.share.amount + 1) }
+        ensures err { OnErr result ((self.new ≡ self.old) × (seat.new.share.amount ≡ seat.old.share.amount)) }
+    {
+        self.held.step(alloc, seat, event)
+    }
+
+    /// Makes a step that ends a session, and keeps the end. A refusal hands it back.
+    pub fn cut(
+        &mut self,
+        alloc: Global,
+        seat: &mut Seat<L>,
+        event: Event,
+        end: E,
+    ) -> Result<(), CutFault<E>>
+        requires maker { MayMake (switches L.start) seat.old.worker event }
+        requires met { MetBy E.named E.faults E.received self.old.held.journal event end }
+        ensures made { OnOk result (Cuts seat.old.worker event end self.old self.new) }
+        ensures refused { IfErr result (λ e. Refuses (¬ IsEnabled self.old.held.world event) e) }
+        ensures seat { (seat.new.worker ≡ seat.old.worker) × (seat.new.share.parts ≡ seat.old.share.parts) }
+        ensures booked { OnOk result (seat.new.share.amount ≡ seat.old.share.amount + 1) }
+        ensures err { OnErr result ((self.new ≡ self.old) × (seat.new.share.amount ≡ seat.old.share.amount)) }
+        ensures back { IfErr result (λ e. HandsBack end e) }
+    {
+        self.held.cut(alloc, seat, event, end)
+    }
+
+    /// Lets the packet at a place of the lines come in, which has not.
+    pub fn arrive(
+        &mut self,
+        alloc: Global,
+        seat: &mut Seat<L>,
+        place: usize,
+    ) -> Result<(), StepFault>
+        requires maker { IsTraffic (switches L.start) seat.old.worker }
+        requires first { slice_get self.old.arrived place ≡ Some false }
+        ensures made { OnOk result (Arrives seat.old.worker L.lines place self.old self.new) }
+        ensures seat { (seat.new.worker ≡ seat.old.worker) × (seat.new.share.parts ≡ seat.old.share.parts) }
+        ensures booked { OnOk result (seat.new.share.amount ≡ seat.old.share.amount + 1) }
+        ensures err { OnErr result ((self.new ≡ self.old) × (seat.new.share.amount ≡ seat.old.share.amount)) }
+    {
+        let Line { packet, tag } = self.lines[place];
+        self.held.step(alloc, seat, Event::Arrive(packet, tag))?;
+        self.arrived[place] = true;
+        self.left -= 1;
+        Ok(())
+    }
+
+    /// Whether the packet at a place of the lines has come in, if there is one.
+    pub fn has_arrived(&self, place: usize) -> Option<bool>
+        ensures { result ≡ slice_get self.now.arrived place }
+    {
+        self.arrived.get(place).copied()
+    }
+
+    /// The world.
+    pub fn world(&self) -> &World
+        ensures { result.now ≡ self.now.held.world }
+    {
+        self.held.world()
+    }
+
+    /// The journal.
+    pub fn journal(&self) -> &[Entry]
+        ensures { result.now ≡ self.now.held.journal }
+    {
+        self.held.journal()
+    }
+
+    /// How many switches there are.
+    pub fn switch_count(&self) -> usize
+        ensures here { result ≡ switches self.now.held.world }
+        ensures start { result ≡ switches L.start }
+    {
+        self.held.switch_count()
+    }
+
+    /// Whether the last message that this side of a switch put on its channel waits to be handed out.
+    pub fn waits(&self, side: Side, s: usize) -> bool
+        ensures { result ≡ waits self.now side s }
+    {
+        let marks = match side {
+            Side::Controller => &self.to_waits,
+            Side::Switch => &self.back_waits,
+        };
+        match marks.get(s) {
+            None => false,
+            Some(mark) => *mark && self.held.world().newest(s, side).is_some(),
+        }
+    }
+
+    /// Notes whether it waits.
+    pub fn mark(&mut self, side: Side, s: usize, waits: bool)
+        requires { s < switches L.start }
+        ensures { self.new ≡ marking self.old side s waits }
+    {
+        match side {
+            Side::Controller => self.to_waits[s] = waits,
+            Side::Switch => self.back_waits[s] = waits,
+        }
+    }
+
+    /// Whether the worker at this side of a switch is to stop.
+    pub fn stops(&self, side: Side, s: usize) -> bool
+        ensures { IsTrue result ↔ Stops self.now side s }
+    {
+        let world = self.held.world();
+        self.closed || world.coordinator().halt().is_some() || (is_last(world) && world.is_quiet(s, side))
+    }
+
+    /// Makes every worker stop: memory was wanting, or a thread.
+    pub fn close(&mut self)
+        ensures { self.new ≡ record self.old { closed = true } }
+    {
+        self.closed = true;
+    }
+
+    /// Whether it was closed.
+    pub fn is_closed(&self) -> bool
+        ensures { result ≡ self.now.closed }
+    {
+        self.closed
+    }
+
+    /// Takes a worker's seat back.
+    pub fn lay(&mut self, seat: Seat<L>)
+        requires { seat.share.parts ≡ 1 }
+        ensures back { self.old.back < L.all → self.new.back ≡ self.old.back + 1 }
+        ensures rest { self.new ≡ record self.old { back = self.new.back } }
+    {
+        if self.back < self.all {
+            seat.lay(&mut self.laid);
+            self.back += 1;
+        }
+    }
+
+    /// Whether it is over: the coordinator has halted; or the last policy handles all packets, each packet has come in
+    /// once, and no copy may take another hop.
+    pub fn is_over(&self) -> bool
+        ensures { result ≡ true → IsOver L.lines self.now.held.world }
+    {
+        let world = self.held.world();
+        world.coordinator().halt().is_some() || (self.left == 0 && is_last(world) && are_spent(world))
+    }
+
+    /// Whether all seats were laid back, and the run is closed or over.
+    pub fn is_done(&self) -> bool
+        ensures back { result ≡ true → self.now.back ≡ L.all }
+        ensures over { result ≡ true → (self.now.closed ≡ true) ⊎ IsOver L.lines self.now.held.world }
+    {
+        self.back == self.all && (self.closed || self.is_over())
+    }
+
+    /// The journal, and the caller's seat with all parts again; nothing where the run was closed.
+    pub fn finish(self) -> Result<(Held<L, E>, Seat<L>), RunFault>
+        requires back { self.back ≡ L.all }
+        requires all { (L.all ≡ L.parts) × (0 < L.all) }
+        requires over { (self.closed ≡ true) ⊎ IsOver L.lines self.held.world }
+        ensures held { IfOk result (λ r. r.0 ≡ self.held) }
+        ensures parts { IfOk result (λ r. (r.1.worker ≡ 0) × (r.1.share.parts ≡ L.parts)) }
+        ensures steps { IfOk result (λ r. r.1.share.amount ≡ length r.0.journal) }
+        ensures over { IfOk result (λ r. IsOver L.lines r.0.world) }
+        ensures fault { IfErr result (λ f. (f ≡ RunFault.Memory) × (self.closed ≡ true)) }
+    {
+        let Run {
+            held,
+            lines: _lines,
+            arrived: _arrived,
+            left: _left,
+            closed,
+            laid,
+            back: _back,
+            all: _all,
+            to_waits: _to_waits,
+            back_waits: _back_waits,
+        } = self;
+        if closed {
+            return Err(RunFault::Memory);
+        }
+        let mut held = held;
+        let mut seat = Seat::whole(laid);
+        held.audit(&mut seat);
+        Ok((held, seat))
+    }
+}
+
+// Whether the last policy handles all packets.
+fn is_last(world: &World) -> bool
+    ensures { IsTrue result ↔ (world.now.fleet.control.phase ≡ last_phase world.now) }
+{
+    match world.coordinator().phase() {
+        Phase::Idle(policy) => policy == world.versions().len(),
+        _ => false,
+    }
+}
+
+// Whether no copy may take another hop.
+fn are_spent(world: &World) -> bool
+    ensures { result ≡ true → AreSpent world.now }
+{
+    let most = world.hops();
+    world.flights().as_slice().iter().all(|flight| flight.hops >= most)
+}

@@ -1,0 +1,278 @@
+// The one lock of a run.
+ghost use Rattle.std.specs.Prelude.{◌≡◌, ◌<◌, None, IfOk, IfErr, length, true};
+ghost use Rattle.world_journal.specs.Arriving.{IsOver};
+ghost use Rattle.world_journal.specs.Calls.{IsUnmoved, IsWorker, place_of};
+ghost use Rattle.world_journal.specs.Finishing.{CanFinish};
+ghost use Rattle.world_journal.specs.Journals.{switches};
+ghost use Rattle.world_journal.specs.Makers.{IsCaller, IsTraffic};
+
+use crate::held::Held;
+use crate::moves::Did;
+use crate::name::RunName;
+use crate::run::{Run, RunFault};
+use crate::seat::Seat;
+use outside_net::Link;
+use std::alloc::{AllocError, Global};
+use std::sync::{Arc, Condvar, Mutex, MutexGuard, Wait};
+use std::thread;
+use update_coordinator::Phase;
+use worker_desk::{Desk, Given, Shut, Told};
+
+// The run, and what wakes the workers that wait for steps of others: those of each switch, and all others.
+#[derive(Drop)]
+struct Shared<L: RunName, E: Link> {
+    run: Mutex<Option<Run<L, E>>>,
+    pairs: Vec<Condvar>,
+    others: Condvar,
+}
+
+/// A run behind its one lock, as its workers share it. Each call locks once and asks the run; what it answers is
+/// stated of the run's own call of that name. A worker that is told there is nothing to do waits, with the lock given
+/// up, until a step was made that may have changed this.
+#[derive(Drop)]
+pub struct RunDesk<R, L: RunName, E: Link> {
+    rt: R,
+    alloc: Global,
+    shared: Arc<Shared<L, E>>,
+}
+
+impl<R: Wait + Drop, L: RunName, E: Link> Desk for RunDesk<R, L, E> {
+    type Seat = Seat<L>;
+
+    type End = E;
+
+    ghost seated = { λ s. IsWorker (switches L.start) s.worker × (s.share.parts ≡ 1) };
+
+    ghost place = { λ s. place_of (switches L.start) s.worker };
+
+    ghost given = { λ s. None };
+
+    ghost told = { λ s. None };
+
+    ghost kept = { λ s. None };
+
+    fn give(&self, seat: &mut Seat<L>) -> Result<Given, AllocError> {
+        let mut guard = self.shared.run.lock(&self.rt);
+        let given = match &mut *guard {
+            None => Ok(Given::Stop),
+            Some(run) => run.give(self.alloc, seat),
+        };
+        if is_idle(&given) {
+            self.wait(guard, self.bell(seat.worker()));
+        } else {
+            drop(guard);
+            self.bell(seat.worker()).notify_all();
+        }
+        given
+    }
+
+    fn tell(&self, seat: &mut Seat<L>, bytes: &[u8], end: E, k: u64) -> Told<E> {
+        let mut guard = self.shared.run.lock(&self.rt);
+        let before = moment(&guard);
+        let told = match &mut *guard {
+            None => Told::Back { end, made: None },
+            Some(run) => run.tell(self.alloc, seat, bytes, end, k),
+        };
+        let after = moment(&guard);
+        drop(guard);
+        if before == after {
+            self.bell(seat.worker()).notify_all();
+        } else {
+            self.wake_all();
+        }
+        told
+    }
+
+    fn lost(&self, seat: &mut Seat<L>, end: E) -> Told<E> {
+        let told = match &mut *self.shared.run.lock(&self.rt) {
+            None => Told::Back { end, made: None },
+            Some(run) => run.lost(self.alloc, seat, end),
+        };
+        self.wake_all();
+        told
+    }
+
+    fn shut(&self, seat: &mut Seat<L>) -> Shut {
+        let guard = self.shared.run.lock(&self.rt);
+        let shut = match &*guard {
+            None => Shut::Stop,
+            Some(run) => run.shut(seat),
+        };
+        if shut == Shut::Nothing {
+            self.wait(guard, self.bell(seat.worker()));
+        }
+        shut
+    }
+
+    fn close(&self, _seat: &mut Seat<L>) {
+        self.close_all();
+    }
+}
+
+impl<R: Wait + Drop, L: RunName, E: Link> RunDesk<R, L, E> {
+    /// Locks a run up.
+    pub fn new(rt: R, alloc: Global, run: Run<L, E>) -> Result<RunDesk<R, L, E>, AllocError> {
+        let mut pairs = Vec::new(alloc);
+        for _ in 0..run.switch_count() {
+            pairs.push(Condvar::new())?;
+        }
+        let shared = Shared {
+            run: Mutex::new(Some(run)),
+            pairs,
+            others: Condvar::new(),
+        };
+        Ok(RunDesk {
+            rt,
+            alloc,
+            shared: Arc::new(alloc, shared)?,
+        })
+    }
+
+    /// The same lock, for another worker.
+    pub fn again(&self) -> Result<RunDesk<R, L, E>, AllocError>
+        where R: Clone
+    {
+        Ok(RunDesk {
+            rt: self.rt.clone()?,
+            alloc: self.alloc,
+            shared: Arc::try_clone(&self.shared)?,
+        })
+    }
+
+    /// Begins the next update, or reports what became of the drain.
+    pub fn update(&self, seat: &mut Seat<L>) -> Result<Did, AllocError>
+        requires { IsCaller seat.old.worker }
+        ensures { IsUnmoved seat.old.worker seat.new.worker seat.old.share.parts seat.new.share.parts }
+    {
+        let mut guard = self.shared.run.lock(&self.rt);
+        let did = match &mut *guard {
+            None => Ok(Did::Stop),
+            Some(run) => run.update(self.alloc, seat),
+        };
+        if did == Ok(Did::Nothing) {
+            self.wait(guard, &self.shared.others);
+        } else {
+            drop(guard);
+            self.wake_all();
+        }
+        did
+    }
+
+    /// Lets the packet at a place of the lines come in.
+    pub fn come_in(&self, seat: &mut Seat<L>, place: usize) -> Result<Did, AllocError>
+        requires { IsTraffic (switches L.start) seat.old.worker }
+        ensures { IsUnmoved seat.old.worker seat.new.worker seat.old.share.parts seat.new.share.parts }
+    {
+        let did = match &mut *self.shared.run.lock(&self.rt) {
+            None => Ok(Did::Stop),
+            Some(run) => run.come_in(self.alloc, seat, place),
+        };
+        self.shared.others.notify_all();
+        did
+    }
+
+    /// Lets the first copy that may take another hop take it.
+    pub fn hop_on(&self, seat: &mut Seat<L>) -> Result<Did, AllocError>
+        requires { IsTraffic (switches L.start) seat.old.worker }
+        ensures { IsUnmoved seat.old.worker seat.new.worker seat.old.share.parts seat.new.share.parts }
+    {
+        let did = match &mut *self.shared.run.lock(&self.rt) {
+            None => Ok(Did::Stop),
+            Some(run) => run.hop_on(self.alloc, seat),
+        };
+        self.shared.others.notify_all();
+        did
+    }
+
+    /// Makes every worker stop.
+    pub fn close_all(&self) {
+        match &mut *self.shared.run.lock(&self.rt) {
+            None => {}
+            Some(run) => run.close(),
+        }
+        self.wake_all();
+    }
+
+    /// Lays a worker's seat back, as its last act.
+    pub fn lay(&self, seat: Seat<L>)
+        requires { seat.share.parts ≡ 1 }
+    {
+        match &mut *self.shared.run.lock(&self.rt) {
+            None => {}
+            Some(run) => run.lay(seat),
+        }
+    }
+
+    /// Waits until all seats are back and the run is closed or over, and takes it out.
+    pub fn finish(&self) -> Result<(Held<L, E>, Seat<L>), RunFault>
+        requires all { (L.all ≡ L.parts) × (0 < L.all) }
+        ensures parts { IfOk result (λ r. (r.1.worker ≡ 0) × (r.1.share.parts ≡ L.parts)) }
+        ensures steps { IfOk result (λ r. r.1.share.amount ≡ length r.0.journal) }
+        ensures over { IfOk result (λ r. IsOver L.lines r.0.world) }
+        ensures fault { IfErr result (λ f. f ≡ RunFault.Memory) }
+    {
+        for _ in self.rt.forever() {
+            let mut guard = self.shared.run.lock(&self.rt);
+            if is_done(&guard) {
+                if let Some(run) = guard.take() {
+                    return run.finish();
+                }
+            }
+            drop(guard);
+            thread::yield_now();
+        }
+        unreachable!()
+    }
+
+    // What wakes the workers of a switch, or else the others.
+    fn bell(&self, worker: usize) -> &Condvar {
+        let pairs = &self.shared.pairs;
+        if worker == 0 || pairs.is_empty() {
+            return &self.shared.others;
+        }
+        &pairs[(worker - 1) % pairs.len()]
+    }
+
+    // Waits, with the lock given up, until it rings.
+    fn wait(&self, guard: MutexGuard<'_, Option<Run<L, E>>>, bell: &Condvar) {
+        drop(bell.wait(&self.rt, guard));
+    }
+
+    // Wakes all workers that wait.
+    fn wake_all(&self) {
+        for bell in &self.shared.pairs {
+            bell.notify_all();
+        }
+        self.shared.others.notify_all();
+    }
+}
+
+// Whether there was nothing to do.
+fn is_idle(given: &Result<Given, AllocError>) -> bool {
+    matches!(given, Ok(Given::Nothing { made: None }))
+}
+
+// What decides for all workers whether there is something to do: the phase, and whether the coordinator has halted.
+#[derive(Clone, Copy, Debug, PartialEq, Eq)]
+struct Moment {
+    phase: Phase,
+    halted: bool,
+}
+
+fn moment<L: RunName, E: Link>(run: &Option<Run<L, E>>) -> Option<Moment> {
+    let coordinator = run.as_ref()?.world().coordinator();
+    Some(Moment {
+        phase: coordinator.phase(),
+        halted: coordinator.halt().is_some(),
+    })
+}
+
+// Whether there is a run, and it is done.
+fn is_done<L: RunName, E: Link>(run: &Option<Run<L, E>>) -> bool
+    ensures { result ≡ true → CanFinish L.all L.lines run.now }
+{
+    match run {
+        None => false,
+        Some(run) => run.is_done(),
+    }
+}
