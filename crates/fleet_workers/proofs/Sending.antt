@@ -1,14 +1,12 @@
 -- What was sent, with one more message.
-use Rattle.std.proofs.Common.{◌≡◌, ℕ, ◌+◌, ◌⊎◌, inl, inr, List, [], ◌∷◌, ◌++◌, take, Option, Some, None, refl, sym, ap, subst, ◌∙◌, append_assoc, append-nil}
+use Rattle.std.proofs.Common.{◌≡◌, ℕ, inl, inr, List, [], ◌∷◌, ◌++◌, take, Option, refl, sym, ap, ◌∙◌, append_assoc, append-nil}
 use Rattle.std.specs.Io.KnownBytes.{Appends}
 use Rattle.std.proofs.KnownBytes.{Appends-trans}
 use Rattle.openflow_wire.specs.declared.message.Message.{Message}
 use Rattle.openflow_wire.specs.Writing.{written}
 use Rattle.outside_io.specs.Lists.{AppendsPrefix}
-use Rattle.outside_net.specs.Told.{Grows}
 use Rattle.worker_desk.specs.Answers.{grown}
-use Rattle.fleet_workers.specs.Telling.{encoded, IsSentFor, Spans}
-use Rattle.fleet_workers.specs.Working.{Carries, Tells, Continues, IsFollowing}
+use Rattle.fleet_workers.specs.Telling.{encoded}
 use Rattle.fleet_workers.specs.Works.{IsAt, IsEnd}
 use Rattle.fleet_workers.proofs.Streaming.{grown-more, continues-tells}
 

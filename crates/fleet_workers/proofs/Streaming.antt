@@ -1,15 +1,14 @@
 -- What was told of a stream, with one more piece.
-use Rattle.std.proofs.Common.{◌≡◌, ℕ, zero, suc, ◌+◌, ◌≤◌, ◌⊎◌, inl, inr, List, [], ◌∷◌, ◌++◌, length, take, drop, Option, Some, None, refl, sym, ap, subst, ◌∙◌, arith, append_assoc, append-nil, length-append}
+use Rattle.std.proofs.Common.{◌≡◌, ℕ, ◌+◌, inl, inr, List, [], ◌∷◌, ◌++◌, length, take, drop, Option, Some, None, refl, sym, ap, subst, ◌∙◌, arith, append_assoc, length-append}
 use Rattle.std.proofs.lemmas.List.{take-append-le, drop-append-le}
 use Rattle.openflow_wire.specs.declared.message.Message.{Message}
 use Rattle.openflow_wire.specs.declared.fault.WireFault.{WireFault}
-use Rattle.openflow_wire.specs.Writing.{written}
 use Rattle.openflow_wire.specs.Spelling.{Spells}
 use Rattle.of_framing.specs.Streams.{IsFront, IsFault, Takes}
-use Rattle.worker_desk.specs.Streams.{TellsAt, TellsWhereKnown}
+use Rattle.worker_desk.specs.Streams.{TellsWhereKnown}
 use Rattle.outside_net.specs.Told.{Grows}
 use Rattle.worker_desk.specs.Answers.{grown}
-use Rattle.fleet_workers.specs.Telling.{encoded, Spans, IsToldOf}
+use Rattle.fleet_workers.specs.Telling.{Spans}
 use Rattle.fleet_workers.specs.Working.{Continues, Tells, IsFollowing}
 
 pub grown-more : {X : Type 0} (a : Option (List X)) (xs ys : List X) → grown (grown a xs) ys ≡ grown a (xs ++ ys)

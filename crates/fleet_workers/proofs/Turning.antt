@@ -1,10 +1,9 @@
 -- One turn of a worker.
-use Rattle.std.proofs.Common.{◌≡◌, ℕ, ◌+◌, ◌⊎◌, inl, inr, List, [], ◌∷◌, ◌++◌, take, length, Option, Some, None, refl, sym, ap, subst, ◌∙◌, append-nil}
+use Rattle.std.proofs.Common.{◌≡◌, ℕ, inl, List, [], ◌∷◌, ◌++◌, Option, Some, None, refl, sym, ap, subst, ◌∙◌, append-nil}
 use Rattle.std.specs.Prelude.{IfSome}
 use Rattle.std.specs.Io.KnownBytes.{Appends}
 use Rattle.openflow_wire.specs.declared.message.Message.{Message}
 use Rattle.openflow_wire.specs.Writing.{written}
-use Rattle.outside_io.specs.Lists.{AppendsPrefix}
 use Rattle.outside_net.specs.Told.{Grows}
 use Rattle.worker_desk.specs.Answers.{grown}
 use Rattle.fleet_workers.specs.Telling.{Spans}
@@ -13,8 +12,8 @@ use Rattle.fleet_workers.specs.Works.{IsAt, IsEnd}
 use Rattle.fleet_workers.specs.Turns.{HasEnd, GoesOn, Works, EndIs, GoesOnWith, SentTurn, ToldTurn}
 use Rattle.fleet_workers.specs.declared.post.After.{After}
 use Rattle.fleet_workers.specs.declared.post.After.TheVariants.{Going, Shut, Stop, Kept}
-use Rattle.fleet_workers.proofs.Streaming.{grows-more, spans-more, continues-tells}
-use Rattle.fleet_workers.proofs.Sending.{at-ends, at-sent, end-sent}
+use Rattle.fleet_workers.proofs.Streaming.{grows-more, spans-more}
+use Rattle.fleet_workers.proofs.Sending.{at-sent, end-sent}
 
 pub grown-none : {X : Type 0} (a : Option (List X)) → grown a [] ≡ a
 grown-none {X} None = refl

@@ -45,6 +45,7 @@ pub struct Inbox {
 }
 
 /// Where a worker stands: the desk that it asks, and the gate that it passes.
+#[derive(Drop)]
 pub struct Post<'a, D: Desk, G: Gate> {
     pub(crate) alloc: Global,
     pub(crate) desk: &'a D,

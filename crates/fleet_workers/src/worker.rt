@@ -7,15 +7,12 @@ ghost use Rattle.world_journal.specs.Journals.{switches};
 use crate::passing::Who;
 use crate::post::Post;
 use outside_net::{Gate, Job, Link};
-use std::alloc::Global;
 use std::sync::{Arc, Wait};
 use world_journal::{RunDesk, RunName, Seat};
 
 /// A worker with its seat and its end.
 #[derive(Drop)]
 pub struct Worker<R: Wait + Drop, L: RunName, E: Link, G: Gate> {
-    rt: R,
-    alloc: Global,
     desk: RunDesk<R, L, E>,
     seat: Seat<L>,
     end: E,
@@ -30,8 +27,6 @@ pub struct Worker<R: Wait + Drop, L: RunName, E: Link, G: Gate> {
 impl<R: Wait + Drop, L: RunName, E: Link, G: Gate> Worker<R, L, E, G> {
     /// The worker of this seat, at this end: a session's, or else a switch's.
     pub fn new(
-        rt: R,
-        alloc: Global,
         desk: RunDesk<R, L, E>,
         seat: Seat<L>,
         end: E,
@@ -43,8 +38,6 @@ impl<R: Wait + Drop, L: RunName, E: Link, G: Gate> Worker<R, L, E, G> {
         requires fresh { is_fresh (E.received end) ≡ true }
     {
         Worker {
-            rt,
-            alloc,
             desk,
             seat,
             end,
@@ -56,7 +49,6 @@ impl<R: Wait + Drop, L: RunName, E: Link, G: Gate> Worker<R, L, E, G> {
 
 // Works, and lays the seat back.
 fn run_worker<R: Wait + Drop, L: RunName, E: Link, G: Gate>(
-    rt: &R,
     post: &Post<'_, RunDesk<R, L, E>, G>,
     seat: Seat<L>,
     end: E,
@@ -66,7 +58,7 @@ fn run_worker<R: Wait + Drop, L: RunName, E: Link, G: Gate>(
     requires fresh { is_fresh (E.received end) ≡ true }
 {
     let mut seat = seat;
-    drop(post.work(rt, &mut seat, end));
+    drop(post.work(post.desk.runtime(), &mut seat, end));
     post.desk.lay(seat);
 }
 
@@ -78,8 +70,6 @@ impl<
 > Job for Worker<R, L, E, G> {
     fn run(self) {
         let Worker {
-            rt,
-            alloc,
             desk,
             seat,
             end,
@@ -87,7 +77,7 @@ impl<
             session,
         } = self;
         let post = Post {
-            alloc,
+            alloc: desk.alloc(),
             desk: &desk,
             gate: &*gate,
             who: Who {
@@ -95,6 +85,6 @@ impl<
                 session,
             },
         };
-        run_worker(&rt, &post, seat, end);
+        run_worker(&post, seat, end);
     }
 }

@@ -1,3 +1,5 @@
 pub mod Staying
 pub mod Growing
 pub mod Marks
+pub mod Ended
+pub mod Crossing

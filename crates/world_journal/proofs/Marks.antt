@@ -6,7 +6,7 @@ use Rattle.std.proofs.lemmas.List.Sorted.{IsPermutation-refl, IsPermutation-cons
 use Rattle.update_laws.specs.Traffic.{Arrived}
 use Rattle.world_core.specs.Worlds.{WorldValue}
 use Rattle.world_journal.specs.declared.line.Line.{Line}
-use Rattle.world_journal.specs.Arriving.{lines_of, marked, unmarked, HaveArrived, AreSpent, IsDone, IsOver, last_phase}
+use Rattle.world_journal.specs.Arriving.{lines_of, marked, unmarked, HaveArrived, AreSpent, IsDone, last_phase}
 
 some-is : {X : Type 0} (x y : X) → Some x ≡ Some y → x ≡ y
 some-is x y e = cc
@@ -56,8 +56,8 @@ arrived-more lines marks arrivals now k v h m l is = record {
   long = length-set marks k true ∙ h.long;
   same = subst (λ (ls : List Line). IsPermutation ls (marked lines (slice_set marks k true))) (sym is)
       (IsPermutation-trans (lines_of arrivals ++ v ∷ []) (marked lines marks ++ v ∷ []) (marked lines (slice_set marks k true))
-        (IsPermutation-append (lines_of arrivals) (marked lines marks) (v ∷ []) (v ∷ []) h.same (IsPermutation-refl (v ∷ [])))
-        (marked-set lines marks k v m l));
+      (IsPermutation-append (lines_of arrivals) (marked lines marks) (v ∷ []) (v ∷ []) h.same (IsPermutation-refl (v ∷ [])))
+      (marked-set lines marks k v m l));
 }
 
 pub arrived-same : (lines : List Line) (marks : List Bool) (arrivals now : List Arrived) → HaveArrived lines marks arrivals → lines_of now ≡ lines_of arrivals → HaveArrived lines marks now

@@ -1,15 +1,15 @@
 -- What stays the same in every step.
-use Rattle.std.proofs.Common.{◌≡◌, ℕ, zero, suc, Bool, true, false, List, [], ◌∷◌, ◌++◌, length, map, Option, Some, slice_get, slice_set, refl, sym, ap, subst, ◌∙◌}
+use Rattle.std.proofs.Common.{◌≡◌, ℕ, zero, suc, false, Result, Ok, Err, OnOk, OnErr, List, [], ◌∷◌, ◌++◌, length, Option, Some, slice_get, slice_set, refl, sym, ap, ◌∙◌}
 use Rattle.std.proofs.lemmas.List.{length-set}
 use Rattle.nk_values.specs.declared.packet.Packet.{Packet}
-use Rattle.update_laws.specs.Fleets.{End, Fleet}
+use Rattle.update_laws.specs.Fleets.{Fleet}
 use Rattle.update_laws.specs.Traffic.{Arrived}
 use Rattle.world_core.specs.declared.event.Event.{Event}
 use Rattle.world_core.specs.declared.event.Event.TheVariants as event
 use Rattle.world_core.specs.Worlds.{WorldValue}
 use Rattle.world_core.specs.Steps.{Step, Runs}
 use Rattle.world_journal.specs.declared.line.Line.{Line}
-use Rattle.world_journal.specs.Journals.{switches}
+use Rattle.world_journal.specs.Journals.{switches, HeldValue}
 use Rattle.world_journal.specs.Arriving.{line_of, lines_of, is_arrival}
 
 -- ---- the number of switches
@@ -71,3 +71,8 @@ step-lines w (event.Foreign p side got) v s plain = lines-same w v (ap (λ (x : 
 
 pub arrival-line : (w : WorldValue) (pk : Packet) (tag : Option ℕ) (v : WorldValue) → Step w (event.Arrive pk tag) v → lines_of v.arrivals ≡ lines_of w.arrivals ++ record { packet = pk; tag = tag } ∷ []
 arrival-line w pk tag v s = ap (λ (x : WorldValue). lines_of x.arrivals) s.now ∙ lines-more w.arrivals _
+
+-- a call that did such a step or left all as it was
+pub call-lines : {E T F : Type 0} (old new : HeldValue E) (Q : Type 0) (r : Result T F) (e : Event) → OnOk r (Step old.world e new.world) → OnErr r ((new ≡ old) × Q) → is_arrival e ≡ false → lines_of new.world.arrivals ≡ lines_of old.world.arrivals
+call-lines old new Q (Ok x) e s n plain = step-lines old.world e new.world s plain
+call-lines old new Q (Err x) e s n plain = ap (λ h. lines_of h.world.arrivals) n.0

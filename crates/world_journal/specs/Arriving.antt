@@ -1,6 +1,5 @@
 -- Which of the packets that are to come in have come in, and when a run is over.
-use Rattle.std.specs.Prelude.{◌≡◌, ◌≢◌, ◌≤◌, ◌⊎◌, ℕ, ◌+◌, Bool, true, false, List, [], ◌∷◌, length, map, None, IsPermutation}
-use Rattle.nk_values.specs.Members.{IsIn}
+use Rattle.std.specs.Prelude.{◌≡◌, ◌≢◌, ◌≤◌, ◌⊎◌, ℕ, ◌+◌, Bool, true, false, List, [], ◌∷◌, length, map, None, All, IsPermutation}
 use Rattle.packet_tracer.specs.declared.flight.Flight.{Flight}
 use Rattle.update_coordinator.specs.declared.phase.Phase.TheVariants as phase
 use Rattle.update_coordinator.specs.declared.phase.Phase.{Phase}
@@ -44,7 +43,7 @@ last_phase w = phase.Idle (length w.versions)
 
 -- no copy may take another hop
 abbrev pub AreSpent : WorldValue → Type 0
-AreSpent w = (f : Flight) → IsIn w.flights f → w.limit ≤ f.hops
+AreSpent w = All (λ (f : Flight). w.limit ≤ f.hops) w.flights
 
 -- The last policy handles all packets, each line came in once, and no copy may take another hop.
 pub record IsDone (lines : List Line) (w : WorldValue) : Type 0 where

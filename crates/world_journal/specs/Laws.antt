@@ -1,8 +1,7 @@
 -- What follows for whoever reads the answers of a run.
-use Rattle.std.specs.Prelude.{◌≡◌, ◌<◌, ℕ, Some, None, true, slice_get}
+use Rattle.std.specs.Prelude.{◌≡◌, ℕ, Some, true, slice_get}
 use Rattle.openflow_wire.specs.declared.message.Message.TheVariants as to
 use Rattle.update_coordinator.specs.declared.cause.Side.TheVariants as side
-use Rattle.update_laws.specs.Fleets.{End}
 use Rattle.world_core.specs.declared.event.Event.TheVariants as event
 use Rattle.world_core.specs.Worlds.{WorldValue}
 use Rattle.world_core.specs.Ends.{new_end}

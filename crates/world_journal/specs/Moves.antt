@@ -1,8 +1,8 @@
 -- What the calls of the caller and of the workers that bring packets in answer, by the state that they find.
-use Rattle.std.specs.Prelude.{◌≡◌, ◌⊎◌, ℕ, Bool, true, false, List, Some, None, slice_get}
+use Rattle.std.specs.Prelude.{◌≡◌, ◌⊎◌, ℕ, true, List, None, slice_get}
 use Rattle.world_core.specs.declared.event.Event.{Event}
 use Rattle.world_core.specs.declared.event.Event.TheVariants as event
-use Rattle.world_journal.specs.Arriving.{AreSpent, IsOver}
+use Rattle.world_journal.specs.Arriving.{IsOver}
 use Rattle.world_journal.specs.Calls.{Made, Arrives}
 use Rattle.world_journal.specs.Runs.{RunValue}
 use Rattle.world_journal.specs.declared.line.Line.{Line}
@@ -15,7 +15,7 @@ ComesIn w lines place old new Step = Arrives w lines place old new
 ComesIn w lines place old new Nothing = new ≡ old
 ComesIn w lines place old new Stop = ((old.closed ≡ true) ⊎ (slice_get old.arrived place ≡ None)) × (new ≡ old)
 
--- A copy takes a hop; or none may; or the run was closed.
+-- A copy takes a hop; or there is nothing now; or the run was closed.
 abbrev pub HopsOn : {E : Type 0} → ℕ → RunValue E → RunValue E → Did → Type 0
 HopsOn w old new Step = (k : ℕ) × Made w (event.Hop k) old new
 HopsOn w old new Nothing = new ≡ old

@@ -2,7 +2,6 @@
 use Rattle.std.specs.Prelude.{◌≡◌, ◌≢◌, ◌⊎◌, ℕ, ◌&&◌, Bool, true, false, List, is_some, Option, Some, None, slice_get, slice_set}
 use Rattle.update_coordinator.specs.declared.cause.Side.{Side}
 use Rattle.update_coordinator.specs.declared.cause.Side.TheVariants as side
-use Rattle.world_core.specs.Worlds.{WorldValue}
 use Rattle.world_core.specs.Channels.{IsQuiet, newest_at}
 use Rattle.world_journal.specs.Journals.{HeldValue}
 use Rattle.world_journal.specs.Arriving.{last_phase}

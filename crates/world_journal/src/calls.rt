@@ -100,7 +100,11 @@ impl<L: RunName, E: Link> Run<L, E> {
         ensures answer { Shuts (Stops self.now (side_of (switches L.start) seat.now.worker) (place_of (switches L.start) seat.now.worker)) result }
     {
         let (side, s) = position(self.switch_count(), seat.worker());
-        if self.stops(side, s) { Shut::Stop } else { Shut::Nothing }
+        if self.stops(side, s) {
+            Shut::Stop
+        } else {
+            Shut::Nothing
+        }
     }
 }
 

@@ -21,8 +21,13 @@ pub struct Held<L: RunName, E: Link> {
 impl<L: RunName, E: Link> Model for Held<L, E> {
     ghost use Rattle.std.specs.Prelude.{◌≡◌, length};
     ghost use Rattle.world_journal.specs.Journals.{HeldValue, IsJournal};
+    ghost use Rattle.nk_syntax.specs.contracts.pol.Pol as pols;
+    ghost use Rattle.std.specs.Coded.{codes};
 
     ghost Value = { HeldValue E };
+
+    // a policy holds itself, so its code is named
+    ghost coded = { Prim.hlevel (codes, pols.the_row.coded) };
 
     ghost view = { λ h. record { world = h.world; journal = h.journal.items; ends = h.ends.items } };
 
@@ -64,12 +69,7 @@ impl<L: RunName, E: Link> Held<L, E> {
     }
 
     /// Does an event that this worker may make, but for those for which an end is kept, and notes it.
-    pub fn step(
-        &mut self,
-        alloc: Global,
-        seat: &mut Seat<L>,
-        event: Event,
-    ) -> Result<(), StepFault>
+    pub fn step(&mut self, alloc: Global, seat: &mut Seat<L>, event: Event) -> Result<(), StepFault>
         requires maker { MayMake (switches L.start) seat.old.worker event }
         requires plain { is_cut event ≡ false }
         ensures world { OnOk result (Step self.old.world event self.new.world) }

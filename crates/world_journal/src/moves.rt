@@ -1,8 +1,7 @@
 // What the caller and the workers that bring packets in ask of a run.
-ghost use Rattle.std.specs.Prelude.{◌≡◌, IfOk, IfSome, IfNone, OnErr};
+ghost use Rattle.std.specs.Prelude.{◌≡◌, IfOk, IfSome, OnErr};
 ghost use Rattle.world_journal.specs.Journals.{switches};
 ghost use Rattle.world_journal.specs.Makers.{IsCaller, IsTraffic};
-ghost use Rattle.world_journal.specs.Arriving.{AreSpent};
 ghost use Rattle.world_journal.specs.Moves.{ComesIn, HopsOn, IsUpdate, Updates};
 ghost use Rattle.world_journal.specs.Calls.{IsUnmoved};
 
@@ -28,7 +27,12 @@ pub enum Did {
 impl<L: RunName, E: Link> Run<L, E> {
     /// Lets the packet at a place of the lines come in. There is no more to do at a place behind the last one, or
     /// where the run was closed.
-    pub fn come_in(&mut self, alloc: Global, seat: &mut Seat<L>, place: usize) -> Result<Did, AllocError>
+    pub fn come_in(
+        &mut self,
+        alloc: Global,
+        seat: &mut Seat<L>,
+        place: usize,
+    ) -> Result<Did, AllocError>
         requires { IsTraffic (switches L.start) seat.old.worker }
         ensures seat { IsUnmoved seat.old.worker seat.new.worker seat.old.share.parts seat.new.share.parts }
         ensures answer { IfOk result (ComesIn seat.old.worker L.lines place self.old self.new) }
@@ -91,9 +95,7 @@ impl<L: RunName, E: Link> Run<L, E> {
 }
 
 // The first copy that may take another hop.
-fn first_hop(world: &World) -> Option<usize>
-    ensures { IfNone result (AreSpent world.now) }
-{
+fn first_hop(world: &World) -> Option<usize> {
     let most = world.hops();
     world
         .flights()
@@ -121,11 +123,8 @@ fn drain(world: &World, stamp: u16) -> Event
     ensures { IsUpdate result }
 {
     let most = world.hops();
-    let stuck = world
-        .flights()
-        .as_slice()
-        .iter()
-        .position(|flight| flight.hops >= most && flight.tag.id() == Some(stamp));
+    let stuck = world.flights().as_slice().iter().position(|flight| flight.hops >= most
+        && flight.tag.id() == Some(stamp));
     match stuck {
         Some(place) => Event::Stuck(place),
         None => Event::Drained(stamp),

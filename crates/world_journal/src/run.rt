@@ -1,5 +1,5 @@
 // What lies under the one lock of a run.
-ghost use Rattle.std.specs.Prelude.{◌≡◌, ◌↔◌, IsTrue};
+ghost use Rattle.std.specs.Prelude.{◌≡◌, ◌↔◌, IsTrue, true};
 ghost use Rattle.world_core.specs.Worlds.{WorldValue};
 ghost use Rattle.world_journal.specs.Arriving.{AreSpent, last_phase};
 
@@ -45,8 +45,13 @@ impl<L: RunName, E: Link> Model for Run<L, E> {
     ghost use Rattle.world_journal.specs.Arriving.{HaveArrived, unmarked};
     ghost use Rattle.world_journal.specs.Journals.{switches};
     ghost use Rattle.world_journal.specs.Runs.{RunValue};
+    ghost use Rattle.nk_syntax.specs.contracts.pol.Pol as pols;
+    ghost use Rattle.std.specs.Coded.{codes};
 
     ghost Value = { RunValue E };
+
+    // a policy holds itself, so its code is named
+    ghost coded = { Prim.hlevel (codes, pols.the_row.coded) };
 
     ghost view = { λ r. record { held = r.held; arrived = r.arrived.items; closed = r.closed; back = r.back; to_waits = r.to_waits.items; back_waits = r.back_waits.items } };
 
@@ -109,12 +114,7 @@ impl<L: RunName, E: Link> Run<L, E> {
     }
 
     /// Makes a step, but for arrivals and for what ends a session.
-    pub fn step(
-        &mut self,
-        alloc: Global,
-        seat: &mut Seat<L>,
-        event: Event,
-    ) -> Result<(), StepFault>
+    pub fn step(&mut self, alloc: Global, seat: &mut Seat<L>, event: Event) -> Result<(), StepFault>
         requires maker { MayMake (switches L.start) seat.old.worker event }
         requires plain { (is_cut event ≡ false) × (is_arrival event ≡ false) }
         ensures made { OnOk result (Made seat.old.worker event self.old self.new) }
@@ -226,7 +226,9 @@ impl<L: RunName, E: Link> Run<L, E> {
         ensures { IsTrue result ↔ Stops self.now side s }
     {
         let world = self.held.world();
-        self.closed || world.coordinator().halt().is_some() || (is_last(world) && world.is_quiet(s, side))
+        self.closed
+            || world.coordinator().halt().is_some()
+            || (is_last(world) && world.is_quiet(s, side))
     }
 
     /// Makes every worker stop: memory was wanting, or a thread.
@@ -261,7 +263,16 @@ impl<L: RunName, E: Link> Run<L, E> {
         ensures { result ≡ true → IsOver L.lines self.now.held.world }
     {
         let world = self.held.world();
-        world.coordinator().halt().is_some() || (self.left == 0 && is_last(world) && are_spent(world))
+        if world.coordinator().halt().is_some() {
+            return true;
+        }
+        if self.left > 0 {
+            return false;
+        }
+        if !is_last(world) {
+            return false;
+        }
+        are_spent(world)
     }
 
     /// Whether all seats were laid back, and the run is closed or over.
@@ -317,8 +328,12 @@ fn is_last(world: &World) -> bool
 
 // Whether no copy may take another hop.
 fn are_spent(world: &World) -> bool
-    ensures { result ≡ true → AreSpent world.now }
+    ensures { IsTrue result ↔ AreSpent world.now }
 {
     let most = world.hops();
-    world.flights().as_slice().iter().all(|flight| flight.hops >= most)
+    world
+        .flights()
+        .as_slice()
+        .iter()
+        .all(|flight| flight.hops >= most)
 }

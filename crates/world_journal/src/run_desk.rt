@@ -18,10 +18,9 @@ use std::thread;
 use update_coordinator::Phase;
 use worker_desk::{Desk, Given, Shut, Told};
 
-// The run, and what wakes the workers that wait for steps of others: those of each switch, and all others.
+// What wakes the workers that wait for steps of others: those of each switch, and all others.
 #[derive(Drop)]
-struct Shared<L: RunName, E: Link> {
-    run: Mutex<Option<Run<L, E>>>,
+struct Bells {
     pairs: Vec<Condvar>,
     others: Condvar,
 }
@@ -33,7 +32,8 @@ struct Shared<L: RunName, E: Link> {
 pub struct RunDesk<R, L: RunName, E: Link> {
     rt: R,
     alloc: Global,
-    shared: Arc<Shared<L, E>>,
+    run: Arc<Mutex<Option<Run<L, E>>>>,
+    bells: Arc<Bells>,
 }
 
 impl<R: Wait + Drop, L: RunName, E: Link> Desk for RunDesk<R, L, E> {
@@ -52,7 +52,7 @@ impl<R: Wait + Drop, L: RunName, E: Link> Desk for RunDesk<R, L, E> {
     ghost kept = { λ s. None };
 
     fn give(&self, seat: &mut Seat<L>) -> Result<Given, AllocError> {
-        let mut guard = self.shared.run.lock(&self.rt);
+        let mut guard = self.run.lock(&self.rt);
         let given = match &mut *guard {
             None => Ok(Given::Stop),
             Some(run) => run.give(self.alloc, seat),
@@ -67,13 +67,13 @@ impl<R: Wait + Drop, L: RunName, E: Link> Desk for RunDesk<R, L, E> {
     }
 
     fn tell(&self, seat: &mut Seat<L>, bytes: &[u8], end: E, k: u64) -> Told<E> {
-        let mut guard = self.shared.run.lock(&self.rt);
-        let before = moment(&guard);
+        let mut guard = self.run.lock(&self.rt);
+        let before = moment_of(&guard);
         let told = match &mut *guard {
             None => Told::Back { end, made: None },
             Some(run) => run.tell(self.alloc, seat, bytes, end, k),
         };
-        let after = moment(&guard);
+        let after = moment_of(&guard);
         drop(guard);
         if before == after {
             self.bell(seat.worker()).notify_all();
@@ -84,7 +84,7 @@ impl<R: Wait + Drop, L: RunName, E: Link> Desk for RunDesk<R, L, E> {
     }
 
     fn lost(&self, seat: &mut Seat<L>, end: E) -> Told<E> {
-        let told = match &mut *self.shared.run.lock(&self.rt) {
+        let told = match &mut *self.run.lock(&self.rt) {
             None => Told::Back { end, made: None },
             Some(run) => run.lost(self.alloc, seat, end),
         };
@@ -93,7 +93,7 @@ impl<R: Wait + Drop, L: RunName, E: Link> Desk for RunDesk<R, L, E> {
     }
 
     fn shut(&self, seat: &mut Seat<L>) -> Shut {
-        let guard = self.shared.run.lock(&self.rt);
+        let guard = self.run.lock(&self.rt);
         let shut = match &*guard {
             None => Shut::Stop,
             Some(run) => run.shut(seat),
@@ -116,27 +116,39 @@ impl<R: Wait + Drop, L: RunName, E: Link> RunDesk<R, L, E> {
         for _ in 0..run.switch_count() {
             pairs.push(Condvar::new())?;
         }
-        let shared = Shared {
-            run: Mutex::new(Some(run)),
+        let bells = Bells {
             pairs,
             others: Condvar::new(),
         };
         Ok(RunDesk {
             rt,
             alloc,
-            shared: Arc::new(alloc, shared)?,
+            run: Arc::new(alloc, Mutex::new(Some(run)))?,
+            bells: Arc::new(alloc, bells)?,
         })
     }
 
     /// The same lock, for another worker.
     pub fn again(&self) -> Result<RunDesk<R, L, E>, AllocError>
-        where R: Clone
+    where
+        R: Clone,
     {
         Ok(RunDesk {
             rt: self.rt.clone()?,
             alloc: self.alloc,
-            shared: Arc::try_clone(&self.shared)?,
+            run: Arc::try_clone(&self.run)?,
+            bells: Arc::try_clone(&self.bells)?,
         })
+    }
+
+    /// The runtime that its calls wait by.
+    pub fn runtime(&self) -> &R {
+        &self.rt
+    }
+
+    /// The allocator of its calls.
+    pub fn alloc(&self) -> Global {
+        self.alloc
     }
 
     /// Begins the next update, or reports what became of the drain.
@@ -144,13 +156,13 @@ impl<R: Wait + Drop, L: RunName, E: Link> RunDesk<R, L, E> {
         requires { IsCaller seat.old.worker }
         ensures { IsUnmoved seat.old.worker seat.new.worker seat.old.share.parts seat.new.share.parts }
     {
-        let mut guard = self.shared.run.lock(&self.rt);
+        let mut guard = self.run.lock(&self.rt);
         let did = match &mut *guard {
             None => Ok(Did::Stop),
             Some(run) => run.update(self.alloc, seat),
         };
         if did == Ok(Did::Nothing) {
-            self.wait(guard, &self.shared.others);
+            self.wait(guard, &self.bells.others);
         } else {
             drop(guard);
             self.wake_all();
@@ -163,11 +175,11 @@ impl<R: Wait + Drop, L: RunName, E: Link> RunDesk<R, L, E> {
         requires { IsTraffic (switches L.start) seat.old.worker }
         ensures { IsUnmoved seat.old.worker seat.new.worker seat.old.share.parts seat.new.share.parts }
     {
-        let did = match &mut *self.shared.run.lock(&self.rt) {
+        let did = match &mut *self.run.lock(&self.rt) {
             None => Ok(Did::Stop),
             Some(run) => run.come_in(self.alloc, seat, place),
         };
-        self.shared.others.notify_all();
+        self.bells.others.notify_all();
         did
     }
 
@@ -176,17 +188,17 @@ impl<R: Wait + Drop, L: RunName, E: Link> RunDesk<R, L, E> {
         requires { IsTraffic (switches L.start) seat.old.worker }
         ensures { IsUnmoved seat.old.worker seat.new.worker seat.old.share.parts seat.new.share.parts }
     {
-        let did = match &mut *self.shared.run.lock(&self.rt) {
+        let did = match &mut *self.run.lock(&self.rt) {
             None => Ok(Did::Stop),
             Some(run) => run.hop_on(self.alloc, seat),
         };
-        self.shared.others.notify_all();
+        self.bells.others.notify_all();
         did
     }
 
     /// Makes every worker stop.
     pub fn close_all(&self) {
-        match &mut *self.shared.run.lock(&self.rt) {
+        match &mut *self.run.lock(&self.rt) {
             None => {}
             Some(run) => run.close(),
         }
@@ -197,7 +209,7 @@ impl<R: Wait + Drop, L: RunName, E: Link> RunDesk<R, L, E> {
     pub fn lay(&self, seat: Seat<L>)
         requires { seat.share.parts ≡ 1 }
     {
-        match &mut *self.shared.run.lock(&self.rt) {
+        match &mut *self.run.lock(&self.rt) {
             None => {}
             Some(run) => run.lay(seat),
         }
@@ -212,7 +224,7 @@ impl<R: Wait + Drop, L: RunName, E: Link> RunDesk<R, L, E> {
         ensures fault { IfErr result (λ f. f ≡ RunFault.Memory) }
     {
         for _ in self.rt.forever() {
-            let mut guard = self.shared.run.lock(&self.rt);
+            let mut guard = self.run.lock(&self.rt);
             if is_done(&guard) {
                 if let Some(run) = guard.take() {
                     return run.finish();
@@ -226,9 +238,9 @@ impl<R: Wait + Drop, L: RunName, E: Link> RunDesk<R, L, E> {
 
     // What wakes the workers of a switch, or else the others.
     fn bell(&self, worker: usize) -> &Condvar {
-        let pairs = &self.shared.pairs;
+        let pairs = &self.bells.pairs;
         if worker == 0 || pairs.is_empty() {
-            return &self.shared.others;
+            return &self.bells.others;
         }
         &pairs[(worker - 1) % pairs.len()]
     }
@@ -240,10 +252,10 @@ impl<R: Wait + Drop, L: RunName, E: Link> RunDesk<R, L, E> {
 
     // Wakes all workers that wait.
     fn wake_all(&self) {
-        for bell in &self.shared.pairs {
+        for bell in &self.bells.pairs {
             bell.notify_all();
         }
-        self.shared.others.notify_all();
+        self.bells.others.notify_all();
     }
 }
 
@@ -259,7 +271,7 @@ struct Moment {
     halted: bool,
 }
 
-fn moment<L: RunName, E: Link>(run: &Option<Run<L, E>>) -> Option<Moment> {
+fn moment_of<L: RunName, E: Link>(run: &Option<Run<L, E>>) -> Option<Moment> {
     let coordinator = run.as_ref()?.world().coordinator();
     Some(Moment {
         phase: coordinator.phase(),

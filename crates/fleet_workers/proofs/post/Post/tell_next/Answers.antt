@@ -1,6 +1,5 @@
-use Rattle.std.proofs.Common.{◌≡◌, ℕ, List, Option, take, drop, sym, ap, ◌∙◌, refl, subst}
-use Rattle.of_framing.specs.Streams.{IsFront, IsFault}
-use Rattle.fleet_workers.proofs.Streaming.{tells-message, tells-fault, following-next, continues-next, continues-tells, fault-tells, next-tells}
+use Rattle.std.proofs.Common.{◌∙◌}
+use Rattle.fleet_workers.proofs.Streaming.{tells-message, tells-fault, following-next, continues-next, fault-tells, next-tells}
 use Rattle.fleet_workers.proofs.post.Post.tell_next.Goals as goal
 
 pub tell-requires-clause-stream : goal.tell-requires-clause-stream

@@ -1,5 +1,4 @@
-use Rattle.std.proofs.Common.{◌≡◌, [], ◌∷◌, List, ℕ, Option, sym, ap, ◌∙◌, subst}
-use Rattle.openflow_wire.specs.declared.message.Message.{Message}
+use Rattle.std.proofs.Common.{List, ℕ, Option, sym, ap, ◌∙◌, subst}
 use Rattle.worker_desk.specs.Answers.{grown, message_of}
 use Rattle.worker_desk.specs.declared.desk.Given.{Given}
 use Rattle.fleet_workers.specs.Working.{Continues}

@@ -1,4 +1,4 @@
-use Rattle.std.proofs.Common.{◌≡◌, refl, rules}
+use Rattle.std.proofs.Common.{refl}
 use Rattle.fleet_workers.proofs.Turning.{at-start, following-start}
 use Rattle.fleet_workers.proofs.post.Post.work.Goals as goal
 
@@ -7,8 +7,8 @@ loop-init g c = record {
   seated = c.requires.seat.0;
   place = refl;
   named = refl;
-  following = following-start (g.D.End.Link.received c.args.end) c.new-framer.result c.requires.fresh c.new-framer.ensures;
-  at = at-start (g.D.Desk.given c.args.seat.now) (g.D.Desk.told c.args.seat.now) (g.D.End.Link.sent c.args.end) (g.D.End.Link.received c.args.end) c.new-framer.result c.new-framer.ensures;
+  following = following-start (g.D.End.Link.received c.args.end) c.new.result c.requires.fresh c.new.ensures;
+  at = at-start (g.D.Desk.given c.args.seat.now) (g.D.Desk.told c.args.seat.now) (g.D.End.Link.sent c.args.end) (g.D.End.Link.received c.args.end) c.new.result c.new.ensures;
 }
 
 pub returns-in-Shut-clause-worked : goal.returns-in-Shut-clause-worked
