@@ -1,5 +1,5 @@
 // Look-ups in tables to which rows are added.
-use flow_table::{ChangeError, ChangeFault, Table};
+use flow_index::{ChangeError, ChangeFault, Table};
 use nk_values::{
     ANY_PORT, Action, Actions, Command, FlowMod, Header, Pattern, Prefix, Tag, UNTAGGED,
 };
@@ -126,4 +126,57 @@ fn exact_rows_outrank(rt: HostRuntime) {
     let rows = [(Pattern::any(), 65535, 2), (exact(), 1, 3), (exact(), 2, 4)];
     assert_eq!(rt; added(rt.alloc(), 3, &rows[..2]), (3, 2, Ok(())));
     assert_eq!(rt; added(rt.alloc(), 3, &rows), (4, 3, Ok(())));
+}
+
+// Removes the row with this pattern and priority.
+fn remove(
+    alloc: Global,
+    table: &mut Table,
+    pattern: Pattern,
+    priority: u16,
+) -> Result<(), ChangeError> {
+    let change = FlowMod {
+        command: Command::DeleteStrict,
+        pattern,
+        priority,
+        out_port: ANY_PORT,
+        actions: Actions::new(alloc),
+    };
+    table.change(alloc, &change)
+}
+
+// A table with a row for all packets, of this priority, and one of priority 10 for untagged ones at port 1.
+fn two_rows(alloc: Global, priority: u16) -> Table {
+    let mut table = Table::new(alloc, 2);
+    let untagged = Pattern {
+        dl_vlan: Some(UNTAGGED),
+        ..at_one()
+    };
+    let _all = add(alloc, &mut table, Pattern::any(), priority, 3);
+    let _one = add(alloc, &mut table, untagged, 10, 2);
+    table
+}
+
+// Where an untagged packet goes at port 1 by both rows, and by the second alone; and whether a row hits it there with
+// tag 7 then.
+fn alone(alloc: Global, priority: u16) -> (u16, u16, bool) {
+    let mut table = two_rows(alloc, priority);
+    let both = met(&table);
+    let _gone = remove(alloc, &mut table, Pattern::any(), priority);
+    let tagged = Tag::vlan(7).unwrap_or(Tag::none());
+    let hit = table.look_up(1, &HEADER, tagged).is_some();
+    (both, met(&table), hit)
+}
+
+#[test]
+fn a_row_of_another_group_outranks(rt: HostRuntime) {
+    assert_eq!(rt; alone(rt.alloc(), 20), (3, 2, false));
+    assert_eq!(rt; alone(rt.alloc(), 5), (2, 2, false));
+}
+
+#[test]
+fn of_rows_that_tie_one_acts(rt: HostRuntime) {
+    let (both, one, hit) = alone(rt.alloc(), 10);
+    assert!(rt; both == 2 || both == 3);
+    assert_eq!(rt; (one, hit), (2, false));
 }

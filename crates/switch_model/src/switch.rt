@@ -7,7 +7,7 @@ ghost use Rattle.switch_model.specs.Switches.{bad_type, features, message_of, Ou
 
 use crate::pending::Pending;
 use crate::refusing::{bad_type, table_full};
-use flow_table::{ChangeError, ChangeFault, Table};
+use flow_index::{ChangeError, ChangeFault, Table};
 use nk_values::FlowMod;
 use openflow_wire::{Message, Octets};
 use std::alloc::{AllocError, Global};

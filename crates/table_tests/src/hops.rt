@@ -5,7 +5,7 @@ ghost use Rattle.nk_values.specs.Members.{IsIn};
 ghost use Rattle.nk_values.specs.Changes.{row_of};
 
 use crate::networks::{Net, topology};
-use flow_table::{ChangeError, Table};
+use flow_index::{ChangeError, Table};
 use nk_values::{
     ANY_PORT, Action, Actions, Command, FlowMod, Header, History, IN_PORT, Packet, Pattern, Tag,
     in_range,

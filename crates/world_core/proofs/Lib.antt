@@ -3,6 +3,7 @@ mod Doing
 mod Standing
 mod Beginning
 mod Trying
+mod Staying
 mod Good
 mod Runs
 mod Tables

@@ -4,7 +4,7 @@ ghost use Rattle.std.specs.Prelude.{◌≡◌, ◌<◌, IsSomeAnd, length, slice
 use crate::arrival::Arrival;
 use crate::flights::Flights;
 use crate::world::World;
-use flow_table::Table;
+use flow_index::Table;
 use openflow_wire::Message;
 use policy_rows::Version;
 use std::collections::VecDeque;
