@@ -1,0 +1,10 @@
+mod Building
+mod Faultless
+mod Sweeping
+mod Turning
+mod Results
+mod Nearing
+mod Unhalted
+mod Lines
+mod Endings
+mod Readying

@@ -1,0 +1,15 @@
+//! Workloads from a number: documents that a generator of random words draws, and runs by events that it draws.
+#![tactic(auto)]
+
+mod compiling;
+mod documents;
+mod drawing;
+mod laws;
+mod policies;
+mod sweep;
+mod words;
+
+pub use compiling::versions;
+pub use documents::generate;
+pub use drawing::draw;
+pub use laws::runs_end;
