@@ -1,4 +1,5 @@
 mod Building
+mod Recounting
 mod Faultless
 mod Sweeping
 mod Turning

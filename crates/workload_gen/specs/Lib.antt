@@ -3,4 +3,5 @@ pub mod Documents
 pub mod Draws
 pub mod Versions
 pub mod Laws
+pub mod Counts
 pub mod Sweeps

@@ -3,9 +3,11 @@ ghost use Rattle.std.specs.Prelude.{◌≡◌, ◌++◌, ◌∷◌, [], List, If
 ghost use Rattle.world_core.specs.declared.event.Event.{Event as EventValue};
 ghost use Rattle.world_core.specs.Settling.{NoneIs};
 ghost use Rattle.world_core.specs.Steps.{IsEnabled, Runs, Step};
+ghost use Rattle.workload_gen.specs.Counts.{AreCounts};
 ghost use Rattle.workload_gen.specs.Draws.{Drawn, Draws, IsDrawn, left_by, tried};
 ghost use Rattle.workload_gen.specs.Words.{behind, next_word};
 
+use crate::counting::{count_all, recount};
 use crate::sweep::sweep_events;
 use crate::words::next_word;
 use document_text::PacketLine;
@@ -31,28 +33,35 @@ pub fn draw(
     ensures err { IfErr result (λ e. (events : List EventValue) × Drawn packets.now rng.old world.old events world.new) }
 {
     let mut events = Vec::new(alloc);
+    let mut counts = count_all(alloc, world)?;
     let mut left = packets;
     for _ in 0..u64::MAX {
-        let Some(event) = next_event(world, left, rng) else {
+        let Some(event) = next_event(world, &counts, left, rng) else {
             return Ok(events);
         };
         left = left_by(&event, left);
-        do_next(alloc, world, event, &mut events)?;
+        do_next(alloc, world, &mut counts, event, &mut events)?;
     }
     Err(AllocError)
 }
 
 // The event that the next word draws, if one can happen.
-fn next_event(world: &World, packets: &[PacketLine], rng: &mut Lcg64Xsh32) -> Option<Event>
+fn next_event(
+    world: &World,
+    counts: &[u64],
+    packets: &[PacketLine],
+    rng: &mut Lcg64Xsh32,
+) -> Option<Event>
+    requires { AreCounts world.now counts.now }
     ensures none { IfNone result (NoneIs world.now (tried packets.now world.now) × (rng.new ≡ rng.old)) }
     ensures some { IfSome result (λ e. IsDrawn packets.now world.now rng.old e × (rng.new ≡ (next_word rng.old).1)) }
 {
-    let count = sweep_events(world, packets, 0).passed;
+    let count = sweep_events(world, counts, packets, 0).passed;
     if count == 0 {
         return None;
     }
     let word = next_word(rng);
-    sweep_events(world, packets, u64::from(word) % count).found
+    sweep_events(world, counts, packets, u64::from(word) % count).found
 }
 
 // The packets that are left behind an event.
@@ -72,16 +81,20 @@ fn left_by<'a>(event: &Event, packets: &'a [PacketLine]) -> &'a [PacketLine]
 fn do_next(
     alloc: Global,
     world: &mut World,
+    counts: &mut [u64],
     event: Event,
     events: &mut Vec<Event>,
 ) -> Result<(), AllocError>
-    requires { IsEnabled world.old event }
+    requires can { IsEnabled world.old event }
+    requires counts { AreCounts world.old counts.old }
     ensures ok { OnOk result ((events.new.items ≡ events.old.items ++ event ∷ []) × Step world.old event world.new) }
+    ensures counts { OnOk result (AreCounts world.new counts.new) }
     ensures err { OnErr result (world.new ≡ world.old) }
 {
     events.reserve(1)?;
     match world.step(alloc, &event) {
         Ok(()) => {
+            recount(counts, world, &event);
             events.push_reserved(event);
             Ok(())
         }

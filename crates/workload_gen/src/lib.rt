@@ -2,6 +2,7 @@
 #![tactic(auto)]
 
 mod compiling;
+mod counting;
 mod documents;
 mod drawing;
 mod laws;

@@ -1,9 +1,10 @@
 // A sweep over the events that can happen, which counts them and finds the one with a number.
-ghost use Rattle.std.specs.Prelude.{◌≡◌, ◌<◌, ◌≤◌, ◌⊎◌, ◌+◌, IfNone, IfSome, ◌++◌, ◌-◌, ◌^◌, ◌∷◌, [], List, Some, length, slice_get, option_map};
+ghost use Rattle.std.specs.Prelude.{◌≡◌, ◌<◌, ◌≤◌, ◌⊎◌, ◌+◌, IfNone, IfSome, ◌++◌, ◌-◌, ◌^◌, ◌∷◌, [], List, None, Some, length, slice_get, option_map};
 ghost use Rattle.world_core.specs.Settling.{hops_from};
 ghost use Rattle.world_core.specs.declared.event.Event.{Event as EventValue};
 ghost use Rattle.world_core.specs.declared.event.Event.TheVariants as event;
 ghost use Rattle.workload_gen.specs.Draws.{AreEnabled, applies_from, arrival, draining, pending_at, report, tried, tried_at, tried_from, tried_last};
+ghost use Rattle.workload_gen.specs.Counts.{AreCounts, IsCount};
 ghost use Rattle.workload_gen.specs.Sweeps.{IsSweep, Passes};
 
 use document_text::PacketLine;
@@ -20,30 +21,66 @@ pub(crate) struct Sweep {
 }
 
 /// Sweeps over all events that can happen in a world, while these packets are still to come in.
-pub(crate) fn sweep_events(world: &World, packets: &[PacketLine], number: u64) -> Sweep
-    requires { number < 2 ^ 64 - 1 }
+pub(crate) fn sweep_events(
+    world: &World,
+    counts: &[u64],
+    packets: &[PacketLine],
+    number: u64,
+) -> Sweep
+    requires number { number < 2 ^ 64 - 1 }
+    requires counts { AreCounts world.now counts.now }
     ensures number { result.number ≡ number }
     ensures passed { (events : List EventValue) × AreEnabled world.now (tried packets.now world.now) events × IsSweep events result }
 {
-    let mut sweep = Sweep {
-        number,
-        passed: 0,
-        found: None,
-    };
-    sweep.switches(world);
+    let mut sweep = Sweep::new(number);
+    sweep.switches(world, counts);
     sweep.copies(world);
     sweep.last(world, packets);
     sweep
 }
 
+/// How many events can happen at a switch. The count stops at the greatest number of 64 bits.
+pub(crate) fn count_at(world: &World, place: usize) -> u64
+    ensures { IsCount world.now place result }
+{
+    let mut sweep = Sweep::new(0);
+    sweep.switch(world, place);
+    sweep.passed
+}
+
 impl Sweep {
+    // One that has passed nothing.
+    fn new(number: u64) -> Sweep
+        ensures { result ≡ record { number = number; passed = 0; found = None } }
+    {
+        Sweep {
+            number,
+            passed: 0,
+            found: None,
+        }
+    }
+
     // Passes the events of all switches.
-    fn switches(&mut self, world: &World)
+    fn switches(&mut self, world: &World, counts: &[u64])
+        requires { AreCounts world.now counts.now }
         ensures number { self.new.number ≡ self.old.number }
         ensures passed { Passes world.now (tried_from world.now 0 (length world.now.topology.switches)) self.old self.new }
     {
-        for place in 0..world.topology().switches().len() {
+        for place in 0..counts.len() {
+            self.counted(world, place, counts[place]);
+        }
+    }
+
+    // Passes the events of a switch, so many of which can happen.
+    fn counted(&mut self, world: &World, place: usize, count: u64)
+        requires { IsCount world.now place count }
+        ensures number { self.new.number ≡ self.old.number }
+        ensures passed { Passes world.now (tried_at world.now place) self.old self.new }
+    {
+        if self.reached(count).is_some() {
             self.switch(world, place);
+        } else {
+            self.passed = self.passed.saturating_add(count);
         }
     }
 
