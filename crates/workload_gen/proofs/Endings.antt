@@ -30,9 +30,10 @@ use Rattle.world_core.specs.Settling.{NoneIs, hops_from}
 use Rattle.world_core.specs.Steps.{InFleet, IsEnabled, Stands, Step}
 use Rattle.world_core.specs.Ends.{new_end}
 use Rattle.world_core.specs.Worlds.{WorldValue, IsKept, numbers_of, stamps_of}
-use Rattle.workload_gen.specs.Draws.{AreEnabled, IsDrawn, Drawn, applies_from, pending_at, arrival, draining, left_by, left_behind, report, tried, tried_at, tried_from, tried_last}
+use Rattle.workload_gen.specs.Draws.{AreEnabled, IsDrawn, Drawn, Draws, applies_from, pending_at, arrival, draining, left_by, left_behind, report, tried, tried_at, tried_from, tried_last}
 use Rattle.workload_gen.specs.Documents.{document_of, generator, number_by, packet_count, policies, policy_count, seeded, switch_count, topology_lines}
-use Rattle.workload_gen.specs.Laws.{line_of, start_of, RunsEnd}
+use Rattle.workload_gen.specs.Laws.{line_of, start_of, HasEnded}
+use Rattle.workload_gen.specs.Versions.{policies_of}
 use Rattle.workload_gen.specs.Words.{next_word, behind}
 use Rattle.workload_laws.specs.Workload.{workload}
 use Rattle.workload_gen.proofs.Lines.{AreGuests, packets-guests, few-switches}
@@ -333,8 +334,10 @@ no-packet s w (line ∷ rest) t guests n =
 not-barred : (s : ℕ) (w : WorldValue) → s ≤ 32 → w.limit ≡ 64 → AreNear s w.flights → IsBarred w → ⊥
 not-barred s w few limit near b = let close = (near b.flight b.flies).near in omega (arith, close, few, limit, b.limit)
 
-pub runs-end : HasRoom → NoDeadEnd → RunsEnd
-runs-end room dead n versions events v kept pols draws = record {
+-- a run from a world that keeps what every world keeps
+pub kept-end : HasRoom → NoDeadEnd → (n : ℕ) (versions : List Version) (events : List Event) (v : WorldValue) → IsKept (start_of (document_of n) versions) → policies_of versions ≡ (document_of n).policies →
+    Draws (document_of n).packets (generator n) (start_of (document_of n) versions) events v → HasEnded (document_of n) v
+kept-end room dead n versions events v kept pols draws = record {
   running = o.free.running;
   idle = elim (dead v o.free.kept o.free.running quiet) [
     | inl e ↦ e ∙ ap (λ (k : ℕ). phase.Idle k) (ap (λ (vs : List Version). length vs) o.versions_are ∙ sym (length-map versions (λ (x : Version). term_of x.pol)) ∙ ap (λ (ps : List Term). length ps) pols)

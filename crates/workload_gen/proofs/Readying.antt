@@ -15,13 +15,16 @@ use Rattle.policy_rows.specs.Numbers.{stamp_at, band_at}
 use Rattle.update_laws.specs.Settings.{AreVersions}
 use Rattle.update_laws.proofs.Places.{Last, Earlier, among, get-within}
 use Rattle.update_laws.proofs.Wiring.{some-is, get-mapped}
+use Rattle.world_core.specs.Laws.{HasRoom, NoDeadEnd}
+use Rattle.world_core.proofs.Beginning.{start-kept}
 use Rattle.workload_laws.specs.Emitted.{IsVersionIn}
 use Rattle.workload_laws.specs.Workload.{IsWorkload}
 use Rattle.workload_gen.specs.Documents.{document_of, policies, policy_count, seeded, switch_count}
+use Rattle.workload_gen.specs.Laws.{RunsEnd}
 use Rattle.workload_gen.specs.Versions.{AreVersionsOf, policies_of}
 use Rattle.workload_gen.specs.Words.{behind}
 use Rattle.workload_gen.proofs.Building.{map-more}
-use Rattle.workload_gen.proofs.Endings.{policies-at}
+use Rattle.workload_gen.proofs.Endings.{kept-end, policies-at}
 use Rattle.workload_gen.proofs.Lines.{few-switches}
 
 -- ---- one policy
@@ -109,3 +112,9 @@ starts n vs a = record {
 
 pub versions-start : (n : ℕ) (d : Doc) (vs : List Version) → d ≡ document_of n → AreVersionsOf d vs → AreVersions d.layout vs
 versions-start n d vs e a = subst (λ (x : Doc). AreVersions x.layout vs) (sym e) (starts n vs (subst (λ (x : Doc). AreVersionsOf x vs) e a))
+
+-- ---- every drawn run of it ends
+
+pub runs-end : HasRoom → NoDeadEnd → RunsEnd
+runs-end room dead n versions events v t a draws =
+    kept-end room dead n versions events v (start-kept (document_of n).layout versions 64 200000 t (starts n versions a) (omega arith)) a.policies draws

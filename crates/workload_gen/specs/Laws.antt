@@ -1,15 +1,16 @@
 -- What the drawn run of a workload comes to.
 use Rattle.std.specs.Prelude.{◌≡◌, ℕ, List, [], length, map, None}
+use Rattle.topology_model.specs.Wired.{IsTopology}
 use Rattle.document_text.specs.declared.document.PacketLine.{PacketLine}
 use Rattle.document_text.specs.Documents.{Doc}
 use Rattle.policy_rows.specs.declared.version.Version.{Version}
 use Rattle.update_coordinator.specs.declared.phase.Phase.TheVariants as phase
 use Rattle.update_laws.specs.Traffic.{Arrived}
 use Rattle.world_core.specs.declared.event.Event.{Event}
-use Rattle.world_core.specs.Worlds.{WorldValue, start, IsKept}
+use Rattle.world_core.specs.Worlds.{WorldValue, start}
 use Rattle.workload_gen.specs.Documents.{document_of, generator}
 use Rattle.workload_gen.specs.Draws.{Draws}
-use Rattle.workload_gen.specs.Versions.{policies_of}
+use Rattle.workload_gen.specs.Versions.{AreVersionsOf}
 
 -- the world of these versions in the document's topology, before anything has happened
 abbrev pub start_of : Doc → List Version → WorldValue
@@ -28,5 +29,5 @@ pub record HasEnded (d : Doc) (w : WorldValue) : Type 0 where
 
 -- So every drawn run of a number's document ends.
 abbrev pub RunsEnd : Type 0
-RunsEnd = (n : ℕ) (versions : List Version) (events : List Event) (v : WorldValue) → IsKept (start_of (document_of n) versions) → policies_of versions ≡ (document_of n).policies →
+RunsEnd = (n : ℕ) (versions : List Version) (events : List Event) (v : WorldValue) → IsTopology (document_of n).layout → AreVersionsOf (document_of n) versions →
     Draws (document_of n).packets (generator n) (start_of (document_of n) versions) events v → HasEnded (document_of n) v

@@ -1,7 +1,7 @@
 pub mod Kept
 mod Doing
 mod Standing
-mod Beginning
+pub mod Beginning
 mod Trying
 mod Good
 mod Runs

@@ -1,4 +1,4 @@
-use Rattle.workload_gen.proofs.Endings.{runs-end}
+use Rattle.workload_gen.proofs.Readying.{runs-end}
 use Rattle.workload_gen.proofs.laws.runs_end.Goals as goal
 
 pub returns : goal.returns
