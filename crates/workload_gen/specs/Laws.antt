@@ -31,3 +31,11 @@ pub record HasEnded (d : Doc) (w : WorldValue) : Type 0 where
 abbrev pub RunsEnd : Type 0
 RunsEnd = (n : ℕ) (versions : List Version) (events : List Event) (v : WorldValue) → IsTopology (document_of n).layout → AreVersionsOf (document_of n) versions →
     Draws (document_of n).packets (generator n) (start_of (document_of n) versions) events v → HasEnded (document_of n) v
+
+-- A run of a number's workload by drawn events: from the world of its document's policies to one where it has ended, with so many packets.
+pub record IsRunOf (n packets : ℕ) (v : WorldValue) (events : List Event) : Type 0 where
+  pub versions : List Version
+  pub are : AreVersionsOf (document_of n) versions
+  pub draws : Draws (document_of n).packets (generator n) (start_of (document_of n) versions) events v
+  pub ended : HasEnded (document_of n) v
+  pub count : packets ≡ length (document_of n).packets
