@@ -1,0 +1,11 @@
+mod Building
+mod Recounting
+mod Faultless
+mod Sweeping
+mod Turning
+mod Results
+mod Nearing
+mod Unhalted
+mod Lines
+mod Endings
+mod Readying

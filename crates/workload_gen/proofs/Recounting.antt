@@ -1,0 +1,182 @@
+-- An event of a switch changes nothing at the others.
+use Rattle.std.proofs.Common.{◌≡◌, ◌≢◌, ℕ, zero, suc, ◌+◌, ◌-◌, ◌^◌, ◌<◌, ◌≤◌, ◌⊎◌, inl, inr, min, List, [], ◌∷◌, ◌++◌, length, take, refl, sym, ◌∙◌, ap, subst, Option, Some, slice_get, slice_set, arith}
+use native.Mathlib.Decide.{ℕ_discrete}
+use Rattle.std.proofs.lemmas.List.{length-append}
+use Rattle.std.proofs.lemmas.Option.{slice_get_past}
+use Rattle.topology_model.specs.Layouts.{Layout}
+use Rattle.update_coordinator.specs.Controls.{Control}
+use Rattle.update_laws.specs.Fleets.{End, Fleet}
+use Rattle.update_laws.proofs.Places.{put-set}
+use Rattle.world_core.specs.declared.event.Event.{Event}
+use Rattle.world_core.specs.declared.event.Event.TheVariants as event
+use Rattle.world_core.specs.Steps.{IsEnabled, Stands, Step}
+use Rattle.world_core.specs.Worlds.{WorldValue}
+use Rattle.workload_gen.specs.declared.sweep.Sweep.{Sweep}
+use Rattle.workload_gen.specs.Counts.{AreCounts, IsCount}
+use Rattle.workload_gen.specs.Draws.{AreEnabled, applies_from, pending_at, tried_at}
+use Rattle.workload_gen.specs.Sweeps.{IsSweep, Passes}
+use Rattle.workload_gen.proofs.Sweeping.{get-left}
+
+-- ---- one switch
+
+-- a switch, its channels, the coordinator's part of it and the halt are as they were
+pub record SameAt (s : ℕ) (w v : WorldValue) : Type 0 where
+  pub halt : v.fleet.control.halt ≡ w.fleet.control.halt
+  pub end_ : slice_get v.fleet.ends s ≡ slice_get w.fleet.ends s
+  pub site : slice_get v.fleet.control.sites s ≡ slice_get w.fleet.control.sites s
+
+turned : (s : ℕ) (w v : WorldValue) → SameAt s w v → SameAt s v w
+turned s w v a = record { halt = sym a.halt; end_ = sym a.end_; site = sym a.site }
+
+stands-same : (s : ℕ) (w v : WorldValue) (Is : End → Type 0) → SameAt s w v → Stands s w Is → Stands s v Is
+stands-same s w v Is a h = record { end_ = h.end_; here = a.end_ ∙ h.here; is = h.is }
+
+-- what can happen in the one world can in the other
+abbrev AreMoved : WorldValue → WorldValue → List Event → Type 0
+AreMoved w v [] = Unit {0}
+AreMoved w v (c ∷ cs) = (IsEnabled w c → IsEnabled v c) × (IsEnabled v c → IsEnabled w c) × AreMoved w v cs
+
+moved-both : (w v : WorldValue) (cs ds : List Event) → AreMoved w v cs → AreMoved w v ds → AreMoved w v (cs ++ ds)
+moved-both w v [] ds a b = b
+moved-both w v (c ∷ cs) ds a b = (a.0, a.1, moved-both w v cs ds a.2 b)
+
+enabled-moved : (w v : WorldValue) (cs es : List Event) → AreMoved w v cs → AreEnabled w cs es → AreEnabled v cs es
+enabled-moved w v [] es m a = a
+enabled-moved w v (c ∷ cs) es m (inl a) = inl (m.0 a.0, a.1, a.2, enabled-moved w v cs a.1 m.2 a.3)
+enabled-moved w v (c ∷ cs) es m (inr a) = inr ((λ h. a.0 (m.1 h)), enabled-moved w v cs es m.2 a.1)
+
+applies-moved : (s k n : ℕ) (w v : WorldValue) → SameAt s w v → AreMoved w v (applies_from s k n)
+applies-moved s k zero w v a = tt
+applies-moved s k (suc n) w v a = (stands-same s w v _ a, stands-same s v w _ (turned s w v a), applies-moved s (k + 1) n w v a)
+
+tried-moved : (s : ℕ) (w v : WorldValue) → SameAt s w v → AreMoved w v (tried_at w s)
+tried-moved s w v a =
+    let b = turned s w v a in (
+      (λ h. (a.halt ∙ h.0, stands-same s w v _ a h.1)),
+      (λ h. (b.halt ∙ h.0, stands-same s v w _ b h.1)),
+      (
+        (λ h. stands-same s w v _ a h),
+        (λ h. stands-same s v w _ b h),
+        moved-both w v (applies_from s 0 (pending_at (slice_get w.fleet.ends s))) (event.Take s ∷ event.Send s ∷ []) (applies-moved s 0 (pending_at (slice_get w.fleet.ends s)) w v a) (
+          (λ h. stands-same s w v _ a h),
+          (λ h. stands-same s v w _ b h),
+          (
+            (λ h. record { running = a.halt ∙ h.running; site = h.site; here = a.site ∙ h.here; some = h.some }),
+            (λ h. record { running = b.halt ∙ h.running; site = h.site; here = b.site ∙ h.here; some = h.some }),
+            tt,
+          ),
+        ),
+      ),
+    )
+
+kept-count : (s n : ℕ) (w v : WorldValue) → SameAt s w v → IsCount w s n → IsCount v s n
+kept-count s n w v a c = record {
+  events = c.events;
+  enabled = subst (λ (o : Option End). AreEnabled v (event.Heard s ∷ event.Reply s ∷ (applies_from s 0 (pending_at o) ++ event.Take s ∷ event.Send s ∷ [])) c.events) (sym a.end_)
+      (enabled-moved w v (tried_at w s) c.events (tried-moved s w v a) c.enabled);
+  count = c.count;
+}
+
+-- ---- all switches
+
+-- nothing of them has changed
+pub same-counts : (w v : WorldValue) (counts : List ℕ) → v.topology ≡ w.topology → v.fleet ≡ w.fleet → AreCounts w counts → AreCounts v counts
+same-counts w v counts t f c = record {
+  all = c.all ∙ ap (λ (x : Layout). length x.switches) (sym t);
+  each = λ k n e. kept-count k n w v (record { halt = ap (λ (x : Fleet). x.control.halt) f; end_ = ap (λ (x : Fleet). slice_get x.ends k) f; site = ap (λ (x : Fleet). slice_get x.control.sites k) f }) (c.each k n e);
+}
+
+-- all were counted anew
+pub new-counts : (w v : WorldValue) (counts new : List ℕ) → v.topology ≡ w.topology → length new ≡ length counts → ((k n : ℕ) → slice_get new k ≡ Some n → IsCount v k n) → AreCounts w counts → AreCounts v new
+new-counts w v counts new t l h c = record { all = l ∙ c.all ∙ ap (λ (x : Layout). length x.switches) (sym t); each = h }
+
+-- one was
+pub one-count : (w v : WorldValue) (p : ℕ) (counts new : List ℕ) → v.topology ≡ w.topology → ((s : ℕ) → s ≢ p → SameAt s w v) → length new ≡ length counts → ((n : ℕ) → slice_get new p ≡ Some n → IsCount v p n) →
+    ((k : ℕ) → k ≢ p → slice_get new k ≡ slice_get counts k) → AreCounts w counts → AreCounts v new
+one-count w v p counts new t same l here others c = record {
+  all = l ∙ c.all ∙ ap (λ (x : Layout). length x.switches) (sym t);
+  each = λ k n e. elim (ℕ_discrete k p) [
+    | yes d ↦ subst (λ (j : ℕ). IsCount v j n) (sym d) (here n (ap (λ (j : ℕ). slice_get new j) (sym d) ∙ e))
+    | no d ↦ kept-count k n w v (same k d) (c.each k n (sym (others k d) ∙ e))
+  ];
+}
+
+-- ---- events
+
+-- a switch and its channels have changed, and of the coordinator at most its part of it
+changed-end : (w v : WorldValue) (p : ℕ) (d : Control) (old new : End) → v.fleet ≡ record { control = d; ends = slice_set w.fleet.ends p new } → slice_get w.fleet.ends p ≡ Some old → d.halt ≡ w.fleet.control.halt →
+    ((s : ℕ) → s ≢ p → slice_get d.sites s ≡ slice_get w.fleet.control.sites s) → (s : ℕ) → s ≢ p → SameAt s w v
+changed-end w v p d old new e here halt sites s n = record {
+  halt = ap (λ (x : Fleet). x.control.halt) e ∙ halt;
+  end_ = ap (λ (x : Fleet). slice_get x.ends s) e ∙ (put-set p w.fleet.ends old new here).others s n;
+  site = ap (λ (x : Fleet). slice_get x.control.sites s) e ∙ sites s n;
+}
+
+pub sent-others : (w v : WorldValue) (p : ℕ) → Step w (event.Send p) v → (s : ℕ) → s ≢ p → SameAt s w v
+sent-others w v p h =
+    let t = h.step in
+    changed-end w v p t.control t.old _ (ap (λ (x : WorldValue). x.fleet) h.now ∙ t.now) t.here (ap (λ (x : Control). x.halt) t.sent.now)
+    (λ s n. ap (λ (x : Control). slice_get x.sites s) t.sent.now ∙ (put-set p w.fleet.control.sites t.sent.site _ t.sent.here).others s n)
+
+pub taken-others : (w v : WorldValue) (p : ℕ) → Step w (event.Take p) v → (s : ℕ) → s ≢ p → SameAt s w v
+taken-others w v p h = changed-end w v p w.fleet.control h.step.old _ (ap (λ (x : WorldValue). x.fleet) h.now ∙ h.step.now) h.step.here refl (λ s n. refl)
+
+pub applied-others : (w v : WorldValue) (p k : ℕ) → Step w (event.Apply p k) v → (s : ℕ) → s ≢ p → SameAt s w v
+applied-others w v p k h = changed-end w v p w.fleet.control h.step.old _ (ap (λ (x : WorldValue). x.fleet) h.now ∙ h.step.now) h.step.here refl (λ s n. refl)
+
+pub replied-others : (w v : WorldValue) (p : ℕ) → Step w (event.Reply p) v → (s : ℕ) → s ≢ p → SameAt s w v
+replied-others w v p h = changed-end w v p w.fleet.control h.step.old _ (ap (λ (x : WorldValue). x.fleet) h.now ∙ h.step.now) h.step.here refl (λ s n. refl)
+
+-- no event changes the topology
+pub step-topology : (w : WorldValue) (e : Event) (v : WorldValue) → Step w e v → v.topology ≡ w.topology
+step-topology w event.Begin v h = ap (λ (x : WorldValue). x.topology) h.now
+step-topology w (event.Send s) v h = ap (λ (x : WorldValue). x.topology) h.now
+step-topology w (event.Take s) v h = ap (λ (x : WorldValue). x.topology) h.now
+step-topology w (event.Apply s k) v h = ap (λ (x : WorldValue). x.topology) h.now
+step-topology w (event.Reply s) v h = ap (λ (x : WorldValue). x.topology) h.now
+step-topology w (event.Heard s) v h = ap (λ (x : WorldValue). x.topology) h.now
+step-topology w (event.Arrive pk tag) v h = ap (λ (x : WorldValue). x.topology) h.now
+step-topology w (event.Hop k) v h = ap (λ (x : WorldValue). x.topology) h.now
+step-topology w (event.Drained stamp) v h = ap (λ (x : WorldValue). x.topology) h.step.now
+step-topology w (event.Lost s) v h = ap (λ (x : WorldValue). x.topology) h.now
+step-topology w (event.Stuck k) v h = ap (λ (x : WorldValue). x.topology) h.now
+step-topology w (event.Foreign s side got) v h = ap (λ (x : WorldValue). x.topology) h.now
+
+-- ---- sweeps by counts
+
+-- a switch is passed by its count where none of its events is the one with the number
+pub passes-counted : (w : WorldValue) (p count : ℕ) (s t : Sweep) → IsCount w p count → (s.number < s.passed) ⊎ (s.passed + count ≤ s.number) → t.number ≡ s.number → t.passed ≡ min (s.passed + count) (2 ^ 64 - 1) → t.found ≡ s.found → Passes w (tried_at w p) s t
+passes-counted w p count s t c d a b f es i = (
+  c.events,
+  c.enabled,
+  record {
+    small = let small = i.small in omega (arith, small, a);
+    passed = let passed = i.passed in let k = c.count in omega (arith, n, passed, b, k);
+    found = f ∙ i.found ∙ (elim d [ inl l ↦ before l | inr l ↦ beyond l ]) ∙ ap (λ (j : ℕ). slice_get (es ++ c.events) j) (sym a);
+  },
+)
+  where
+    n : length (es ++ c.events) ≡ length es + length c.events
+    n = length-append es c.events
+
+    before : s.number < s.passed → slice_get es s.number ≡ slice_get (es ++ c.events) s.number
+    before l = let passed = i.passed in sym (get-left es c.events s.number (omega (arith, l, passed)))
+
+    beyond : s.passed + count ≤ s.number → slice_get es s.number ≡ slice_get (es ++ c.events) s.number
+    beyond l =
+        let passed = i.passed in let small = i.small in let k = c.count in
+        slice_get_past es s.number (omega (arith, l, passed, small)) ∙ sym (slice_get_past (es ++ c.events) s.number (omega (arith, l, passed, small, n, k)))
+
+-- what a sweep of one switch has passed
+pub count-is : (w : WorldValue) (p : ℕ) (s t : Sweep) → IsSweep [] s → Passes w (tried_at w p) s t → IsCount w p t.passed
+count-is w p s t i h = let x = h [] i in record { events = x.0; enabled = x.1; count = x.2.passed }
+
+pub no-counts : (w : WorldValue) → length w.topology.switches ≤ 0 → AreCounts w []
+no-counts w l = record { all = omega (arith, l); each = λ k n e. absurd (cc) }
+
+-- a slice that was written back
+pub written-back : {X : Type 0} (n : ℕ) (xs ys : List X) → n ≡ length xs → take n (xs ++ ys) ≡ xs
+written-back zero [] ys e = refl
+written-back (suc n) [] ys e = absurd (omega (arith, e))
+written-back zero (x ∷ xs) ys e = absurd (omega (arith, e))
+written-back (suc n) (x ∷ xs) ys e = ap (λ zs. x ∷ zs) (written-back n xs ys (omega (arith, e)))

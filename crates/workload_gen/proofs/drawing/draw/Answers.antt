@@ -1,0 +1,26 @@
+use Rattle.std.proofs.Common.{ℕ, List, length, drop, subst, sym, arith}
+use Rattle.workload_gen.specs.Counts.{AreCounts}
+use Rattle.workload_gen.proofs.Recounting.{written-back}
+use Rattle.world_core.specs.Worlds.{WorldValue}
+use Rattle.workload_gen.specs.Draws.{Drawn}
+use Rattle.workload_gen.proofs.Turning.{any-err, drawn-can, drawn-runs, so-far-more}
+use Rattle.workload_gen.proofs.drawing.draw.Goals as goal
+
+pub returns-in_default-clause-runs : goal.returns-in_default-clause-runs
+returns-in_default-clause-runs c = drawn-runs c.args.packets.now c.args.rng.now c.args.world.now c.loop.events.items c.loop.world c.loop.invariant.so_far.drawn
+
+pub do_next-requires-clause-can : goal.do_next-requires-clause-can
+do_next-requires-clause-can c = drawn-can c.loop.left.now c.loop.world c.loop.rng c.in-Some.event c.in-Some.ensures.some.0
+
+pub returns-in_err-do_next-clause-err : goal.returns-in_err-do_next-clause-err
+returns-in_err-do_next-clause-err c =
+    any-err c.from_residual-in_err-do_next.result
+    (c.loop.events.items, subst (λ (v : WorldValue). Drawn c.args.packets.now c.args.rng.now c.args.world.now c.loop.events.items v) (sym c.in_err-do_next.ensures.err) c.loop.invariant.so_far.drawn)
+
+pub loop-preserved : goal.loop-preserved
+loop-preserved c = record {
+  so_far = so-far-more c.args.packets.now c.args.rng.now c.args.world.now c.loop.events.items c.loop.left.now c.loop.rng c.loop.world c.in-Some.event c.do_next.new.events.items c.left_by-left.result.now c.next_event.new.rng c.do_next.new.world
+      c.loop.invariant.so_far c.in-Some.ensures.some.0 c.in_ok-do_next.ensures.ok.1 c.in_ok-do_next.ensures.ok.0 c.left_by-left.ensures c.in-Some.ensures.some.1;
+  counts = subst (λ (ns : List ℕ). AreCounts c.do_next.new.world ns)
+      (sym (written-back c.loop.counts.len c.do_next.new.counts (drop (length c.do_next.new.counts) c.loop.counts.items) (let a = c.do_next.auto.counts in let b = c.deref_mut.ensures.len in let d = c.loop.counts.ok.0 in omega (arith, a, b, d)))) c.in_ok-do_next.ensures.counts;
+}

@@ -1,0 +1,91 @@
+-- Runs by drawn events: each word draws one of the events that can happen.
+use Rattle.std.specs.Prelude.{◌≡◌, ◌⊎◌, ℕ, zero, suc, ◌+◌, ◌-◌, ◌%◌, List, [], ◌∷◌, ◌++◌, length, drop, slice_get, Option, Some, None, option_map}
+use Rattle.rand_pcg.specs.Lcg.{Lcg}
+use Rattle.document_text.specs.declared.document.PacketLine.{PacketLine}
+use Rattle.policy_rows.specs.declared.version.Version.{Version}
+use Rattle.update_coordinator.specs.declared.phase.Phase.{Phase}
+use Rattle.update_coordinator.specs.declared.phase.Phase.TheVariants.{Drain}
+use Rattle.update_laws.specs.Fleets.{End}
+use Rattle.world_core.specs.declared.event.Event.{Event}
+use Rattle.world_core.specs.declared.event.Event.TheVariants as event
+use Rattle.world_core.specs.Settling.{NoneIs, hops_from}
+use Rattle.world_core.specs.Steps.{IsEnabled, Step}
+use Rattle.world_core.specs.Worlds.{WorldValue}
+use Rattle.workload_gen.specs.Words.{next_word}
+
+-- ---- the events that are tried, in order
+
+-- a switch applies one of n flow mods, from a place on
+abbrev pub applies_from : ℕ → ℕ → ℕ → List Event
+applies_from s k zero = []
+applies_from s k (suc n) = event.Apply s k ∷ applies_from s (k + 1) n
+
+abbrev pub pending_at : Option End → ℕ
+pending_at None = 0
+pending_at (Some e) = length e.switch.pending
+
+-- at a switch: it is heard, it answers its barrier, it applies each flow mod that is pending, it takes a message, one is sent to it
+abbrev pub tried_at : WorldValue → ℕ → List Event
+tried_at w s = event.Heard s ∷ event.Reply s ∷ (applies_from s 0 (pending_at (slice_get w.fleet.ends s)) ++ event.Take s ∷ event.Send s ∷ [])
+
+-- at n switches from a place on
+abbrev pub tried_from : WorldValue → ℕ → ℕ → List Event
+tried_from w s zero = []
+tried_from w s (suc n) = tried_at w s ++ tried_from w (s + 1) n
+
+-- the first of the packets that are left comes in
+abbrev pub arrival : List PacketLine → List Event
+arrival [] = []
+arrival (line ∷ lines) = event.Arrive line.packet line.tag ∷ []
+
+-- the stamp that is drained is that of the policy before
+abbrev pub draining : Phase → List Version → Option ℕ
+draining (Drain i) versions = option_map (λ v. v.rows.stamp) (slice_get versions (i - 2))
+draining _ versions = None
+
+abbrev pub report : Option ℕ → List Event
+report None = []
+report (Some stamp) = event.Drained stamp ∷ []
+
+-- an arrival, the beginning of an update, and the report that a stamp is drained
+abbrev pub tried_last : List PacketLine → WorldValue → List Event
+tried_last lines w = arrival lines ++ event.Begin ∷ report (draining w.fleet.control.phase w.versions)
+
+-- all of them: the switches in their order, the copies in theirs, and these
+abbrev pub tried : List PacketLine → WorldValue → List Event
+tried lines w = tried_from w 0 (length w.topology.switches) ++ (hops_from 0 (length w.flights) ++ tried_last lines w)
+
+-- ---- which of them can happen
+
+-- of the events cs those that can happen are es, in the same order
+abbrev pub AreEnabled : WorldValue → List Event → List Event → Type 0
+AreEnabled w [] es = es ≡ []
+AreEnabled w (c ∷ cs) es = (IsEnabled w c × (rest : List Event) × (es ≡ c ∷ rest) × AreEnabled w cs rest) ⊎ (¬ (IsEnabled w c) × AreEnabled w cs es)
+
+-- the next word draws this event: of those that can happen the one with the number that the word leaves when it is divided by their count
+pub record IsDrawn (lines : List PacketLine) (w : WorldValue) (g : Lcg) (e : Event) : Type 0 where
+  pub events : List Event
+  pub enabled : AreEnabled w (tried lines w) events
+  pub drawn : slice_get events ((next_word g).0 % length events) ≡ Some e
+
+-- ---- runs
+
+-- the packets that are left behind an event
+abbrev pub left_by : Event → List PacketLine → List PacketLine
+left_by (event.Arrive pk tag) lines = drop 1 lines
+left_by e lines = lines
+
+-- and behind some
+abbrev pub left_behind : List Event → List PacketLine → List PacketLine
+left_behind [] lines = lines
+left_behind (e ∷ es) lines = left_behind es (left_by e lines)
+
+-- each event is drawn by the next word, and done
+abbrev pub Drawn : List PacketLine → Lcg → WorldValue → List Event → WorldValue → Type 0
+Drawn lines g w [] v = w ≡ v
+Drawn lines g w (e ∷ es) v = (x : WorldValue) × IsDrawn lines w g e × Step w e x × Drawn (left_by e lines) (next_word g).1 x es v
+
+-- and they are drawn until none can happen
+pub record Draws (lines : List PacketLine) (g : Lcg) (w : WorldValue) (events : List Event) (v : WorldValue) : Type 0 where
+  pub done : Drawn lines g w events v
+  pub over : NoneIs v (tried (left_behind events lines) v)

@@ -1,0 +1,104 @@
+// Runs by drawn events.
+ghost use Rattle.std.specs.Prelude.{◌≡◌, ◌++◌, ◌∷◌, [], List, IfOk, IfErr, IfNone, IfSome, OnOk, OnErr, length};
+ghost use Rattle.world_core.specs.declared.event.Event.{Event as EventValue};
+ghost use Rattle.world_core.specs.Settling.{NoneIs};
+ghost use Rattle.world_core.specs.Steps.{IsEnabled, Runs, Step};
+ghost use Rattle.workload_gen.specs.Counts.{AreCounts};
+ghost use Rattle.workload_gen.specs.Draws.{Drawn, Draws, IsDrawn, left_by, tried};
+ghost use Rattle.workload_gen.specs.Words.{behind, next_word};
+
+use crate::counting::{count_all, recount};
+use crate::sweep::sweep_events;
+use crate::words::next_word;
+use document_text::PacketLine;
+use rand_pcg::Lcg64Xsh32;
+use std::alloc::{AllocError, Global};
+use world_core::{Event, StepFault, World};
+
+/// Lets these packets come in and does the updates of a world by drawn events, until none can happen, and gives the
+/// events. In each turn one word is drawn, and of the events that can happen the one with the number that the word
+/// leaves when it is divided by their count, from 0, is done. They are counted switch by switch (the coordinator hears
+/// it, it answers its barrier, it applies a flow mod that is pending, it takes a message, one is sent to it), then come
+/// the hops of the copies in flight, the arrival of the next packet, the beginning of the next update, and the report
+/// that no copy carries the stamp that is to be drained. Where memory runs out, some of the events are done.
+pub fn draw(
+    alloc: Global,
+    world: &mut World,
+    packets: &[PacketLine],
+    rng: &mut Lcg64Xsh32,
+) -> Result<Vec<Event>, AllocError>
+    ensures draws { IfOk result (λ events. Draws packets.now rng.old world.old events.items world.new) }
+    ensures runs { IfOk result (λ events. Runs world.old events.items world.new) }
+    ensures words { IfOk result (λ events. rng.new ≡ behind (length events.items) rng.old) }
+    ensures err { IfErr result (λ e. (events : List EventValue) × Drawn packets.now rng.old world.old events world.new) }
+{
+    let mut events = Vec::new(alloc);
+    let mut counts = count_all(alloc, world)?;
+    let mut left = packets;
+    for _ in 0..u64::MAX {
+        let Some(event) = next_event(world, &counts, left, rng) else {
+            return Ok(events);
+        };
+        left = left_by(&event, left);
+        do_next(alloc, world, &mut counts, event, &mut events)?;
+    }
+    Err(AllocError)
+}
+
+// The event that the next word draws, if one can happen.
+fn next_event(
+    world: &World,
+    counts: &[u64],
+    packets: &[PacketLine],
+    rng: &mut Lcg64Xsh32,
+) -> Option<Event>
+    requires { AreCounts world.now counts.now }
+    ensures none { IfNone result (NoneIs world.now (tried packets.now world.now) × (rng.new ≡ rng.old)) }
+    ensures some { IfSome result (λ e. IsDrawn packets.now world.now rng.old e × (rng.new ≡ (next_word rng.old).1)) }
+{
+    let count = sweep_events(world, counts, packets, 0).passed;
+    if count == 0 {
+        return None;
+    }
+    let word = next_word(rng);
+    sweep_events(world, counts, packets, u64::from(word) % count).found
+}
+
+// The packets that are left behind an event.
+fn left_by<'a>(event: &Event, packets: &'a [PacketLine]) -> &'a [PacketLine]
+    ensures { result.now ≡ left_by event.now packets.now }
+{
+    match event {
+        Event::Arrive(_, _) => match packets.split_first() {
+            Some((_, rest)) => rest,
+            None => packets,
+        },
+        _ => packets,
+    }
+}
+
+// Does an event that can happen, and notes it.
+fn do_next(
+    alloc: Global,
+    world: &mut World,
+    counts: &mut [u64],
+    event: Event,
+    events: &mut Vec<Event>,
+) -> Result<(), AllocError>
+    requires can { IsEnabled world.old event }
+    requires counts { AreCounts world.old counts.old }
+    ensures ok { OnOk result ((events.new.items ≡ events.old.items ++ event ∷ []) × Step world.old event world.new) }
+    ensures counts { OnOk result (AreCounts world.new counts.new) }
+    ensures err { OnErr result (world.new ≡ world.old) }
+{
+    events.reserve(1)?;
+    match world.step(alloc, &event) {
+        Ok(()) => {
+            recount(counts, world, &event);
+            events.push_reserved(event);
+            Ok(())
+        }
+        Err(StepFault::NotEnabled) => Err(AllocError),
+        Err(StepFault::Memory) => Err(AllocError),
+    }
+}

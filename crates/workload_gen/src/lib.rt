@@ -1,0 +1,18 @@
+//! Workloads from a number: documents that a generator of random words draws, and runs by events that it draws.
+#![tactic(auto)]
+
+mod compiling;
+mod counting;
+mod documents;
+mod drawing;
+mod driving;
+mod laws;
+mod policies;
+mod sweep;
+mod words;
+
+pub use compiling::versions;
+pub use documents::generate;
+pub use drawing::draw;
+pub use driving::{Driven, drive};
+pub use laws::runs_end;
