@@ -1,11 +1,12 @@
 """An application of os-ken that gives each switch its rows when it comes up.
 
-    tools/rows rest < line.rules > rows.json
-    NKCTL_ROWS=rows.json osken-manager tools/osken_rows.py
+usage: tools/rows rest < line.rules > rows.json
+       NKCTL_ROWS=rows.json osken-manager tools/osken_rows.py
 """
 
 import json
 import os
+import sys
 
 from os_ken.base.app_manager import OSKenApp
 from os_ken.controller import ofp_event
@@ -14,13 +15,21 @@ from os_ken.lib import ofctl_v1_0
 from os_ken.ofproto import ofproto_v1_0
 
 
+def read_rows(path):
+    """The rows of a file, a JSON object in each line."""
+    try:
+        with open(path) as lines:
+            return [json.loads(line) for line in lines]
+    except (OSError, ValueError) as fault:
+        sys.exit(f"osken_rows: NKCTL_ROWS has to name a file that `tools/rows rest` made: {fault}")
+
+
 class Rows(OSKenApp):
     OFP_VERSIONS = [ofproto_v1_0.OFP_VERSION]
 
     def __init__(self, *words, **options):
         super().__init__(*words, **options)
-        with open(os.environ["NKCTL_ROWS"]) as lines:
-            self.rows = [json.loads(line) for line in lines]
+        self.rows = read_rows(os.environ.get("NKCTL_ROWS", ""))
 
     @set_ev_cls(ofp_event.EventOFPSwitchFeatures, CONFIG_DISPATCHER)
     def give_rows(self, event):

@@ -1,17 +1,20 @@
-"""Prints, in hexadecimal, the messages that os-ken makes of the JSON lines of `tools/rows rest`."""
+"""Prints, in hexadecimal, the messages that tools/osken_rows.py sends to switches that come up one after another."""
 
-import json
 import sys
+from types import SimpleNamespace
 
-from os_ken.lib import ofctl_v1_0
+sys.path.insert(0, "tools")
 from os_ken.ofproto import ofproto_v1_0
 from os_ken.ofproto.ofproto_protocol import ProtocolDesc
+from osken_rows import Rows
 
 
 class Printer(ProtocolDesc):
     """Stands for a switch, and prints each message that it is sent."""
 
-    id = 0
+    def __init__(self, switch):
+        super().__init__(ofproto_v1_0.OFP_VERSION)
+        self.id = switch
 
     def set_xid(self, message):
         message.set_xid(0)
@@ -21,5 +24,6 @@ class Printer(ProtocolDesc):
         print(message.buf.hex())
 
 
-for line in sys.stdin:
-    ofctl_v1_0.mod_flow_entry(Printer(ofproto_v1_0.OFP_VERSION), json.loads(line), ofproto_v1_0.OFPFC_ADD)
+application = Rows()
+for switch in dict.fromkeys(row["dpid"] for row in application.rows):
+    application.give_rows(SimpleNamespace(msg=SimpleNamespace(datapath=Printer(switch))))
