@@ -1,8 +1,9 @@
 // A policy compiled to rows.
-ghost use Rattle.std.specs.Prelude.{IfOk};
+ghost use Rattle.std.specs.Prelude.{IfOk, IfErr};
 ghost use Rattle.nk_syntax.specs.Views.{term_of};
 ghost use Rattle.policy_rows.specs.Limits.{AreWritable};
 ghost use Rattle.policy_rows.specs.Means.{RowsMean};
+ghost use Rattle.embed_example.specs.Refusals.{IsReason};
 
 use fdd_compile::{CompileError, compile, names_few};
 use nk_syntax::Pol;
@@ -40,9 +41,11 @@ impl From<AllocError> for PolicyError {
 }
 
 /// The policy with rows that stand for it: of each packet at a port, the first row that hits sends what the policy gives.
+/// Or the first reason why there are none.
 pub fn version(alloc: Global, pol: &Pol, topology: &Topology) -> Result<Version, PolicyError>
     ensures means { IfOk result (λ v. RowsMean v.rows (term_of pol.now) topology.now) }
     ensures writable { IfOk result (λ v. AreWritable v.rows) }
+    ensures reason { IfErr result (IsReason topology.now (term_of pol.now)) }
 {
     if !names_few(alloc, pol)? {
         return Err(PolicyError::ManyNames);
