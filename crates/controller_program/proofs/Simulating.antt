@@ -9,7 +9,7 @@ use Rattle.world_core.specs.Laws.{EveryRunIsGood}
 use Rattle.world_core.specs.Worlds.{WorldValue, start}
 use Rattle.controller_program.specs.declared.answer.Ending.{Ending}
 use Rattle.controller_program.specs.declared.answer.Ending.TheVariants as ending
-use Rattle.controller_program.specs.declared.command.Command.TheVariants.{Simulate}
+use Rattle.command_line.specs.declared.request.Command.TheVariants.{Simulate}
 use Rattle.controller_program.specs.declared.versions.PolicyError.{PolicyError}
 use Rattle.controller_program.specs.declared.versions.PolicyError.TheVariants as error
 use Rattle.controller_program.specs.Schedules.{CarriedOut}

@@ -7,8 +7,8 @@ use Rattle.report_text.specs.declared.fault.Fault.{Fault}
 use Rattle.report_text.specs.Faults.{fault_text}
 use Rattle.controller_program.specs.declared.answer.Ending.{Ending}
 use Rattle.controller_program.specs.declared.answer.Ending.TheVariants.{Done, Halted, Refused, ReadFault, Memory}
-use Rattle.controller_program.specs.declared.command.Command.{Command}
-use Rattle.controller_program.specs.declared.command.Command.TheVariants.{Simulate}
+use Rattle.command_line.specs.declared.request.Command.{Command}
+use Rattle.command_line.specs.declared.request.Command.TheVariants.{Simulate}
 use Rattle.controller_program.specs.Answers.{IsOutput, IsSimulation, IsRefusal}
 
 -- its text is what the command has to write, or the refusal; nothing is said of memory

@@ -3,11 +3,11 @@ ghost use Rattle.outside_io.specs.Lists.{TakesAtMost};
 ghost use Rattle.report_text.specs.Faults.{fault_text};
 ghost use Rattle.controller_program.specs.Told.{Tells, TellsTaken, TellsCause, TellsRefusal};
 
-use crate::command::Command;
 use crate::faults::placed_fault;
 use crate::input::{InputError, read_input};
 use crate::output::output;
 use crate::versions::PolicyError;
+use command_line::Command;
 use outside_io::Source;
 use report_text::{Fault, Text, fault_text};
 use std::alloc::Global;
@@ -42,8 +42,8 @@ pub fn answer<S: Source>(alloc: Global, command: Command, source: &mut S) -> End
     }
 }
 
-// The refusal by a fault.
-fn refusal(alloc: Global, fault: &Fault) -> Ending
+/// The refusal by a fault.
+pub(crate) fn refusal(alloc: Global, fault: &Fault) -> Ending
     ensures { TellsRefusal fault.now result }
 {
     match fault_text(alloc, fault) {

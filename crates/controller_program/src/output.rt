@@ -5,10 +5,10 @@ ghost use Rattle.controller_program.specs.Sound.{IsSound};
 ghost use Rattle.controller_program.specs.Views.{IsEndingOf, TellsFaultOf};
 
 use crate::answer::Ending;
-use crate::command::Command;
 use crate::simulation::simulate;
 use crate::versions::{PolicyError, versions};
 use crate::walks::walks;
+use command_line::Command;
 use document_text::Document;
 use report_text::{rules_text, trace_text};
 use std::alloc::Global;

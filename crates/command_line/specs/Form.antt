@@ -1,0 +1,32 @@
+-- The command line as `clap` reads it.
+use Rattle.std.specs.Prelude.{true, List, [], Option, Some, None, option_and_then, option_map, if◌then◌else◌, codes}
+use Rattle.std.specs.Str.{bytes_eq}
+use Rattle.clap.specs.Walk.{Row, Rule, Text, first_of}
+use Rattle.clap.specs.Simple.{App, new_app, new_rule, new_shape, with_rule, with_subcommand}
+use Rattle.command_line.specs.declared.request.Command.TheVariants.{Rules, Trace, Simulate}
+use Rattle.command_line.specs.declared.request.Request.{Request}
+use Rattle.command_line.specs.declared.request.Request.TheVariants.{Over, Run, Workload}
+use Rattle.command_line.specs.Commands.{workload_number}
+
+-- the one positional
+abbrev pub number : Rule
+number = record (new_rule (codes "number")) { required = true }
+
+-- the program, which has no help
+abbrev pub bare : App
+bare = record { top = record (new_shape (codes "nkctl")) { disable_help_flag = true; disable_help_subcommand = true }; subs = [] }
+
+-- the program with its subcommands
+abbrev pub form : App
+form = with_subcommand (with_subcommand (with_subcommand (with_subcommand (with_subcommand bare
+    (new_shape (codes "rules"))) (new_shape (codes "trace"))) (new_shape (codes "simulate"))) (new_shape (codes "run")))
+    ((with_rule (new_app (codes "generate")) number).top)
+
+-- what was asked for, by the subcommand that was met and what was found there
+abbrev pub asked_by : Text × List Row → Option Request
+asked_by p = if bytes_eq p.0 (codes "rules") then Some (Over Rules)
+    else (if bytes_eq p.0 (codes "trace") then Some (Over Trace)
+    else (if bytes_eq p.0 (codes "simulate") then Some (Over Simulate)
+    else (if bytes_eq p.0 (codes "run") then Some Run
+    else (if bytes_eq p.0 (codes "generate") then option_and_then (λ t. option_map Workload (workload_number t)) (first_of (codes "number") p.1)
+    else None))))

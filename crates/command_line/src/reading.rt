@@ -1,0 +1,63 @@
+// The words of a command line.
+ghost use Rattle.std.specs.Prelude.{◌≡◌, IfOk, IfSome, IfNone, All, IsTrue, ◌↔◌, option_and_then};
+ghost use Rattle.clap.specs.Words.{first_of, subcommand_rows_of};
+ghost use Rattle.command_line.specs.Commands.{AsksFor, IsCommandLine, IsPlain, workload_number};
+ghost use Rattle.command_line.specs.Form.{asked_by};
+
+use crate::asking::form;
+use crate::request::{Command, Request};
+use clap::ArgMatches;
+use clap::error::ErrorKind;
+use netkat_parser::numeral;
+use std::alloc::{AllocError, Global};
+
+/// What the words ask for, if they are a command line: the program's name and the word of a command, and behind
+/// `generate` a number.
+pub fn asked<'a>(alloc: Global, words: &'a [String]) -> Result<Option<Request>, AllocError>
+    ensures some { IfOk result (λ r. IfSome r (λ q. AsksFor q words.now)) }
+    ensures none { IfOk result (λ r. IfNone r (¬ (IsCommandLine words.now))) }
+{
+    if words.is_empty() {
+        return Ok(None);
+    }
+    if !are_plain(&words[1..]) {
+        return Ok(None);
+    }
+    match form(alloc)?.try_get_matches_from(words) {
+        Ok(matches) => Ok(request_of(&matches)),
+        Err(error) if error.kind() == ErrorKind::OutOfMemory => Err(AllocError),
+        Err(_) => Ok(None),
+    }
+}
+
+// Whether none of the words begins with a dash.
+fn are_plain(words: &[String]) -> bool
+    ensures { IsTrue result ↔ All IsPlain words.now }
+{
+    words.iter().all(|word| !word.starts_with("-"))
+}
+
+// What was asked for, by the subcommand that the words name.
+fn request_of(matches: &ArgMatches) -> Option<Request>
+    ensures { result ≡ option_and_then asked_by (subcommand_rows_of matches.now) }
+{
+    let (name, inner) = matches.subcommand()?;
+    match name {
+        "rules" => Some(Request::Over(Command::Rules)),
+        "trace" => Some(Request::Over(Command::Trace)),
+        "simulate" => Some(Request::Over(Command::Simulate)),
+        "run" => Some(Request::Run),
+        "generate" => number_of(inner.get_str("number")?).map(Request::Workload),
+        _ => None,
+    }
+}
+
+// The number of a workload: 1 to 4 decimal digits, from 1 to 1,000.
+fn number_of(word: &str) -> Option<u64>
+    ensures { result ≡ workload_number word.now }
+{
+    match numeral(10, 1, 4, 1000, word.as_bytes()) {
+        Some(0) => None,
+        number => number,
+    }
+}

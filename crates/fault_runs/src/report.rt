@@ -1,0 +1,85 @@
+// Reports, as far as cases ask them.
+use report_text::Text;
+use std::alloc::{AllocError, Global};
+
+/// What a report tells of a packet that came in: the policies of which one handles it, its finished histories, and
+/// whether a copy is on its way.
+#[derive(Drop)]
+pub struct Told<'a> {
+    first: usize,
+    second: usize,
+    done: Vec<&'a str>,
+    open: bool,
+}
+
+/// The packets of a report, in order.
+pub fn arrivals<'a>(alloc: Global, report: &'a str) -> Result<Vec<Told<'a>>, AllocError> {
+    let mut all: Vec<Told<'a>> = Vec::new(alloc);
+    for line in report.lines() {
+        if line.starts_with("arrival ") {
+            let (first, second) = entry(line);
+            all.push(Told {
+                first,
+                second,
+                done: Vec::new(alloc),
+                open: false,
+            })?;
+        } else if let Some(told) = all.last_mut() {
+            match line.strip_prefix("done ") {
+                Some(history) => told.done.push(history)?,
+                None => told.open = true,
+            }
+        }
+    }
+    Ok(all)
+}
+
+// The policies of an entry, the same one twice where there is one.
+fn entry(line: &str) -> (usize, usize) {
+    let Some((_, policies)) = line.split_once(" policy ") else {
+        return (0, 0);
+    };
+    let (first, second) = policies.split_once(" or ").unwrap_or((policies, policies));
+    (number(first), number(second))
+}
+
+fn number(word: &str) -> usize {
+    word.parse::<usize>().unwrap_or(0)
+}
+
+impl Told<'_> {
+    /// Whether it is on its way, or has the histories of one policy of its entry; they are listed by policies, from 0.
+    pub fn is_of_one(&self, by_policy: &[Vec<Text>]) -> bool {
+        self.open || self.is_of(by_policy, self.first) || self.is_of(by_policy, self.second)
+    }
+
+    // Whether it has the histories of this policy.
+    fn is_of(&self, by_policy: &[Vec<Text>], policy: usize) -> bool {
+        match by_policy.get(policy) {
+            None => false,
+            Some(wanted) => are_same(&self.done, wanted),
+        }
+    }
+}
+
+// Whether these are the same lines, in order.
+fn are_same(done: &[&str], wanted: &[Text]) -> bool {
+    done.len() == wanted.len()
+        && done
+            .iter()
+            .zip(wanted.iter())
+            .all(|(line, text)| line.as_bytes() == text.as_bytes())
+}
+
+/// Whether a line says that the session with a switch was lost.
+pub fn tells_of_loss(report: &str) -> bool {
+    report.lines().any(|line| line.starts_with("halted switch ") && line.ends_with(" lost"))
+}
+
+/// The line that begins so, or nothing.
+pub fn line_of<'a>(report: &'a str, word: &str) -> &'a str {
+    report
+        .lines()
+        .find(|line| line.starts_with(word))
+        .unwrap_or("")
+}

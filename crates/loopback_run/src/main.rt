@@ -1,0 +1,66 @@
+//! Runs the document of standard input over loopback TCP. It prints what is the same in all runs: the status, the last
+//! phase and how many packets came in; or, with the argument `journal`, the whole report.
+#![tactic(auto)]
+
+use controller_program::{Status, nkctl};
+use outside_io::{MemorySink, Source, StdSource};
+use outside_net::{OpenGate, TcpNet, ThreadSpawner};
+use std::alloc::AllocError;
+use std::env::Env;
+use std::net::{Net as Sockets, TcpListener, TcpStream};
+use std::sync::{Arc, Wait};
+use std::thread::Threads;
+use std::{io, str};
+
+fn main(rt: HostRuntime) -> io::Result<()> {
+    let alloc = rt.alloc();
+    let mut sink = MemorySink::new(alloc, usize::MAX, Vec::new(alloc));
+    let mut source = StdSource::new(rt.stdin());
+    let status = run(rt, &mut source, &mut sink)?;
+    let report = str::from_utf8(sink.bytes()).unwrap_or("");
+    if rt.arg(1, &mut [0u8; 16]).is_ok() {
+        return print!(rt; "{report}");
+    }
+    println!(rt; "{} {status:?}", status.number())?;
+    for line in report.lines().filter(|line| line.starts_with("phase ")) {
+        println!(rt; "{line}")?;
+    }
+    let arrivals = report
+        .lines()
+        .filter(|line| line.starts_with("arrival "))
+        .count();
+    println!(rt; "{arrivals} packets came in")
+}
+
+// The call of the program.
+fn run<
+    R: Wait
+        + Threads
+        + Sockets<Stream = TcpStream, Listener = TcpListener>
+        + AllocGlobal
+        + Copy
+        + Clone
+        + Drop
+        + Send
+        + Sync
+        + 'static,
+    S: Source,
+>(rt: R, source: &mut S, sink: &mut MemorySink) -> Result<Status, AllocError> {
+    let alloc = rt.alloc();
+    let mut words = Vec::new(alloc);
+    words.push("nkctl".to_string(alloc)?)?;
+    words.push("run".to_string(alloc)?)?;
+    let mut net = TcpNet::new(rt);
+    let mut threads = ThreadSpawner::new(alloc, rt);
+    let gate = Arc::new(alloc, OpenGate)?;
+    Ok(nkctl(
+        &rt,
+        alloc,
+        &words,
+        source,
+        sink,
+        &mut net,
+        &mut threads,
+        gate,
+    ))
+}

@@ -1,0 +1,106 @@
+// A call of the program, and what is asked of its answer.
+use controller_program::{Status, nkctl};
+use outside_io::{MemorySink, MemorySource};
+use outside_net::{Gate, MemoryNet, Net, OpenGate, Spawner, ThreadSpawner, Trouble};
+use std::alloc::{AllocError, Global};
+use std::str;
+use std::sync::{Arc, Wait};
+use std::thread::Threads;
+
+/// Two switches in a line, three policies alike, ten packets.
+pub const DOCUMENT: &str = "switch 1 ports 1 2
+switch 2 ports 1 2
+link 1:2 2:1
+policy
+pt=1; pt:=2
+end
+policy
+pt=1; pt:=2
+end
+policy
+pt=1; pt:=2
+end
+packet 1:1
+packet 1:1
+packet 1:1
+packet 1:1
+packet 1:1
+packet 1:1
+packet 1:1
+packet 1:1
+packet 1:1
+packet 1:1
+";
+
+/// The status of a call, how many arrivals it reported, and whether it wrote a line.
+#[derive(Clone, Copy, Debug, PartialEq, Eq)]
+pub struct Called {
+    pub status: Status,
+    pub arrivals: usize,
+    pub told: bool,
+}
+
+/// How a call of `run` with the document ended, over this net, with these threads; the line is one that is looked for.
+pub fn call_over<
+    R: Wait + Clone + Drop + Send + Sync + 'static,
+    N: Net,
+    T: Spawner,
+    G: Gate + Send + Sync + 'static,
+>(
+    rt: &R,
+    alloc: Global,
+    net: &mut N,
+    threads: &mut T,
+    gate: Arc<G>,
+    line: &str,
+) -> Result<Called, AllocError>
+where
+    N::End: 'static,
+{
+    let mut words = Vec::new(alloc);
+    words.push("nkctl".to_string(alloc)?)?;
+    words.push("run".to_string(alloc)?)?;
+    let document = DOCUMENT.as_bytes().to_vec(alloc)?;
+    let mut source = MemorySource::new(document, 4096, Vec::new(alloc));
+    let mut sink = MemorySink::new(alloc, 4096, Vec::new(alloc));
+    let status = nkctl(
+        rt,
+        alloc,
+        &words,
+        &mut source,
+        &mut sink,
+        net,
+        threads,
+        gate,
+    );
+    Ok(read(status, sink.bytes(), line))
+}
+
+/// The same over links in memory, some of which are in trouble.
+pub fn called_over_memory<
+    R: Wait + Threads + Copy + Clone + Drop + Send + Sync + 'static,
+    G: Gate + Send + Sync + 'static,
+>(
+    rt: &R,
+    alloc: Global,
+    troubles: Vec<Trouble>,
+    gate: Arc<G>,
+    line: &str,
+) -> Result<Called, AllocError> {
+    let mut net = MemoryNet::new(alloc, *rt, Vec::new(alloc), troubles)?;
+    let mut threads = ThreadSpawner::new(alloc, *rt);
+    call_over(rt, alloc, &mut net, &mut threads, gate, line)
+}
+
+// What was written.
+fn read(status: Status, bytes: &[u8], line: &str) -> Called {
+    let text = str::from_utf8(bytes).unwrap_or("");
+    Called {
+        status,
+        arrivals: text
+            .lines()
+            .filter(|told| told.starts_with("arrival "))
+            .count(),
+        told: text.lines().any(|told| told == line),
+    }
+}
