@@ -5,8 +5,8 @@ use crate::fault::{ParseFault, Place};
 use crate::reading::Reading;
 use bytes::BytesMut;
 
-/// Reads a policy's text that comes in pieces of any size. It keeps what was read as terms, a few bytes or
-/// those of the sign or value that may go on, and the first fault. It does not keep the text.
+/// Reads a policy's text that comes in pieces of any size. It keeps what was read as terms, the bytes of the
+/// sign or value that may go on, and the first fault. It does not keep the text.
 #[derive(Drop)]
 pub struct PolicyReader {
     pub(crate) reading: Reading,

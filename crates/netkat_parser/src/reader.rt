@@ -17,9 +17,6 @@ use nk_syntax::Pol;
 use nk_values::TextFault;
 use std::alloc::{AllocError, Global};
 
-// How many bytes are to be pending at least before a reader looks at them.
-const LEAST_LOOK: usize = 64;
-
 impl PolicyReader {
     /// Nothing was fed. The text begins at the first line and column.
     pub fn new(alloc: Global) -> PolicyReader
@@ -38,7 +35,7 @@ impl PolicyReader {
             pending: BytesMut::new(alloc),
             place: begin,
             room: u64::MAX - begin.line.max(begin.column),
-            look: LEAST_LOOK,
+            look: 1,
             fault: None,
         }
     }
@@ -112,7 +109,8 @@ impl PolicyReader {
             Pause::Halt(Halt::Fault(fault)) => self.fault = Some(fault_at(fault, self.place)),
             Pause::Halt(Halt::Done) | Pause::Wait => {}
         }
-        self.look = LEAST_LOOK.max(self.pending.len().saturating_mul(2));
+        // So a long name or value that comes byte by byte is not gone through at each byte.
+        self.look = self.pending.len().saturating_mul(2).max(1);
         Ok(())
     }
 
