@@ -1,6 +1,6 @@
 // Signs and runs at the front of a text that may go on.
 ghost use Rattle.std.specs.Prelude.{◌≡◌, ◌≤◌, false, length, drop, IfSome, IfNone};
-ghost use Rattle.netkat_parser.specs.Signs.{ahead};
+ghost use Rattle.netkat_parser.specs.Signs.{ahead, sign_len};
 ghost use Rattle.netkat_parser.specs.Cuts.{comment_behind, is_cut, IsSignAt, IsRunAt};
 
 use crate::sign::{Sign, first_sign, is_blank, run_len, sign_len};
@@ -29,21 +29,23 @@ pub fn sign_at(text: &[u8], end: bool) -> Option<(Sign, usize)>
     ensures whole { IfSome result (λ x. IsSignAt text.now end x.0 x.1) }
     ensures cut { IfNone result (end ≡ false) }
 {
-    if !end && is_cut(text) {
+    let len = sign_len(text);
+    if !end && is_cut(text, len) {
         return None;
     }
-    Some((first_sign(text), sign_len(text)))
+    Some((first_sign(text), len))
 }
 
-// Whether what follows the text may change its first sign.
-fn is_cut(text: &[u8]) -> bool
+// Whether what follows the text may change its first sign, which has so many bytes.
+fn is_cut(text: &[u8], len: usize) -> bool
+    requires { len ≡ sign_len text.now }
     ensures { result ≡ is_cut text.now }
 {
     let Some(first) = text.first() else {
         return true;
     };
     if first.is_ascii_alphabetic() {
-        sign_len(text) == text.len()
+        len == text.len()
     } else {
         *first == b':' && text.len() == 1
     }

@@ -58,7 +58,7 @@ fn twice(alloc: Global, policy: &str) -> Result<String, AllocError> {
 fn cut_otherwise(alloc: Global, policy: &str, answer: &str) -> Result<Option<String>, AllocError> {
     for cut in 0..=policy.len() {
         let pieces = in_pieces(alloc, policy, cut)?;
-        if pieces != answer {
+        if pieces.as_str() != answer {
             return Ok(Some(format!(in alloc; "cut at {cut}: {pieces}")?));
         }
     }

@@ -11,4 +11,4 @@ returns-clause-whole c =
       | else-not-end-via-then-not-end+else-is_cut w ↦ either-not c.args.end (is_cut text) (sym w.is_cut.ensures ∙ w.if-is_cut.false)
       | else-not-end-via-else-not-end w ↦ either-end c.args.end (is_cut text) w.if-not-end.false
     ] in
-    rw (c.first_sign.ensures, c.sign_len.ensures.len) (sign-cut text c.args.end whole (rw c.sign_len.ensures.len at c.sign_len.ensures.within))
+    rw (c.first_sign.ensures, c.sign_len-len.ensures.len) (sign-cut text c.args.end whole (rw c.sign_len-len.ensures.len at c.sign_len-len.ensures.within))
