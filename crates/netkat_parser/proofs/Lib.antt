@@ -1,10 +1,13 @@
+pub mod Advancing
 pub mod Back
 pub mod Chains
+pub mod Cutting
 pub mod Decimals
 pub mod Digits
-pub mod Exits
+pub mod Goes
 pub mod Joined
 pub mod Literals
+pub mod Moving
 pub mod Naming
 pub mod Outcomes
 pub mod PolLiterals
@@ -12,6 +15,7 @@ pub mod ReadBack
 pub mod Rooms
 pub mod Rules
 pub mod SameLits
+pub mod Standing
 pub mod Suffixes
 pub mod Total
 pub mod Unique

@@ -1,5 +1,5 @@
 -- Each text has an outcome.
-use Rattle.std.proofs.Common.{◌≡◌, ◌≢◌, ℕ, zero, suc, ◌+◌, ◌<◌, ◌≤◌, ◌⊎◌, inl, inr, Bool, true, false, cond, ◌||◌, ◌==◌, List, [], ◌∷◌, ◌++◌, length, drop, Option, Some, None, refl, arith, length-drop}
+use Rattle.std.proofs.Common.{◌≡◌, ◌≢◌, ℕ, zero, suc, ◌+◌, ◌<◌, ◌≤◌, ◌⊎◌, inl, inr, Bool, true, false, cond, ◌||◌, ◌==◌, List, [], ◌∷◌, length, drop, Option, Some, None, refl, arith, length-drop}
 use Rattle.std.specs.List.{prefix_len}
 use Rattle.std.specs.Char.{is_ascii_alphabetic, is_ascii_alphanumeric}
 use Rattle.std.specs.Int.{is_in_range}
@@ -18,8 +18,8 @@ use Rattle.netkat_parser.specs.declared.sign.Sign.TheVariants.{Name, Equals, Bec
 use Rattle.netkat_parser.specs.Signs.{sign, sign_len, is_becomes, past, run, ahead}
 use Rattle.netkat_parser.specs.Numbers.{number}
 use Rattle.netkat_parser.specs.Places.{HasFault, place_behind}
-use Rattle.netkat_parser.specs.Grammar.{Spot, Got, Read, Bad, step, strays, literal, gathered, negated, sum_of, seq_of, closed, starred, ended, start, Where, Opens, IsNumber, IsRun, IsPair, IsLeaf, IsPolicy, AreSummands, IsSequence, AreFactors, IsUnary, IsAtom, IsReading, IsText, sum, last_summand, more_summands, sequence, last_factor, more_factors, negation, post, bracket, leaf}
-use Rattle.netkat_parser.proofs.Suffixes.{IsEnd, end-ahead, end-short, end-fault, ends-sequence, ends-unary}
+use Rattle.netkat_parser.specs.Grammar.{Spot, Got, Read, Bad, step, strays, literal, gathered, negated, sum_of, seq_of, closed, starred, ended, start, Opens, IsNumber, IsRun, IsPair, IsLeaf, IsPolicy, AreSummands, IsSequence, AreFactors, IsUnary, IsAtom, IsReading, IsText, sum, last_summand, more_summands, sequence, last_factor, more_factors, negation, post, bracket, leaf}
+use Rattle.netkat_parser.proofs.Suffixes.{end-ahead, end-short, end-fault, ends-sequence, ends-unary}
 
 abbrev Has : {A : Type 0} → (Got A → Type 0) → Type 0
 Has {A} P = (o : Got A) × P o
@@ -29,7 +29,7 @@ letter : (d u l : Bool) → (u || l) ≡ true → ((d || u) || l) ≡ true
 letter true u l e = refl
 letter false u l e = e
 
-some-len : (b : ℕ) (bs : List ℕ) → 1 ≤ sign_len (b ∷ bs)
+pub some-len : (b : ℕ) (bs : List ℕ) → 1 ≤ sign_len (b ∷ bs)
 some-len b bs = split (is_ascii_alphabetic b) refl (is_becomes (b ∷ bs))
   where
     word : (a : Bool) (n : ℕ) → a ≡ true → 1 ≤ cond a (1 + n) 0

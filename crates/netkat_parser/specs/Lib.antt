@@ -1,8 +1,14 @@
 pub mod Answers
+pub mod Cuts
+pub mod Going
 pub mod Grammar
 pub mod Laws
 pub mod Numbers
 pub mod Pairs
 pub mod Places
 pub mod Printed
+pub mod Readers
+pub mod Showing
 pub mod Signs
+pub mod Standing
+pub mod Views

@@ -1,5 +1,6 @@
 // Why a text is no policy.
 use nk_values::TextFault;
+use std::alloc::AllocError;
 
 /// A place in a text: its line and column, both from 1, the column in bytes.
 #[derive(Clone, Copy, Debug, PartialEq, Eq)]
@@ -21,4 +22,15 @@ pub struct ParseFault {
 pub enum ParseError {
     Fault(ParseFault),
     Memory,
+}
+
+impl From<AllocError> for ParseError {
+    ghost use Rattle.std.specs.Prelude.{◌≡◌};
+    ghost use Rattle.netkat_parser.specs.declared.fault.ParseError.TheVariants.{Memory};
+
+    ghost from_gives = { λ _ e. e ≡ Memory };
+
+    fn from(_: AllocError) -> Self {
+        ParseError::Memory
+    }
 }

@@ -1,18 +1,23 @@
 //! Policies from their text.
 #![tactic(auto)]
 
+mod advance;
+mod chain;
 mod fault;
+mod feeding;
 mod laws;
-mod leaf;
 mod named;
 mod number;
 mod parse;
-mod parser;
+mod reader;
+mod reading;
 mod sign;
-mod stop;
-mod taken;
+mod stage;
+mod stray;
+mod token;
 
 pub use fault::{ParseError, ParseFault, Place};
+pub use feeding::PolicyReader;
 pub use laws::{names_few, one_reading, read_back};
 pub use number::{GREATEST, cut, has_form, number_of, numeral};
 pub use parse::{parse_policy, parse_policy_at, place_behind};

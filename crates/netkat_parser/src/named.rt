@@ -1,5 +1,5 @@
 // The values that a policy names.
-ghost use Rattle.std.specs.Prelude.{◌≡◌, [], ◌==◌, ◌||◌, ◌&&◌, not, nat_le, length, false, ◌++◌, ◌∷◌, IfOk, OnOk, if◌then◌else◌};
+ghost use Rattle.std.specs.Prelude.{◌≡◌, [], ◌==◌, ◌||◌, ◌&&◌, not, nat_le, length, false, ◌++◌, ◌∷◌, IfOk, OnOk, OnErr, if◌then◌else◌};
 ghost use Rattle.nk_values.specs.Lits.{lit_field, lit_value};
 ghost use Rattle.nk_values.specs.Ranges.{place};
 ghost use Rattle.nk_values.specs.declared.field.Field.TheVariants.{IpProto};
@@ -36,6 +36,7 @@ impl Named {
         ensures room { IfOk result (λ room. room ≡ not (is_too_many (pairs self.old) (lit_field lit) (lit_value lit))) }
         ensures pairs { IfOk result (λ room. pairs self.new
             ≡ (if room then with_pair (pairs self.old) (lit_field lit) (lit_value lit) else pairs self.old)) }
+        ensures kept { OnErr result (pairs self.new ≡ pairs self.old) }
     {
         if self.has(lit) {
             return Ok(true);
@@ -74,7 +75,8 @@ impl Named {
 
     fn add(&mut self, lit: Lit) -> Result<(), AllocError>
         requires { is_named (pairs self.old) (lit_field lit) (lit_value lit) ≡ false }
-        ensures { OnOk result (pairs self.new ≡ pairs self.old ++ (lit_field lit, lit_value lit) ∷ []) }
+        ensures added { OnOk result (pairs self.new ≡ pairs self.old ++ (lit_field lit, lit_value lit) ∷ []) }
+        ensures kept { OnErr result (pairs self.new ≡ pairs self.old) }
     {
         self.lits.insert(lit)?;
         Ok(())

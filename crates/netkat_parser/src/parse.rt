@@ -2,20 +2,14 @@
 ghost use Rattle.std.specs.Prelude.{◌≡◌, ◌⊎◌, ◌+◌, ◌-◌, ◌<◌, ◌^◌, length, IfOk, IfErr, IsErrAnd, MatchResult};
 ghost use Rattle.nk_syntax.specs.Terms.{Term};
 ghost use Rattle.nk_syntax.specs.Views.{term_of};
-ghost use Rattle.netkat_parser.specs.Grammar.{Bad, IsReading, IsText};
+ghost use Rattle.netkat_parser.specs.Grammar.{IsText};
 ghost use Rattle.netkat_parser.specs.Places.{next_place, place_behind, HasFault, text_start};
-ghost use Rattle.netkat_parser.specs.Answers.{ReadsAll};
 ghost use Rattle.netkat_parser.specs.declared.fault.ParseError.{ParseError as Error};
 ghost use Rattle.netkat_parser.specs.declared.fault.ParseFault.{ParseFault as Located};
 
-use crate::fault::{ParseError, ParseFault, Place};
-use crate::leaf::stray;
-use crate::named::Named;
-use crate::parser::policy;
-use crate::sign::{Sign, ahead, first_sign};
-use crate::stop::Stop;
+use crate::fault::{ParseError, Place};
+use crate::feeding::PolicyReader;
 use nk_syntax::Pol;
-use nk_values::TextFault;
 use std::alloc::Global;
 
 /// Reads a whole text as a policy, or tells its first fault. Lines and columns count from 1,
@@ -54,38 +48,9 @@ pub fn parse_policy_at(alloc: Global, text: &[u8], begin: Place) -> Result<Pol, 
     ensures each_read { (p : Term) → IsText text.now p → MatchResult result (λ pol. term_of pol ≡ p) (λ e. e ≡ ParseError.Memory) }
     ensures each_fault { (f : Located) → HasFault begin text.now f → IsErrAnd result (λ e. (e ≡ ParseError.Fault f) ⊎ (e ≡ ParseError.Memory)) }
 {
-    match whole(alloc, text) {
-        Ok(pol) => Ok(pol),
-        Err(Stop::Fault(fault, at)) => Err(ParseError::Fault(located(text, begin, fault, at))),
-        Err(Stop::Memory) => Err(ParseError::Memory),
-    }
-}
-
-// The policy of the text, or its first fault with the text from there on.
-fn whole(alloc: Global, text: &[u8]) -> Result<Pol, Stop<'_>>
-    ensures { ReadsAll text.now result }
-{
-    let mut named = Named::new(alloc);
-    let (pol, rest) = policy(alloc, &mut named, 0, false, ahead(text))?;
-    match first_sign(rest) {
-        Sign::End => Ok(pol),
-        sign => Err(Stop::Fault(stray(0, sign), rest)),
-    }
-}
-
-// The fault with its place, where `at` is the text from there on.
-fn located(text: &[u8], begin: Place, fault: TextFault, at: &[u8]) -> ParseFault
-    requires lines { begin.line + length text.now < 2 ^ 64 }
-    requires columns { begin.column + length text.now < 2 ^ 64 }
-    requires first { IsReading text.now (Bad fault at.now) }
-    ensures { HasFault begin text.now result }
-{
-    let place = place_behind(begin, &text[..text.len() - at.len()]);
-    ParseFault {
-        fault,
-        line: place.line,
-        column: place.column,
-    }
+    let mut reader = PolicyReader::starting(alloc, begin);
+    reader.feed(alloc, text)?;
+    reader.finish(alloc)
 }
 
 /// The place behind a text that begins at a place.

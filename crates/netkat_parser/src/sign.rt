@@ -1,11 +1,10 @@
 // Signs: the tokens of a policy's text, but for values.
-ghost use Rattle.std.specs.Prelude.{◌≡◌, ◌≢◌, ◌≤◌, ◌<◌, false, length, drop};
-ghost use Rattle.netkat_parser.specs.declared.sign.Sign.TheVariants.{End};
+ghost use Rattle.std.specs.Prelude.{◌≡◌, ◌≤◌, length};
 ghost use Rattle.std.specs.List.{prefix_len, find};
 ghost use Rattle.std.specs.Str.{bytes_eq};
 ghost use Rattle.std.specs.Char.{is_ascii_alphanumeric};
 ghost use Rattle.nk_values.specs.Names.{name_of, all_fields};
-ghost use Rattle.netkat_parser.specs.Signs.{is_blank, ahead, word, mark, is_becomes, sign, sign_len, past, is_run_byte, run, past_run};
+ghost use Rattle.netkat_parser.specs.Signs.{is_blank, word, mark, is_becomes, sign, sign_len, is_run_byte};
 
 use nk_values::Field;
 
@@ -30,24 +29,6 @@ pub enum Sign {
     Strange,
 }
 
-/// From the next sign on: behind blanks and comments.
-pub fn ahead(text: &[u8]) -> &[u8]
-    ensures value { result.now ≡ ahead false text.now }
-    ensures shorter { length result.now ≤ length text.now }
-{
-    let mut in_comment = false;
-    for (i, byte) in text.iter().enumerate() {
-        if in_comment {
-            in_comment = *byte != b'\n';
-        } else if *byte == b'#' {
-            in_comment = true;
-        } else if !is_blank(*byte) {
-            return &text[i..];
-        }
-    }
-    &text[text.len()..]
-}
-
 /// The first sign of a text that begins with no blank.
 pub fn first_sign(text: &[u8]) -> Sign
     ensures { result ≡ sign text.now }
@@ -64,26 +45,8 @@ pub fn first_sign(text: &[u8]) -> Sign
     }
 }
 
-/// From the next sign but one on.
-pub fn past(text: &[u8]) -> &[u8]
-    ensures value { result.now ≡ past text.now }
-    ensures shorter { length result.now ≤ length text.now }
-    ensures fewer { sign text.now ≢ End → length result.now < length text.now }
-{
-    ahead(&text[sign_len(text)..])
-}
-
-/// The longest run of letters, digits, `.` and `:`, and from the next sign behind it on.
-pub fn split_run(text: &[u8]) -> (&[u8], &[u8])
-    ensures run { result.0.now ≡ run text.now }
-    ensures rest { result.1.now ≡ past_run text.now }
-    ensures shorter { length result.1.now ≤ length text.now }
-{
-    let len = run_len(text);
-    (&text[..len], ahead(&text[len..]))
-}
-
-fn is_blank(byte: u8) -> bool
+/// A blank, a tab, CR or LF.
+pub fn is_blank(byte: u8) -> bool
     ensures { result ≡ is_blank byte }
 {
     matches!(byte, b' ' | b'\t' | b'\r' | b'\n')
@@ -96,8 +59,8 @@ pub fn is_run_byte(byte: u8) -> bool
     byte.is_ascii_alphanumeric() || byte == b'.' || byte == b':'
 }
 
-// How many bytes the first sign has.
-fn sign_len(text: &[u8]) -> usize
+/// How many bytes the first sign has.
+pub fn sign_len(text: &[u8]) -> usize
     ensures len { result ≡ sign_len text.now }
     ensures within { result ≤ length text.now }
 {
@@ -132,8 +95,8 @@ fn name_len(text: &[u8]) -> usize
     text.len()
 }
 
-// How many bytes of a run stand at the front.
-fn run_len(text: &[u8]) -> usize
+/// How many bytes of a run stand at the front.
+pub fn run_len(text: &[u8]) -> usize
     ensures len { result ≡ prefix_len is_run_byte text.now }
     ensures within { result ≤ length text.now }
 {

@@ -2,10 +2,12 @@
 //! first fault with the fault's number and name.
 //!
 //! In a policy `\n`, `\r` and `\t` stand for LF, CR and a tab. A line that begins with `==` is a heading. What
-//! is printed is read and printed once more, and has to be the same.
+//! is printed is read and printed once more, and has to be the same. So has what is printed of a policy that
+//! comes byte by byte, and of one that is cut in two, at each place.
 #![tactic(auto)]
 
-use netkat_parser::{ParseError, parse_policy};
+use netkat_parser::{ParseError, PolicyReader, parse_policy};
+use nk_syntax::Pol;
 use std::alloc::{AllocError, Global};
 use std::io;
 
@@ -17,7 +19,11 @@ fn main(rt: HostRuntime) -> io::Result<()> {
             println!(rt; "{line}")?;
         } else {
             let policy = unescaped(alloc, line)?;
-            println!(rt; "{}", twice(alloc, &policy)?)?;
+            let answer = twice(alloc, &policy)?;
+            println!(rt; "{answer}")?;
+            if let Some(other) = cut_otherwise(alloc, &policy, &answer)? {
+                println!(rt; "{other}")?;
+            }
         }
     }
     Ok(())
@@ -48,9 +54,40 @@ fn twice(alloc: Global, policy: &str) -> Result<String, AllocError> {
     }
 }
 
-// A copy of the policy, printed, or the place of its fault, its number and its name.
+// What is answered otherwise to the policy in pieces.
+fn cut_otherwise(alloc: Global, policy: &str, answer: &str) -> Result<Option<String>, AllocError> {
+    for cut in 0..=policy.len() {
+        let pieces = in_pieces(alloc, policy, cut)?;
+        if pieces.as_str() != answer {
+            return Ok(Some(format!(in alloc; "cut at {cut}: {pieces}")?));
+        }
+    }
+    Ok(None)
+}
+
+// The answer to a policy that is cut in two at a place, or that comes byte by byte where the place is its end.
+fn in_pieces(alloc: Global, policy: &str, cut: usize) -> Result<String, AllocError> {
+    let mut reader = PolicyReader::new(alloc);
+    let bytes = policy.as_bytes();
+    if cut < bytes.len() {
+        reader.feed(alloc, &bytes[..cut])?;
+        reader.feed(alloc, &bytes[cut..])?;
+    } else {
+        for i in 0..bytes.len() {
+            reader.feed(alloc, &bytes[i..i + 1])?;
+        }
+    }
+    told(alloc, reader.finish(alloc))
+}
+
+// The answer to a policy.
 fn answer(alloc: Global, policy: &str) -> Result<String, AllocError> {
-    match parse_policy(alloc, policy.as_bytes()) {
+    told(alloc, parse_policy(alloc, policy.as_bytes()))
+}
+
+// A copy of the policy, printed, or the place of its fault, its number and its name.
+fn told(alloc: Global, read: Result<Pol, ParseError>) -> Result<String, AllocError> {
+    match read {
         Ok(pol) => pol.copy(alloc)?.print(alloc),
         Err(ParseError::Fault(it)) => format!(in alloc; "{}:{} {}", it.line, it.column, it.fault),
         Err(ParseError::Memory) => Err(AllocError),

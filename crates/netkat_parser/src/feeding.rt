@@ -1,0 +1,21 @@
+// What a reader of a policy's text keeps.
+ghost use Rattle.std.specs.Prelude.{◌<◌, ◌+◌, ◌^◌, length};
+
+use crate::fault::{ParseFault, Place};
+use crate::reading::Reading;
+use bytes::BytesMut;
+
+/// Reads a policy's text that comes in pieces of any size. It keeps what was read as terms, the bytes of the
+/// sign or value that may go on, and the first fault. It does not keep the text.
+#[derive(Drop)]
+pub struct PolicyReader {
+    pub(crate) reading: Reading,
+    pub(crate) in_comment: bool,
+    pub(crate) pending: BytesMut,
+    pub(crate) place: Place,
+    pub(crate) room: u64,
+    pub(crate) look: usize,
+    pub(crate) fault: Option<ParseFault>,
+    ghost lines: { place.line + length pending.items + room < 2 ^ 64 },
+    ghost columns: { place.column + length pending.items + room < 2 ^ 64 },
+}

@@ -1,0 +1,64 @@
+// Signs and runs at the front of a text that may go on.
+ghost use Rattle.std.specs.Prelude.{◌≡◌, ◌≤◌, false, length, drop, IfSome, IfNone};
+ghost use Rattle.netkat_parser.specs.Signs.{ahead, sign_len};
+ghost use Rattle.netkat_parser.specs.Cuts.{comment_behind, is_cut, IsSignAt, IsRunAt};
+
+use crate::sign::{Sign, first_sign, is_blank, run_len, sign_len};
+
+/// How many bytes stand in front of the next sign, and whether a comment goes on behind them.
+pub fn skip(in_comment: bool, text: &[u8]) -> (usize, bool)
+    ensures within { result.0 ≤ length text.now }
+    ensures rest { drop result.0 text.now ≡ ahead in_comment text.now }
+    ensures comment { result.1 ≡ comment_behind in_comment text.now }
+{
+    let mut in_comment = in_comment;
+    for (i, byte) in text.iter().enumerate() {
+        if in_comment {
+            in_comment = *byte != b'\n';
+        } else if *byte == b'#' {
+            in_comment = true;
+        } else if !is_blank(*byte) {
+            return (i, false);
+        }
+    }
+    (text.len(), in_comment)
+}
+
+/// The first sign of a text and how many bytes it has, unless what follows the text may change it.
+pub fn sign_at(text: &[u8], end: bool) -> Option<(Sign, usize)>
+    ensures whole { IfSome result (λ x. IsSignAt text.now end x.0 x.1) }
+    ensures cut { IfNone result (end ≡ false) }
+{
+    let len = sign_len(text);
+    if !end && is_cut(text, len) {
+        return None;
+    }
+    Some((first_sign(text), len))
+}
+
+// Whether what follows the text may change its first sign, which has so many bytes.
+fn is_cut(text: &[u8], len: usize) -> bool
+    requires { len ≡ sign_len text.now }
+    ensures { result ≡ is_cut text.now }
+{
+    let Some(first) = text.first() else {
+        return true;
+    };
+    if first.is_ascii_alphabetic() {
+        len == text.len()
+    } else {
+        *first == b':' && text.len() == 1
+    }
+}
+
+/// How many bytes of a run stand at the front, unless what follows the text may change it.
+pub fn run_at(text: &[u8], end: bool) -> Option<usize>
+    ensures whole { IfSome result (λ n. IsRunAt text.now end n) }
+    ensures cut { IfNone result (end ≡ false) }
+{
+    let len = run_len(text);
+    if !end && len == text.len() {
+        return None;
+    }
+    Some(len)
+}
