@@ -17,5 +17,5 @@ mod store;
 mod unions;
 
 pub use id::Id;
-pub use laws::{ids_are_diagrams, made_are_one};
-pub use store::Store;
+pub use laws::{each_is_made, ids_are_diagrams, made_are_one};
+pub use store::{Look, Store};

@@ -55,7 +55,7 @@ pub(crate) struct Size {
 
 /// The root of a diagram: a leaf, or a test with its branches.
 #[derive(Clone, Copy)]
-pub(crate) enum Look {
+pub enum Look {
     Leaf,
     Fork(Lit, Id, Id),
 }
@@ -93,7 +93,7 @@ impl Store {
     }
 
     /// The root of a diagram.
-    pub(crate) fn look(&self, a: Id) -> Look
+    pub fn look(&self, a: Id) -> Look
         requires { Has self.now a }
         ensures made { IsMade (tree_at self.now a) }
         ensures look { Looks self.now (tree_at self.now a) result }
@@ -108,7 +108,7 @@ impl Store {
     }
 
     /// The leaf that a diagram is.
-    pub(crate) fn leaf(&self, a: Id) -> &Leaf
+    pub fn leaf(&self, a: Id) -> &Leaf
         requires has { Has self.now a }
         requires leaf { IsLeaf (tree_at self.now a) }
         ensures { tree_at self.now a ≡ trees.Leaf result.now }
@@ -163,7 +163,7 @@ impl Store {
     }
 
     /// Whether a diagram may assign a field: where not, no leaf of it does.
-    pub(crate) fn may_set(&self, a: Id, f: Field) -> bool
+    pub fn may_set(&self, a: Id, f: Field) -> bool
         requires { Has self.now a }
         ensures { (m : Lit) → trees.Assigns (tree_at self.now a) m → lit_field m ≡ f → result ≡ true }
     {
