@@ -1,11 +1,7 @@
 // Compiled policies.
 ghost use Rattle.std.specs.Prelude.{MatchResult, OnOk};
 ghost use Rattle.nk_syntax.specs.Views.{term_of};
-ghost use Rattle.history_meaning.specs.Laws.{IsFlat};
-ghost use Rattle.fdd_nodes.specs.Fdds.{tree_of};
-ghost use Rattle.fdd_compile.specs.Builds.{BuiltOf};
 ghost use Rattle.fdd_compile.specs.Compiles.{CompiledOf, IsFaultless, Refuses};
-ghost use Rattle.fdd_compile.specs.Deep.{TellsDeep};
 ghost use Rattle.fdd_compile.specs.Named.{AreFewNamed, TermNames};
 ghost use Rattle.fdd_compile.specs.Places.{diagram_of};
 
@@ -16,7 +12,6 @@ use crate::leftmost::leftmost_fault;
 use crate::literal::literal;
 use fdd_nodes::Fdd;
 use fdd_ops::cofactor;
-use fdd_star::StarError;
 use fdd_store::Store;
 use nk_syntax::Pol;
 use nk_values::{CompileFault, Field};
@@ -63,20 +58,13 @@ pub fn compile(alloc: Global, pol: &Pol) -> Result<Compiled, CompileError>
     if let Some(fault) = leftmost_fault(pol) {
         return Err(CompileError::Fault(fault));
     }
-    let diagram = diagram(alloc, pol)?;
-    match unguarded(&diagram) {
-        Some(packet) => Err(CompileError::Fault(CompileFault::Unguarded { packet })),
-        None => Ok(Compiled { diagram }),
-    }
-}
-
-// The diagram of a policy without `dup`, made in a store of its own.
-fn diagram(alloc: Global, pol: &Pol) -> Result<Fdd, StarError>
-    requires flat { IsFlat (term_of pol.now) }
-    requires few { AreFewNamed (TermNames (term_of pol.now)) }
-    ensures { MatchResult result (λ r. BuiltOf (term_of pol.now) (tree_of r)) (λ e. TellsDeep (term_of pol.now) e) }
-{
     let mut store = Store::new(alloc);
     let root = build(alloc, &mut store, pol)?;
-    Ok(store.tree(alloc, root)?)
+    match unguarded(alloc, &store, pol, root)? {
+        Some(packet) => Err(CompileError::Fault(CompileFault::Unguarded { packet })),
+        None => {
+            let diagram = store.tree(alloc, root)?;
+            Ok(Compiled { diagram })
+        }
+    }
 }
