@@ -55,8 +55,8 @@ fn later_assignments_count(rt: HostRuntime) -> Result<(), Fail> {
 
 // A test of port 1 before the leaf of two copies.
 fn at_port_one(alloc: Global) -> Result<Node, Fail> {
-    let yes = Box::new(alloc, Node::Leaf(two_copies(alloc)?))?;
-    let no = Box::new(alloc, Node::Leaf(Leaf::empty(alloc)))?;
+    let yes = Rc::new(alloc, Node::Leaf(two_copies(alloc)?))?;
+    let no = Rc::new(alloc, Node::Leaf(Leaf::empty(alloc)))?;
     Ok(Node::Test(lit(Field::Pt, 1)?, yes, no))
 }
 

@@ -1,5 +1,5 @@
 -- How a search for breaches goes on at a test.
-use Rattle.std.proofs.Common.{◌≡◌, ◌+◌, ◌*◌, inl, inr, refl, ap, sym, ◌∙◌, subst, arith, List}
+use Rattle.std.proofs.Common.{◌≡◌, ◌≢◌, ◌<◌, ◌+◌, ◌*◌, inl, inr, refl, ap, sym, ◌∙◌, subst, arith, List}
 use Rattle.std.proofs.lemmas.Bool.Decides.{eqb_tells}
 use Rattle.nk_values.specs.declared.field.Field.{Field}
 use Rattle.nk_values.specs.declared.packet.Packet.{Packet}
@@ -16,6 +16,8 @@ use Rattle.fdd_nodes.specs.Known.{Bars}
 use Rattle.fdd_nodes.specs.Trees.{Tree, Node, leaf_at}
 use Rattle.fdd_nodes.proofs.CellLaws.{tells_open, lit_not_free, holds_fixed, agrees_with, fill_fixed, fill_open}
 use Rattle.fdd_nodes.proofs.SplitLaws.{leaf_at-then, leaf_at-else}
+use Rattle.fdd_store.proofs.MadeLaws.{tests_from, places_past}
+use Rattle.fdd_store.proofs.MoveLaws.{one_leaf}
 use Rattle.fdd_differ.specs.declared.frame.Frame.{Frame}
 use Rattle.fdd_differ.specs.Frames.{Leaves}
 use Rattle.fdd_compile.specs.Breaches.{SetsLacking, Fits, IsSafe, Breaches}
@@ -139,3 +141,50 @@ breaches_no k c l t e q b h = record {
       let n : ¬ Holds (fill q g) l = λ z. b.other (sym kept ∙ sym (fill_fixed q g (lit_field l) (λ x. b.fixed (sym kept ∙ x))) ∙ z) in
       sets_else k l t e (fill q g) n (h.sets (rank l + 1) ord.2 g (λ m i. fresh m (inr (inr i))));
 }
+
+-- searched in the cell of a kind, without what the path to it fixes
+
+pub safe_join : (k : Frame) (c : Packet) (l : Lit) (t e : Tree) → IsSafe k c t → IsSafe k c e → IsSafe k c (Node l t e)
+safe_join k c l t e ht he = record {
+  sets_none = λ p a v s. elim (eqb_tells (get p (lit_field l)) (lit_value l)) [
+    | inl y ↦ ht.sets_none p a v (of_then k l t e p y.1 s)
+    | inr n ↦ he.sets_none p a v (of_else k l t e p n.1 s)
+  ];
+}
+
+fill_other : (q g : Packet) (l : Lit) (f : Field) → lit_field l ≢ f → get (fill (put l q) g) f ≡ get (fill q g) f
+fill_other q g l f d =
+    let e = get-with_other q (lit_field l) f (lit_value l) d in
+    elim (tells_open q f) [
+      | inl y ↦ fill_open (put l q) g f (e ∙ y.1) ∙ sym (fill_open q g f y.1)
+      | inr n ↦ fill_fixed (put l q) g f (λ z. n.1 (sym e ∙ z)) ∙ e ∙ sym (fill_fixed q g f n.1)
+    ]
+
+pub breaches_join : (k : Frame) (c : Packet) (l : Lit) (t e : Tree) (q : Packet) → IsOpen c (lit_field l) → Leaves k (lit_field l) (lit_value l) → Breaches k c t q → Breaches k c (Node l t e) (put l q)
+breaches_join k c l t e q o v h =
+    let same = get-with_same q (lit_field l) (lit_value l) in
+    record {
+      keeps = λ f n. elim (field_cases (lit_field l) f) [
+        | inl ef ↦ absurd (n (subst (λ (g : Field). IsOpen c g) ef o))
+        | inr d ↦ get-with_other q (lit_field l) f (lit_value l) d ∙ h.keeps f n
+      ];
+      fits = λ w. fits_with k q l v (h.fits w);
+      beyond = λ j ord m om em. elim (field_cases (lit_field l) (lit_field m)) [
+        | inl ef ↦
+            let ep : place (lit_field l) ≡ place (lit_field m) = ap place ef in
+            let ev : lit_value m ≡ lit_value l = sym em ∙ ap (λ f. get (put l q) f) (sym ef) ∙ same in
+            omega (arith, ord.0, ep, ev)
+        | inr d ↦
+            let below = h.beyond (step * (place (lit_field l) + 1)) ord.1 m om (sym (get-with_other q (lit_field l) (lit_field m) (lit_value l) d) ∙ em) in
+            omega (arith, ord.0, below, lit_small l)
+      ];
+      sets = λ j ord g fresh.
+          let y : Holds (fill (put l q) g) l = fill_fixed (put l q) g (lit_field l) (λ z. lit_not_free l (sym same ∙ z)) ∙ same in
+          let there = one_leaf t (fill (put l q) g) (fill q g) (λ m w.
+              let f = fill_other q g l (lit_field m) (apart l m (places_past l m (tests_from t _ m ord.1 w))) in
+              ((λ z. sym f ∙ z), (λ z. f ∙ z))) in
+          sets_then k l t e (fill (put l q) g) y (subst (SetsLacking k) (sym there) (h.sets (step * (place (lit_field l) + 1)) ord.1 g (λ m i. fresh m (inr (inl i)))));
+    }
+  where
+    apart : (l m : Lit) → place (lit_field l) < place (lit_field m) → lit_field l ≢ lit_field m
+    apart l m h e = let k : place (lit_field l) ≡ place (lit_field m) = ap place e in omega (arith, h, k)

@@ -13,8 +13,7 @@ use Rattle.nk_syntax.specs.declared.pol.Pol.TheVariants as pol
 use Rattle.nk_syntax.specs.declared.pol.Pols.{Pols}
 use Rattle.nk_syntax.proofs.Equations.{term_of-filter, term_of-assign, term_of-sum, term_of-seq, term_of-star}
 use Rattle.history_meaning.specs.Laws.{IsFlat, AreFlat}
-use Rattle.fdd_nodes.specs.declared.fdd.Fdd.{Fdd}
-use Rattle.fdd_nodes.specs.Fdds.{tree_of}
+use Rattle.fdd_store.specs.Stores.{Kept, tree_at}
 use Rattle.fdd_nodes.specs.Trees.{Tree}
 use Rattle.fdd_ops.specs.Operations.{AssignmentOf}
 use Rattle.fdd_star.specs.declared.fault.StarError.{StarError}
@@ -27,6 +26,8 @@ use Rattle.fdd_compile.specs.Folds.{AreSmall, UnionOfAll, SequenceOfAll}
 use Rattle.fdd_compile.specs.Named.{AreFewNamed, TermNames, TermsName}
 use Rattle.fdd_compile.specs.Results.{DiagramsOf}
 use Rattle.fdd_compile.proofs.FaultLaws.{built_star, deep_star}
+use Rattle.fdd_nodes.specs.Names.{IsFew}
+use Rattle.fdd_compile.proofs.FoldLaws.{few_alone}
 use Rattle.fdd_compile.proofs.NamedLaws.{small_of, fewer}
 use Rattle.fdd_compile.proofs.ResultLaws.{diagram_filter, diagram_assign, diagram_sum, diagram_seq, terms_normal, terms_tests, terms_assigns}
 
@@ -71,8 +72,8 @@ pub row_small : (ps : List Term) (ts : List Tree) → DiagramsOf ps ts → AreFe
 row_small ps ts h few =
     small_of (TermsName (term_row ps)) ts few (terms_normal ps ts h) (λ m k. inl (terms_tests ps ts h m k)) (λ m k. inr (terms_assigns ps ts h m k))
 
-pub parts_small : (ps : Pols) (parts parts' : List Fdd) → parts' ≡ parts → BuiltAll (map term_of ps.items.items) (terms_of ps) (map tree_of parts) → AreFewNamed (TermsName (terms_of ps)) → AreSmall (map tree_of parts')
-parts_small ps parts parts' e h few = subst (λ (x : List Fdd). AreSmall (map tree_of x)) (sym e) (row_small (map term_of ps.items.items) (map tree_of parts) h.diagrams few)
+pub parts_small : (k : Kept) (ps : Pols) (parts parts' : List ℕ) → parts' ≡ parts → BuiltAll (map term_of ps.items.items) (terms_of ps) (map (tree_at k) parts) → AreFewNamed (TermsName (terms_of ps)) → AreSmall (map (tree_at k) parts')
+parts_small k ps parts parts' e h few = subst (λ (x : List ℕ). AreSmall (map (tree_at k) x)) (sym e) (row_small (map term_of ps.items.items) (map (tree_at k) parts) h.diagrams few)
 
 -- the forms
 
@@ -82,15 +83,15 @@ built_filter p a r e h = subst (λ (t : Term). BuiltOf t r) (sym (ap term_of e �
 pub built_assign : (p : Pol) (l : Lit) (r : Tree) → p ≡ pol.Assign l → AssignmentOf l r → BuiltOf (term_of p) r
 built_assign p l r e h = subst (λ (t : Term). BuiltOf t r) (sym (ap term_of e ∙ term_of-assign l)) (record { diagram = diagram_assign l r h; shallow = tt })
 
-pub built_sum : (p : Pol) (ps : Pols) (parts parts' : List Fdd) (r : Tree) → p ≡ pol.Sum ps → parts' ≡ parts → BuiltAll (map term_of ps.items.items) (terms_of ps) (map tree_of parts) → UnionOfAll (map tree_of parts') r → BuiltOf (term_of p) r
-built_sum p ps parts parts' r e ep h u = subst (λ (t : Term). BuiltOf t r) (sym (ap term_of e ∙ term_of-sum ps)) (record {
-  diagram = diagram_sum (map term_of ps.items.items) (map tree_of parts) r h.diagrams (subst (λ (x : List Fdd). UnionOfAll (map tree_of x) r) ep u);
+pub built_sum : (k : Kept) (p : Pol) (ps : Pols) (parts parts' : List ℕ) (r : Tree) → p ≡ pol.Sum ps → parts' ≡ parts → BuiltAll (map term_of ps.items.items) (terms_of ps) (map (tree_at k) parts) → UnionOfAll (map (tree_at k) parts') r → BuiltOf (term_of p) r
+built_sum k p ps parts parts' r e ep h u = subst (λ (t : Term). BuiltOf t r) (sym (ap term_of e ∙ term_of-sum ps)) (record {
+  diagram = diagram_sum (map term_of ps.items.items) (map (tree_at k) parts) r h.diagrams (subst (λ (x : List ℕ). UnionOfAll (map (tree_at k) x) r) ep u);
   shallow = h.shallow;
 })
 
-pub built_seq : (p : Pol) (ps : Pols) (parts parts' : List Fdd) (r : Tree) → p ≡ pol.Seq ps → parts' ≡ parts → AreFlat (terms_of ps) → BuiltAll (map term_of ps.items.items) (terms_of ps) (map tree_of parts) → SequenceOfAll (map tree_of parts') r → BuiltOf (term_of p) r
-built_seq p ps parts parts' r e ep flat h u = subst (λ (t : Term). BuiltOf t r) (sym (ap term_of e ∙ term_of-seq ps)) (record {
-  diagram = diagram_seq (map term_of ps.items.items) (map tree_of parts) r flat h.diagrams (subst (λ (x : List Fdd). SequenceOfAll (map tree_of x) r) ep u);
+pub built_seq : (k : Kept) (p : Pol) (ps : Pols) (parts parts' : List ℕ) (r : Tree) → p ≡ pol.Seq ps → parts' ≡ parts → AreFlat (terms_of ps) → BuiltAll (map term_of ps.items.items) (terms_of ps) (map (tree_at k) parts) → SequenceOfAll (map (tree_at k) parts') r → BuiltOf (term_of p) r
+built_seq k p ps parts parts' r e ep flat h u = subst (λ (t : Term). BuiltOf t r) (sym (ap term_of e ∙ term_of-seq ps)) (record {
+  diagram = diagram_seq (map term_of ps.items.items) (map (tree_at k) parts) r flat h.diagrams (subst (λ (x : List ℕ). SequenceOfAll (map (tree_at k) x) r) ep u);
   shallow = h.shallow;
 })
 
@@ -157,3 +158,10 @@ goes_on ps items i x h ex n g =
 pub goes_wrong : (ps : Pols) (items : List Pol) (i : ℕ) (x : Pol) (f : StarError) → i < length items → x ≡ get_or items i x → TellsDeep (term_of x) f → Goes ps (drop i items) → TellsDeepOf (terms_of ps) f
 goes_wrong ps items i x f h ex k g =
     g.deep f (subst (λ (row : Terms). TellsDeepOf row f) (sym (drop_item items i x h ex)) (here (term_of x) (term_row (map term_of (drop (i + 1) items))) f k))
+
+-- the diagram of a policy names few values
+pub built_few : (p : Term) (t : Tree) → BuiltOf p t → AreFewNamed (TermNames p) → IsFew t
+built_few p t h few =
+    few_alone t (small_of (TermNames p) (t ∷ []) few (h.diagram.normal, tt)
+    (λ m k. elim k [ inl w ↦ inl (h.diagram.tests m w) | inr w ↦ absurd w ])
+    (λ m k. elim k [ inl w ↦ inr (h.diagram.assigns m w) | inr w ↦ absurd w ]))

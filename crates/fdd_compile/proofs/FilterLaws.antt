@@ -16,14 +16,15 @@ use Rattle.nk_syntax.specs.declared.pred.Pred.{Pred}
 use Rattle.nk_syntax.specs.declared.pred.Pred.TheVariants as pred
 use Rattle.nk_syntax.specs.declared.pred.Preds.{Preds}
 use Rattle.nk_syntax.proofs.Equations.{guard_of-or, guard_of-and, guard_of-not}
-use Rattle.fdd_nodes.specs.declared.fdd.Fdd.{Fdd}
-use Rattle.fdd_nodes.specs.Fdds.{tree_of}
+use Rattle.fdd_store.specs.Stores.{Kept, tree_at}
 use Rattle.history_meaning.specs.Meaning.{meets, meets_one, meets_all}
 use Rattle.fdd_nodes.specs.Trees.{Tree}
 use Rattle.fdd_ops.specs.Operations.{OneOf, ZeroOf, TestOf, NegationOf}
 use Rattle.fdd_compile.specs.Filters.{FilterOf, FiltersOf}
 use Rattle.fdd_compile.specs.Folds.{SomeTests, SomeAssigns, AreNormal, AreSmall, SomeAnswers, AnswersThrough, UnionOfAll, SequenceOfAll}
 use Rattle.fdd_compile.specs.Named.{GuardTests, GuardsTest, AreFewNamed}
+use Rattle.fdd_nodes.specs.Names.{IsFew}
+use Rattle.fdd_compile.proofs.FoldLaws.{few_alone}
 use Rattle.fdd_compile.proofs.NamedLaws.{small_of, fewer}
 
 -- constants and literals
@@ -164,6 +165,9 @@ few_or p ps e few = subst (λ (a : Guard). AreFewNamed (GuardTests a)) (ap guard
 pub few_and : (p : Pred) (ps : Preds) → p ≡ pred.And ps → AreFewNamed (GuardTests (guard_of p)) → AreFewNamed (GuardsTest (guards_of ps))
 few_and p ps e few = subst (λ (a : Guard). AreFewNamed (GuardTests a)) (ap guard_of e ∙ guard_of-and ps) few
 
+pub few_not : (p : Pred) (b : Box Pred Global) → p ≡ pred.Not b → AreFewNamed (GuardTests (guard_of p)) → AreFewNamed (GuardTests (guard_of b.value))
+few_not p b e few = subst (λ (a : Guard). AreFewNamed (GuardTests a)) (ap guard_of e ∙ guard_of-not b) few
+
 pub is_or : (p : Pred) (ps : Preds) (r : Tree) → p ≡ pred.Or ps → FilterOf (Or (guards_of ps)) r → FilterOf (guard_of p) r
 is_or p ps r e h = subst (λ (a : Guard). FilterOf a r) (sym (ap guard_of e ∙ guard_of-or ps)) h
 
@@ -173,5 +177,9 @@ is_and p ps r e h = subst (λ (a : Guard). FilterOf a r) (sym (ap guard_of e ∙
 pub is_not : (p : Pred) (b : Box Pred Global) (r : Tree) → p ≡ pred.Not b → FilterOf (Not (guard_of b.value)) r → FilterOf (guard_of p) r
 is_not p b r e h = subst (λ (a : Guard). FilterOf a r) (sym (ap guard_of e ∙ guard_of-not b)) h
 
-pub filters_named : (ps : Preds) (parts parts' : List Fdd) → parts' ≡ parts → FiltersOf (map guard_of ps.items.items) (map tree_of parts) → FiltersOf (map guard_of ps.items.items) (map tree_of parts')
-filters_named ps parts parts' e h = subst (λ (x : List Fdd). FiltersOf (map guard_of ps.items.items) (map tree_of x)) (sym e) h
+pub filters_named : (k : Kept) (ps : Preds) (parts parts' : List ℕ) → parts' ≡ parts → FiltersOf (map guard_of ps.items.items) (map (tree_at k) parts) → FiltersOf (map guard_of ps.items.items) (map (tree_at k) parts')
+filters_named k ps parts parts' e h = subst (λ (x : List ℕ). FiltersOf (map guard_of ps.items.items) (map (tree_at k) x)) (sym e) h
+
+-- one predicate's diagram names few values
+pub filter_few : (a : Guard) (t : Tree) → FilterOf a t → AreFewNamed (GuardTests a) → IsFew t
+filter_few a t h few = few_alone t (small_of (GuardTests a) (t ∷ []) few (h.normal, tt) (λ m k. elim k [ inl w ↦ h.tests m w | inr w ↦ absurd w ]) (λ m k. elim k [ inl w ↦ absurd (h.assigns m w) | inr w ↦ absurd w ]))

@@ -2,18 +2,18 @@
 use Rattle.std.specs.Prelude.{◌↔◌}
 use Rattle.std.proofs.Common.{◌≡◌, ℕ, ◌≤◌, ◌⊎◌, inl, inr, refl, sym, ◌∙◌, subst, arith, List, [], ◌∷◌, ◌++◌, length, map, get_or, take, drop, ap, ◌<◌, ◌/◌, length-drop}
 use Rattle.std.proofs.lemmas.List.{map-append, take-append-drop, length-take}
-use Rattle.fdd_nodes.specs.declared.fdd.Fdd.{Fdd}
-use Rattle.fdd_nodes.specs.Fdds.{tree_of}
 use Rattle.nk_values.specs.declared.packet.Packet.{Packet}
 use Rattle.nk_values.specs.declared.lit.Lit.{Lit}
 use Rattle.nk_values.specs.Members.{IsIn}
 use Rattle.nk_values.proofs.MemberLaws.{in-left, in-right, in-either}
-use Rattle.fdd_nodes.specs.Names.{literals, AreFew}
+use Rattle.fdd_nodes.specs.Names.{literals, IsFew, AreFew}
 use Rattle.fdd_nodes.specs.Normals.{IsNormal}
 use Rattle.fdd_nodes.specs.Trees.{Tree, Leaf, Node, answers, Tests, IsSetBy, Assigns}
 use Rattle.fdd_nodes.proofs.NameLaws.{tests_literal, assigns_literal, count_within}
 use Rattle.fdd_ops.specs.Operations.{OneOf, ZeroOf, UnionOf, SequenceOf}
-use Rattle.fdd_compile.specs.Folds.{all_literals, SomeTests, SomeAssigns, AreNormal, AreSmall, SomeAnswers, AnswersThrough, UnionOfAll, SequenceOfAll}
+use Rattle.fdd_compile.specs.Folds.{all_literals, SomeTests, SomeAssigns, AreNormal, AreSmall, SomeAnswers, AnswersThrough, UnionOfAll, SequenceOfAll, AreHeld}
+use Rattle.fdd_store.specs.Stores.{Kept, Has, Gives, Grows, tree_at}
+use Rattle.fdd_store.proofs.StoreLaws.{all_more, tree_grown, has_grown, gives_grown}
 
 -- a list in two parts
 
@@ -171,91 +171,97 @@ sequence_both xs ys a b r ha hb h = record {
   assigns = λ m k. (assigns_split xs ys m).1 (elim (h.assigns m k) [ inl w ↦ inl (ha.assigns m w) | inr w ↦ inr (hb.assigns m w) ]);
 }
 
--- two diagrams
+-- diagrams of a store
 
-pair_parts : (parts : List Fdd) (x y : Fdd) → length parts ≡ 2 → x ≡ get_or parts 0 x → y ≡ get_or parts 1 y → map tree_of parts ≡ tree_of x ∷ tree_of y ∷ []
-pair_parts [] x y h ex ey = absurd (omega (arith, h))
-pair_parts (a ∷ []) x y h ex ey = absurd (omega (arith, h))
-pair_parts (a ∷ b ∷ []) x y h ex ey = let e : x ≡ a = ex in let f : y ≡ b = ey in cc
-pair_parts (a ∷ b ∷ c ∷ cs) x y h ex ey = absurd (omega (arith, h))
+pub trees_kept : (old new : Kept) (ids : List ℕ) → Grows old new → AreHeld old ids → map (tree_at new) ids ≡ map (tree_at old) ids
+trees_kept old new [] g h = refl
+trees_kept old new (i ∷ ids) g h =
+    let e = tree_grown old new i g (h i (inl refl)) in
+    let r = trees_kept old new ids g (λ j m. h j (inr m)) in
+    λ x. e x ∷ r x
 
-pub pair_few : (parts : List Fdd) (x y : Fdd) → length parts ≡ 2 → x ≡ get_or parts 0 x → y ≡ get_or parts 1 y → AreSmall (map tree_of parts) → AreFew (tree_of x) (tree_of y)
-pair_few parts x y h ex ey small =
-    few_of_parts (tree_of x ∷ []) (tree_of y ∷ []) (tree_of x) (tree_of y) (subst AreSmall (pair_parts parts x y h ex ey) small) (λ m k. inl k) (λ m k. inl k) (λ m k. inl k) (λ m k. inl k)
+pub held_grown : (old new : Kept) (ids : List ℕ) → Grows old new → AreHeld old ids → AreHeld new ids
+held_grown old new ids g h = λ i m. has_grown old new i g (h i m)
 
-pub union_pair : (parts : List Fdd) (x y : Fdd) (r : Tree) → length parts ≡ 2 → x ≡ get_or parts 0 x → y ≡ get_or parts 1 y → AreSmall (map tree_of parts) → UnionOf (tree_of x) (tree_of y) r → UnionOfAll (map tree_of parts) r
-union_pair parts x y r h ex ey small u =
-    let e = pair_parts parts x y h ex ey in
-    let n = (subst AreSmall e small).normal in
-    subst (λ (ts : List Tree). UnionOfAll ts r) (sym e) (union_both (tree_of x ∷ []) (tree_of y ∷ []) (tree_of x) (tree_of y) r (union_one (tree_of x) n.0) (union_one (tree_of y) n.1.0) u)
+pub held_push : (k : Kept) (old new : List ℕ) (i : ℕ) → new ≡ old ++ i ∷ [] → AreHeld k old → Has k i → AreHeld k new
+held_push k old new i e h w = subst (AreHeld k) (sym e) (all_more (Has k) old i h w)
 
-pub sequence_pair : (parts : List Fdd) (x y : Fdd) (r : Tree) → length parts ≡ 2 → x ≡ get_or parts 0 x → y ≡ get_or parts 1 y → AreSmall (map tree_of parts) → SequenceOf (tree_of x) (tree_of y) r → SequenceOfAll (map tree_of parts) r
-sequence_pair parts x y r h ex ey small u =
-    let e = pair_parts parts x y h ex ey in
-    let n = (subst AreSmall e small).normal in
-    subst (λ (ts : List Tree). SequenceOfAll ts r) (sym e) (sequence_both (tree_of x ∷ []) (tree_of y ∷ []) (tree_of x) (tree_of y) r (sequence_one (tree_of x) n.0) (sequence_one (tree_of y) n.1.0) u)
+pub held_as : (k : Kept) (ids ids' : List ℕ) → ids' ≡ ids → AreHeld k ids → AreHeld k ids'
+held_as k ids ids' e h = subst (AreHeld k) (sym e) h
 
--- three diagrams, the last two first
+pub one_held : (k : Kept) (ids : List ℕ) (x : ℕ) → length ids ≡ 1 → x ≡ get_or ids 0 x → AreHeld k ids → Has k x × (map (tree_at k) ids ≡ tree_at k x ∷ [])
+one_held k [] x h e w = absurd (omega (arith, h))
+one_held k (i ∷ []) x h e w = let f : x ≡ i = e in (w x (inl (sym f)), ap (λ (j : ℕ). tree_at k j ∷ []) (sym f))
+one_held k (i ∷ j ∷ ids) x h e w = absurd (omega (arith, h))
 
-triple_parts : (parts : List Fdd) (x y z : Fdd) → length parts ≡ 3 → x ≡ get_or parts 0 x → y ≡ get_or parts 1 y → z ≡ get_or parts 2 z → map tree_of parts ≡ tree_of x ∷ tree_of y ∷ tree_of z ∷ []
-triple_parts [] x y z h ex ey ez = absurd (omega (arith, h))
-triple_parts (a ∷ []) x y z h ex ey ez = absurd (omega (arith, h))
-triple_parts (a ∷ b ∷ []) x y z h ex ey ez = absurd (omega (arith, h))
-triple_parts (a ∷ b ∷ c ∷ []) x y z h ex ey ez = let e : x ≡ a = ex in let f : y ≡ b = ey in let g : z ≡ c = ez in cc
-triple_parts (a ∷ b ∷ c ∷ d ∷ cs) x y z h ex ey ez = absurd (omega (arith, h))
-
-pub triple_small : (parts : List Fdd) (x y z : Fdd) → length parts ≡ 3 → x ≡ get_or parts 0 x → y ≡ get_or parts 1 y → z ≡ get_or parts 2 z → AreSmall (map tree_of parts) → AreSmall (tree_of x ∷ tree_of y ∷ tree_of z ∷ [])
-triple_small parts x y z h ex ey ez small = subst AreSmall (triple_parts parts x y z h ex ey ez) small
-
-pub few_behind : (x y z : Tree) → AreSmall (x ∷ y ∷ z ∷ []) → AreFew y z
-few_behind x y z small = few_of_parts (y ∷ []) (z ∷ []) y z (small_right (x ∷ []) (y ∷ z ∷ []) small) (λ m k. inl k) (λ m k. inl k) (λ m k. inl k) (λ m k. inl k)
-
-union_behind : (x y z b : Tree) → AreSmall (x ∷ y ∷ z ∷ []) → UnionOf y z b → UnionOfAll (y ∷ z ∷ []) b
-union_behind x y z b small u = union_both (y ∷ []) (z ∷ []) y z b (union_one y small.normal.1.0) (union_one z small.normal.1.1.0) u
-
-pub union_few : (x y z b : Tree) → AreSmall (x ∷ y ∷ z ∷ []) → UnionOf y z b → AreFew x b
-union_few x y z b small u =
-    let all = union_behind x y z b small u in
-    few_of_parts (x ∷ []) (y ∷ z ∷ []) x b small (λ m k. inl k) (λ m k. inl k) all.tests all.assigns
-
-pub union_triple : (parts : List Fdd) (x y z : Fdd) (b r : Tree) → length parts ≡ 3 → x ≡ get_or parts 0 x → y ≡ get_or parts 1 y → z ≡ get_or parts 2 z → AreSmall (map tree_of parts) → UnionOf (tree_of y) (tree_of z) b → UnionOf (tree_of x) b r → UnionOfAll (map tree_of parts) r
-union_triple parts x y z b r h ex ey ez small u v =
-    let e = triple_parts parts x y z h ex ey ez in
-    let s = subst AreSmall e small in
-    subst (λ (ts : List Tree). UnionOfAll ts r) (sym e)
-    (union_both (tree_of x ∷ []) (tree_of y ∷ tree_of z ∷ []) (tree_of x) b r (union_one (tree_of x) s.normal.0) (union_behind (tree_of x) (tree_of y) (tree_of z) b s u) v)
-
-sequence_behind : (x y z b : Tree) → AreSmall (x ∷ y ∷ z ∷ []) → SequenceOf y z b → SequenceOfAll (y ∷ z ∷ []) b
-sequence_behind x y z b small u = sequence_both (y ∷ []) (z ∷ []) y z b (sequence_one y small.normal.1.0) (sequence_one z small.normal.1.1.0) u
-
-pub sequence_few : (x y z b : Tree) → AreSmall (x ∷ y ∷ z ∷ []) → SequenceOf y z b → AreFew x b
-sequence_few x y z b small u =
-    let all = sequence_behind x y z b small u in
-    few_of_parts (x ∷ []) (y ∷ z ∷ []) x b small (λ m k. inl k) (λ m k. inl k) all.tests all.assigns
-
-pub sequence_triple : (parts : List Fdd) (x y z : Fdd) (b r : Tree) → length parts ≡ 3 → x ≡ get_or parts 0 x → y ≡ get_or parts 1 y → z ≡ get_or parts 2 z → AreSmall (map tree_of parts) → SequenceOf (tree_of y) (tree_of z) b → SequenceOf (tree_of x) b r → SequenceOfAll (map tree_of parts) r
-sequence_triple parts x y z b r h ex ey ez small u v =
-    let e = triple_parts parts x y z h ex ey ez in
-    let s = subst AreSmall e small in
-    subst (λ (ts : List Tree). SequenceOfAll ts r) (sym e)
-    (sequence_both (tree_of x ∷ []) (tree_of y ∷ tree_of z ∷ []) (tree_of x) b r (sequence_one (tree_of x) s.normal.0) (sequence_behind (tree_of x) (tree_of y) (tree_of z) b s u) v)
-
--- a list of diagrams in two parts, under names of their own
-pub cut : (parts front back : List Fdd) (n : ℕ) → front ≡ take n parts → back ≡ drop n parts → map tree_of front ++ map tree_of back ≡ map tree_of parts
-cut parts front back n ef eb =
-    ap (λ (x : List Fdd). map tree_of x ++ map tree_of back) ef ∙ ap (λ (x : List Fdd). map tree_of (take n parts) ++ map tree_of x) eb ∙ sym (map-append tree_of (take n parts) (drop n parts)) ∙ ap (map tree_of) (take-append-drop n parts)
-
-pub small_cut : (parts front back : List Fdd) (n : ℕ) → front ≡ take n parts → back ≡ drop n parts → AreSmall (map tree_of parts) → AreSmall (map tree_of front ++ map tree_of back)
-small_cut parts front back n ef eb h = subst AreSmall (sym (cut parts front back n ef eb)) h
-
-pub small_front : (parts front back : List Fdd) (n : ℕ) → front ≡ take n parts → back ≡ drop n parts → AreSmall (map tree_of parts) → AreSmall (map tree_of front)
-small_front parts front back n ef eb h = small_left (map tree_of front) (map tree_of back) (subst AreSmall (sym (cut parts front back n ef eb)) h)
-
-pub small_back : (parts front back : List Fdd) (n : ℕ) → front ≡ take n parts → back ≡ drop n parts → AreSmall (map tree_of parts) → AreSmall (map tree_of back)
-small_back parts front back n ef eb h = small_right (map tree_of front) (map tree_of back) (subst AreSmall (sym (cut parts front back n ef eb)) h)
-
-pub shorter : (parts front back : List Fdd) (n : ℕ) → 2 ≤ length parts → n ≡ length parts / 2 → front ≡ take n parts → back ≡ drop n parts → (length front < length parts) × (length back < length parts)
+pub shorter : (parts front back : List ℕ) (n : ℕ) → 2 ≤ length parts → n ≡ length parts / 2 → front ≡ take n parts → back ≡ drop n parts → (length front < length parts) × (length back < length parts)
 shorter parts front back n h e ef eb =
     let lf : length front ≡ length (take n parts) = ap length ef in
     let lb : length back ≡ length (drop n parts) = ap length eb in
     (omega (arith, h, e, lf, length-take n parts), omega (arith, h, e, lb, length-drop n parts))
+
+-- a list of diagrams in two parts
+module _ (k0 : Kept) (parts front back : List ℕ) (n : ℕ) (ef : front ≡ take n parts) (eb : back ≡ drop n parts) (held : AreHeld k0 parts) (small : AreSmall (map (tree_at k0) parts)) where
+  whole : front ++ back ≡ parts
+  whole = (λ x. ef x ++ eb x) ∙ take-append-drop n parts
+
+  cut : map (tree_at k0) front ++ map (tree_at k0) back ≡ map (tree_at k0) parts
+  cut = sym (map-append (tree_at k0) front back) ∙ ap (map (tree_at k0)) whole
+
+  small_cut : AreSmall (map (tree_at k0) front ++ map (tree_at k0) back)
+  small_cut = subst AreSmall (sym cut) small
+
+  pub front_held : AreHeld k0 front
+  front_held = λ i m. held i (subst (λ (x : List ℕ). IsIn x i) whole (in-left front back i m))
+
+  pub front_small : AreSmall (map (tree_at k0) front)
+  front_small = small_left (map (tree_at k0) front) (map (tree_at k0) back) small_cut
+
+  all_back : AreHeld k0 back
+  all_back = λ i m. held i (subst (λ (x : List ℕ). IsIn x i) whole (in-right front back i m))
+
+  module _ (k1 : Kept) (g1 : Grows k0 k1) where
+    pub back_held : AreHeld k1 back
+    back_held = held_grown k0 k1 back g1 all_back
+
+    pub back_small : AreSmall (map (tree_at k1) back)
+    back_small = subst AreSmall (sym (trees_kept k0 k1 back g1 all_back)) (small_right (map (tree_at k0) front) (map (tree_at k0) back) small_cut)
+
+    module _ (k2 : Kept) (g2 : Grows k1 k2) (left right : ℕ) where
+      module _ (hl : Gives k1 left (UnionOfAll (map (tree_at k0) front))) (hr : Gives k2 right (UnionOfAll (map (tree_at k1) back))) where
+        union_left : Gives k2 left (UnionOfAll (map (tree_at k0) front))
+        union_left = gives_grown k1 k2 left _ g2 hl
+
+        union_right : UnionOfAll (map (tree_at k0) back) (tree_at k2 right)
+        union_right = subst (λ (ts : List Tree). UnionOfAll ts (tree_at k2 right)) (trees_kept k0 k1 back g1 all_back) hr.is
+
+        pub union_has : Has k2 left
+        union_has = union_left.has
+
+        pub union_few : AreFew (tree_at k2 left) (tree_at k2 right)
+        union_few = few_of_parts _ _ _ _ small_cut union_left.is.tests union_left.is.assigns union_right.tests union_right.assigns
+
+        pub union_whole : (r : Tree) → UnionOf (tree_at k2 left) (tree_at k2 right) r → UnionOfAll (map (tree_at k0) parts) r
+        union_whole r h = subst (λ (ts : List Tree). UnionOfAll ts r) cut (union_both _ _ _ _ r union_left.is union_right h)
+
+      module _ (hl : Gives k1 left (SequenceOfAll (map (tree_at k0) front))) (hr : Gives k2 right (SequenceOfAll (map (tree_at k1) back))) where
+        sequence_left : Gives k2 left (SequenceOfAll (map (tree_at k0) front))
+        sequence_left = gives_grown k1 k2 left _ g2 hl
+
+        sequence_right : SequenceOfAll (map (tree_at k0) back) (tree_at k2 right)
+        sequence_right = subst (λ (ts : List Tree). SequenceOfAll ts (tree_at k2 right)) (trees_kept k0 k1 back g1 all_back) hr.is
+
+        pub sequence_has : Has k2 left
+        sequence_has = sequence_left.has
+
+        pub sequence_few : AreFew (tree_at k2 left) (tree_at k2 right)
+        sequence_few = few_of_parts _ _ _ _ small_cut sequence_left.is.tests sequence_left.is.assigns sequence_right.tests sequence_right.assigns
+
+        pub sequence_whole : (r : Tree) → SequenceOf (tree_at k2 left) (tree_at k2 right) r → SequenceOfAll (map (tree_at k0) parts) r
+        sequence_whole r h = subst (λ (ts : List Tree). SequenceOfAll ts r) cut (sequence_both _ _ _ _ r sequence_left.is sequence_right h)
+
+-- a diagram that names few values
+pub few_alone : (t : Tree) → AreSmall (t ∷ []) → IsFew t
+few_alone t h =
+    let c = count_within (literals t) (all_literals (t ∷ [])) (λ m k. in-left (literals t) [] m k) in
+    omega (arith, c, h.bound)

@@ -12,7 +12,7 @@ use Rattle.fdd_compile.specs.Folds.{all_literals, SomeTests, SomeAssigns, AreNor
 use Rattle.fdd_compile.specs.Named.{AreFewNamed}
 use Rattle.fdd_compile.proofs.FoldLaws.{named}
 
-distinct_length : (ls : List Lit) → length (distinct ls) ≤ length ls
+pub distinct_length : (ls : List Lit) → length (distinct ls) ≤ length ls
 distinct_length [] = omega arith
 distinct_length (l ∷ ls) = shorter (has_lit l ls) (distinct_length ls) where
   shorter : (b : Bool) → length (distinct ls) ≤ length ls → length (cond b (distinct ls) (l ∷ distinct ls)) ≤ length (l ∷ ls)

@@ -1,9 +1,10 @@
 -- How a diagram is searched for results that are not well shaped: kind by kind, cell by cell.
-use Rattle.std.specs.Prelude.{◌≡◌, ℕ, ◌≤◌, ◌⊎◌, List, [], ◌∷◌}
+use Rattle.std.specs.Prelude.{◌≡◌, ℕ, ◌≤◌, ◌⊎◌, List, [], ◌∷◌, Option, MatchOption}
 use Rattle.nk_values.specs.declared.field.Field.{Field}
 use Rattle.nk_values.specs.declared.packet.Packet.{Packet}
 use Rattle.nk_values.specs.declared.lit.Lit.{Lit}
 use Rattle.nk_values.specs.Held.{Holds}
+use Rattle.nk_values.specs.Members.{IsIn}
 use Rattle.nk_values.specs.Lits.{lit_field}
 use Rattle.nk_values.specs.Packets.{get, IsWellShaped}
 use Rattle.nk_values.specs.Ranges.{IsValue}
@@ -11,7 +12,8 @@ use Rattle.nk_values.specs.Ranks.{rank}
 use Rattle.fdd_nodes.specs.Cells.{Agrees, fill, IsOpen}
 use Rattle.fdd_nodes.specs.Trees.{Tree, leaf_at, Tests, IsOrderedFrom}
 use Rattle.fdd_differ.specs.declared.frame.Frame.{Frame}
-use Rattle.fdd_differ.specs.Frames.{IsFrame, Lacks, Leaves}
+use Rattle.fdd_differ.specs.Frames.{IsFrame, frame_cell, Lacks, Leaves}
+use Rattle.fdd_store.specs.Stores.{Kept, tree_at}
 
 -- a copy, or one of several, sets a field that packets of the kind lack
 abbrev pub CopySetsLacking : Frame → List Lit → Type 0
@@ -47,3 +49,11 @@ pub record IsBreach (k : Frame) (t : Tree) (p : Packet) : Type 0 where
 
 abbrev pub HasNoBreach : Frame → Tree → Type 0
 HasNoBreach k t = (p : Packet) → ¬ IsBreach k t p
+
+-- o tells whether a diagram gives some well-shaped packet of the kind a field that it lacks
+abbrev pub TellsBreach : Frame → Tree → Option Packet → Type 0
+TellsBreach k t o = MatchOption o (IsSafe k (frame_cell k) t) (Breaches k (frame_cell k) t)
+
+-- no diagram among these does
+abbrev pub AreSafe : Frame → Kept → List ℕ → Type 0
+AreSafe k s ids = (i : ℕ) → IsIn ids i → IsSafe k (frame_cell k) (tree_at s i)

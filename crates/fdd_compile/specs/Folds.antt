@@ -1,10 +1,11 @@
 -- Unions and sequences of several diagrams.
-use Rattle.std.specs.Prelude.{◌≡◌, ◌↔◌, ◌≤◌, ◌⊎◌, List, [], ◌∷◌, ◌++◌, length}
+use Rattle.std.specs.Prelude.{◌≡◌, ℕ, ◌↔◌, ◌≤◌, ◌⊎◌, List, [], ◌∷◌, ◌++◌, length}
 use Rattle.nk_values.specs.declared.packet.Packet.{Packet}
 use Rattle.nk_values.specs.declared.lit.Lit.{Lit}
 use Rattle.nk_values.specs.Members.{IsIn}
 use Rattle.fdd_nodes.specs.Names.{literals, distinct}
 use Rattle.fdd_nodes.specs.Normals.{IsNormal}
+use Rattle.fdd_store.specs.Stores.{Kept, Has}
 use Rattle.fdd_nodes.specs.Trees.{Tree, answers, Tests, Assigns}
 
 -- what the diagrams test and assign
@@ -52,3 +53,7 @@ pub record SequenceOfAll (ts : List Tree) (r : Tree) : Type 0 where
   pub normal : IsNormal r
   pub tests : (m : Lit) → Tests r m → SomeTests ts m
   pub assigns : (m : Lit) → Assigns r m → SomeAssigns ts m
+
+-- the store has each of the diagrams
+abbrev pub AreHeld : Kept → List ℕ → Type 0
+AreHeld k ids = (i : ℕ) → IsIn ids i → Has k i

@@ -12,6 +12,7 @@ use crate::leftmost::leftmost_fault;
 use crate::literal::literal;
 use fdd_nodes::Fdd;
 use fdd_ops::cofactor;
+use fdd_store::Store;
 use nk_syntax::Pol;
 use nk_values::{CompileFault, Field};
 use std::alloc::{AllocError, Global};
@@ -57,9 +58,13 @@ pub fn compile(alloc: Global, pol: &Pol) -> Result<Compiled, CompileError>
     if let Some(fault) = leftmost_fault(pol) {
         return Err(CompileError::Fault(fault));
     }
-    let diagram = build(alloc, pol)?;
-    match unguarded(&diagram) {
+    let mut store = Store::new(alloc);
+    let root = build(alloc, &mut store, pol)?;
+    match unguarded(alloc, &store, pol, root)? {
         Some(packet) => Err(CompileError::Fault(CompileFault::Unguarded { packet })),
-        None => Ok(Compiled { diagram }),
+        None => {
+            let diagram = store.tree(alloc, root)?;
+            Ok(Compiled { diagram })
+        }
     }
 }

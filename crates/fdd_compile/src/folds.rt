@@ -1,52 +1,51 @@
 // Unions and sequences of several diagrams, folded in balance: so that each part takes part in few operations.
 ghost use Rattle.std.specs.Prelude.{IfOk, map};
-ghost use Rattle.fdd_nodes.specs.Fdds.{tree_of};
-ghost use Rattle.fdd_compile.specs.Folds.{AreSmall, UnionOfAll, SequenceOfAll};
+ghost use Rattle.fdd_compile.specs.Folds.{AreHeld, AreSmall, UnionOfAll, SequenceOfAll};
+ghost use Rattle.fdd_store.specs.Stores.{Grows, Gives, tree_at};
 
-use fdd_nodes::Fdd;
-use fdd_ops::{one, sequence, union, zero};
+use fdd_store::{Id, Store, each_is_made};
 use std::alloc::{AllocError, Global};
 
 /// The union of some diagrams.
-pub fn union_of_all(alloc: Global, parts: &[Fdd]) -> Result<Fdd, AllocError>
-    requires { AreSmall (map tree_of parts.now) }
-    ensures { IfOk result (λ r. UnionOfAll (map tree_of parts.now) (tree_of r)) }
+pub fn union_of_all(alloc: Global, store: &mut Store, parts: &[Id]) -> Result<Id, AllocError>
+    requires held { AreHeld store.old parts.now }
+    requires small { AreSmall (map (tree_at store.old) parts.now) }
+    ensures grows { Grows store.old store.new }
+    ensures place { IfOk result (λ r. Gives store.new r (UnionOfAll (map (tree_at store.old) parts.now))) }
 {
     match parts {
-        [] => Ok(zero(alloc)),
-        [part] => part.copy(alloc),
-        [first, second] => union(alloc, first, second),
-        [first, second, third] => {
-            let back = union(alloc, second, third)?;
-            union(alloc, first, &back)
+        [] => store.zero(alloc),
+        [part] => {
+            each_is_made(store, *part);
+            Ok(*part)
         }
         _ => {
             let (front, back) = parts.split_at(parts.len() / 2);
-            let left = union_of_all(alloc, front)?;
-            let right = union_of_all(alloc, back)?;
-            union(alloc, &left, &right)
+            let left = union_of_all(alloc, store, front)?;
+            let right = union_of_all(alloc, store, back)?;
+            store.union(alloc, left, right)
         }
     }
 }
 
 /// Some diagrams one after another.
-pub fn sequence_of_all(alloc: Global, parts: &[Fdd]) -> Result<Fdd, AllocError>
-    requires { AreSmall (map tree_of parts.now) }
-    ensures { IfOk result (λ r. SequenceOfAll (map tree_of parts.now) (tree_of r)) }
+pub fn sequence_of_all(alloc: Global, store: &mut Store, parts: &[Id]) -> Result<Id, AllocError>
+    requires held { AreHeld store.old parts.now }
+    requires small { AreSmall (map (tree_at store.old) parts.now) }
+    ensures grows { Grows store.old store.new }
+    ensures place { IfOk result (λ r. Gives store.new r (SequenceOfAll (map (tree_at store.old) parts.now))) }
 {
     match parts {
-        [] => one(alloc),
-        [part] => part.copy(alloc),
-        [first, second] => sequence(alloc, first, second),
-        [first, second, third] => {
-            let back = sequence(alloc, second, third)?;
-            sequence(alloc, first, &back)
+        [] => store.one(alloc),
+        [part] => {
+            each_is_made(store, *part);
+            Ok(*part)
         }
         _ => {
             let (front, back) = parts.split_at(parts.len() / 2);
-            let left = sequence_of_all(alloc, front)?;
-            let right = sequence_of_all(alloc, back)?;
-            sequence(alloc, &left, &right)
+            let left = sequence_of_all(alloc, store, front)?;
+            let right = sequence_of_all(alloc, store, back)?;
+            store.sequence(alloc, left, right)
         }
     }
 }

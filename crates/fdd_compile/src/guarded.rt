@@ -1,62 +1,123 @@
 // Whether some well-shaped packet has a result that is not well shaped.
-ghost use Rattle.std.specs.Prelude.{◌≡◌, ◌↔◌, IsTrue, MatchOption};
+ghost use Rattle.std.specs.Prelude.{◌≡◌, ◌↔◌, IsTrue, IfOk, OnOk, MatchOption};
 ghost use Rattle.nk_values.specs.declared.packet.Packet.{Packet};
-ghost use Rattle.fdd_nodes.specs.Fdds.{tree_of};
-ghost use Rattle.fdd_nodes.specs.Trees.{tree};
+ghost use Rattle.nk_syntax.specs.Views.{term_of};
 ghost use Rattle.fdd_compile.specs.Guarded.{IsUnguardedAt, KeepsTypes};
-ghost use Rattle.fdd_compile.specs.Breaches.{SetsLacking, CopySetsLacking, Breaches, IsSafe, HasNoBreach, IsBreach};
+ghost use Rattle.fdd_compile.specs.Breaches.{SetsLacking, CopySetsLacking, AreSafe, TellsBreach, HasNoBreach, IsBreach};
+ghost use Rattle.fdd_compile.specs.Named.{AreFewNamed, TermNames};
+ghost use Rattle.fdd_compile.specs.Results.{DiagramOf};
+ghost use Rattle.fdd_store.specs.Stores.{Has, tree_at};
 
-use fdd_differ::{Frame, unnamed};
-use fdd_nodes::{Assignments, Cell, Fdd, Known, Node};
+use crate::named::names_of;
+use fdd_differ::{Frame, Listed, unnamed};
+use fdd_nodes::{Assignments, Cell, Known};
+use fdd_store::{Id, Look, Store};
+use indexmap::IndexSet;
+use nk_syntax::Pol;
 use nk_values::{Lit, Packet};
+use std::alloc::{AllocError, Global};
 
-/// A well-shaped packet that a diagram answers with one that isn't, or none where there is no such packet. The diagram
-/// assigns neither ethTyp nor ipProto.
+/// A well-shaped packet that a policy's diagram answers with one that isn't, or none where there is no such packet. The
+/// diagram assigns neither ethTyp nor ipProto.
 ///
 /// Packets without IPv4 may get no address or port, and other ones than TCP and UDP no port.
-pub fn unguarded(a: &Fdd) -> Option<Packet>
-    requires { KeepsTypes (tree_of a.now) }
-    ensures { MatchOption result ((p : Packet) → ¬ IsUnguardedAt (tree_of a.now) p) (IsUnguardedAt (tree_of a.now)) }
+pub fn unguarded(
+    alloc: Global,
+    store: &Store,
+    pol: &Pol,
+    a: Id,
+) -> Result<Option<Packet>, AllocError>
+    requires has { Has store.now a }
+    requires few { AreFewNamed (TermNames (term_of pol.now)) }
+    requires diagram { DiagramOf (term_of pol.now) (tree_at store.now a) }
+    requires types { KeepsTypes (tree_at store.now a) }
+    ensures { IfOk result (λ o. MatchOption o ((p : Packet) → ¬ IsUnguardedAt (tree_at store.now a) p) (IsUnguardedAt (tree_at store.now a))) }
 {
-    if let Some(packet) = unguarded_in(a, Frame::NoIp) {
-        return Some(packet);
+    if let Some(packet) = unguarded_in(alloc, store, pol, a, Frame::NoIp)? {
+        return Ok(Some(packet));
     }
-    unguarded_in(a, Frame::OtherIp)
+    unguarded_in(alloc, store, pol, a, Frame::OtherIp)
 }
 
 // A well-shaped packet of one kind that a diagram gives a field which the kind lacks.
-fn unguarded_in(a: &Fdd, frame: Frame) -> Option<Packet>
-    ensures { MatchOption result (HasNoBreach frame (tree_of a.now)) (IsBreach frame (tree_of a.now)) }
+fn unguarded_in(
+    alloc: Global,
+    store: &Store,
+    pol: &Pol,
+    a: Id,
+    frame: Frame,
+) -> Result<Option<Packet>, AllocError>
+    requires has { Has store.now a }
+    requires few { AreFewNamed (TermNames (term_of pol.now)) }
+    requires diagram { DiagramOf (term_of pol.now) (tree_at store.now a) }
+    ensures { IfOk result (λ o. MatchOption o (HasNoBreach frame (tree_at store.now a)) (IsBreach frame (tree_at store.now a))) }
 {
-    let root = a.root();
-    match breach(frame, &frame.cell(), root) {
-        None => None,
-        Some(cell) => Some(cell.filled(&unnamed(root))),
+    let mut safe = IndexSet::new(alloc);
+    match breach(store, frame, &mut safe, a)? {
+        None => Ok(None),
+        Some(cell) => {
+            let names = names_of(alloc, pol)?;
+            Ok(Some(cell.filled(&unnamed(&Listed { lits: &names }))))
+        }
     }
 }
 
-// A cell within this one whose packets of a kind a diagram gives a field that the kind lacks.
-fn breach(frame: Frame, cell: &Cell, a: &Node) -> Option<Cell>
-    ensures { MatchOption result (IsSafe frame cell.now (tree a.now)) (Breaches frame cell.now (tree a.now)) }
+// A cell of a kind whose packets a diagram gives a field that the kind lacks. Diagrams that were found to have none are
+// kept, so a shared one is searched once.
+#[cycle(breach)]
+fn breach(
+    store: &Store,
+    frame: Frame,
+    safe: &mut IndexSet<Id>,
+    a: Id,
+) -> Result<Option<Cell>, AllocError>
+    requires has { Has store.now a }
+    requires safe { AreSafe frame store.now safe.old.keys }
+    ensures safe { OnOk result (AreSafe frame store.now safe.new.keys) }
+    ensures told { IfOk result (TellsBreach frame (tree_at store.now a)) }
 {
-    match a {
-        Node::Leaf(leaf) => {
-            if sets_lacking(leaf.copies(), frame) {
-                Some(*cell)
+    if safe.contains(&a) {
+        return Ok(None);
+    }
+    match breach_anew(store, frame, safe, a)? {
+        Some(cell) => Ok(Some(cell)),
+        None => {
+            safe.insert(a)?;
+            Ok(None)
+        }
+    }
+}
+
+#[cycle(breach)]
+fn breach_anew(
+    store: &Store,
+    frame: Frame,
+    safe: &mut IndexSet<Id>,
+    a: Id,
+) -> Result<Option<Cell>, AllocError>
+    requires has { Has store.now a }
+    requires safe { AreSafe frame store.now safe.old.keys }
+    ensures safe { OnOk result (AreSafe frame store.now safe.new.keys) }
+    ensures told { IfOk result (TellsBreach frame (tree_at store.now a)) }
+{
+    match store.look(a) {
+        Look::Leaf => {
+            if sets_lacking(store.leaf(a).copies(), frame) {
+                Ok(Some(frame.cell()))
             } else {
-                None
+                Ok(None)
             }
         }
-        Node::Test(l, t, e) => match cell.knows(l) {
-            Known::Yes => breach(frame, cell, t),
-            Known::No => breach(frame, cell, e),
+        Look::Fork(l, t, e) => match frame.cell().knows(&l) {
+            Known::Yes => breach(store, frame, safe, t),
+            Known::No => breach(store, frame, safe, e),
             Known::Open => {
                 if !frame.leaves(l.field(), l.value()) {
-                    return breach(frame, cell, e);
+                    return breach(store, frame, safe, e);
                 }
-                match breach(frame, &cell.with(l), t) {
-                    Some(inner) => Some(inner),
-                    None => breach(frame, cell, e),
+                match breach(store, frame, safe, t)? {
+                    Some(inner) => Ok(Some(inner.with(&l))),
+                    None => breach(store, frame, safe, e),
                 }
             }
         },

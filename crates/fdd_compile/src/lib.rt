@@ -13,7 +13,6 @@ mod named;
 
 pub use compiled::{Compiled, compile};
 pub use fault::CompileError;
-pub use guarded::unguarded;
 pub use leftmost::leftmost_fault;
 pub use named::names_few;
 pub use nk_values::CompileFault;

@@ -1,5 +1,5 @@
 // Which values a policy names.
-ghost use Rattle.std.specs.Prelude.{◌≡◌, ◌↔◌, IsTrue, IfOk, OnOk};
+ghost use Rattle.std.specs.Prelude.{◌≡◌, ◌↔◌, [], IsTrue, IfOk, OnOk};
 ghost use Rattle.nk_values.specs.Lits.{lit_field, lit_value};
 ghost use Rattle.nk_values.specs.Members.{IsIn};
 ghost use Rattle.nk_syntax.specs.Views.{guard_of, guards_of, term_of, terms_of};
@@ -17,9 +17,17 @@ const MOST_NAMES: usize = 2000;
 pub fn names_few(alloc: Global, pol: &Pol) -> Result<bool, AllocError>
     ensures { IfOk result (λ few. IsTrue few ↔ AreFewNamed (TermNames (term_of pol.now))) }
 {
+    let names = names_of(alloc, pol)?;
+    Ok(names.len() <= MOST_NAMES)
+}
+
+/// The literals that a policy names, each once.
+pub(crate) fn names_of(alloc: Global, pol: &Pol) -> Result<Vec<Lit>, AllocError>
+    ensures { IfOk result (λ names. Gains (TermNames (term_of pol.now)) [] names.items) }
+{
     let mut names = Vec::new(alloc);
     add_names(pol, &mut names)?;
-    Ok(names.len() <= MOST_NAMES)
+    Ok(names)
 }
 
 #[cycle(names)]

@@ -40,6 +40,21 @@ impl Names for Path {
     }
 }
 
+/// Literals in a list.
+#[derive(Clone, Copy)]
+pub struct Listed<'a> {
+    pub lits: &'a [Lit],
+}
+
+/// A list of literals names them.
+impl Names for Listed<'_> {
+    ghost names = { λ d. d.lits.now };
+
+    fn has(&self, f: Field, value: u64) -> bool {
+        list_has(self.lits, f, value)
+    }
+}
+
 /// Two diagrams side by side.
 #[derive(Clone, Copy)]
 pub struct Pair<'a> {

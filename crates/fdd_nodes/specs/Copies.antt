@@ -4,6 +4,7 @@ use Rattle.std.specs.Cmp.Lexicographic.{pointwise, slice_cmp}
 use Rattle.std.specs.declared.cmp.Ordering.{Ordering}
 use Rattle.std.specs.declared.cmp.Ordering.TheVariants.{Less, Greater}
 use Rattle.std.specs.List.{AllByRecursion}
+use Rattle.std.specs.Hash as fed
 use Rattle.nk_values.specs.declared.field.Field.{Field}
 use Rattle.nk_values.specs.declared.packet.Packet.{Packet}
 use Rattle.nk_values.specs.declared.lit.Lit.{Lit}
@@ -11,7 +12,7 @@ use Rattle.nk_values.specs.Lits.{lit_field, lit_value}
 use Rattle.nk_values.specs.Members.{IsIn}
 use Rattle.nk_values.specs.Packets.{get}
 use Rattle.nk_values.specs.Ranges.{place}
-use Rattle.nk_values.specs.Ranks.{lit_eq, lit_cmp}
+use Rattle.nk_values.specs.Ranks.{lit_eq, lit_cmp, lit_input}
 
 -- each field at most once, in field order, from the place k on
 abbrev pub IsCopyFrom : ℕ → List Lit → Type 0
@@ -27,6 +28,10 @@ copy_cmp = slice_cmp lit_cmp
 
 abbrev pub copy_eq : List Lit → List Lit → Bool
 copy_eq = pointwise lit_eq
+
+-- what a copy gives a hasher
+abbrev pub copy_input : List Lit → List (List ℕ)
+copy_input = fed.slice lit_input
 
 -- what a copy assigns to a field
 abbrev pub assigned : List Lit → Field → Option ℕ

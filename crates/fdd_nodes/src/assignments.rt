@@ -9,6 +9,7 @@ use nk_values::{Field, Lit, Packet};
 use smallvec::SmallVec;
 use std::alloc::{AllocError, Global};
 use std::cmp::Ordering;
+use std::hash::{Hash, Hasher};
 use std::marker::Model;
 
 /// The assignments of one copy, each field at most once, in field order. Clauses see the list of them.
@@ -167,6 +168,20 @@ impl PartialOrd for Assignments {
 
     fn partial_cmp(&self, other: &Assignments) -> Option<Ordering> {
         Some(self.cmp(other))
+    }
+}
+
+impl Hash for Assignments {
+    ghost use Rattle.std.specs.Hash.{items_Alike};
+    ghost use Rattle.nk_values.proofs.LitLaws.{lit_alike};
+    ghost use Rattle.fdd_nodes.specs.Copies.{copy_input};
+
+    ghost hash_input = { copy_input };
+
+    ghost respects_eq = { (items_Alike lit_alike).fed };
+
+    fn hash<H: Hasher>(&self, state: &mut H) {
+        self.lits.as_slice().hash(state);
     }
 }
 

@@ -11,6 +11,7 @@ use crate::cell::Cell;
 use nk_values::Packet;
 use std::alloc::{AllocError, Global};
 use std::cmp::Ordering;
+use std::hash::{Hash, Hasher};
 use std::marker::Model;
 
 /// The copies of a leaf, each once, in rising order. Clauses see the list of them.
@@ -114,6 +115,21 @@ impl Eq for Leaf {
     ghost use Rattle.fdd_nodes.specs.contracts.assignments.AssignmentsEq.TheImpl.Laws.{laws-law};
 
     ghost laws = { lists_equiv laws-law };
+}
+
+impl Hash for Leaf {
+    ghost use Rattle.std.specs.Hash as fed;
+    ghost use Rattle.std.specs.Hash.{items_Alike};
+    ghost use Rattle.nk_values.proofs.LitLaws.{lit_alike};
+    ghost use Rattle.fdd_nodes.specs.Copies.{copy_input};
+
+    ghost hash_input = { fed.slice copy_input };
+
+    ghost respects_eq = { (items_Alike (items_Alike lit_alike)).fed };
+
+    fn hash<H: Hasher>(&self, state: &mut H) {
+        self.copies.hash(state);
+    }
 }
 
 // Where a copy is to stand among rising copies, or none where it stands already.

@@ -4,12 +4,13 @@ ghost use Rattle.std.specs.Prelude.{◌≡◌};
 use crate::leaf::Leaf;
 use nk_values::{Lit, Packet};
 use std::alloc::{AllocError, Global};
+use std::rc::Rc;
 
 /// A leaf, or a test with the branch where it holds and the branch where it doesn't.
 #[derive(Drop)]
 pub enum Node {
     Leaf(Leaf),
-    Test(Lit, Box<Node>, Box<Node>),
+    Test(Lit, Rc<Node>, Rc<Node>),
 }
 
 impl Node {
@@ -84,7 +85,7 @@ impl Node {
         }
     }
 
-    /// The same diagram again.
+    /// The same diagram again. It shares the branches, so no part of it is walked but a leaf.
     pub fn copy(&self, alloc: Global) -> Result<Node, AllocError>
         ensures { IfOk result (λ r. tree r ≡ tree self.now) }
     {
@@ -94,10 +95,8 @@ impl Node {
                 Ok(Node::Leaf(again))
             }
             Node::Test(l, t, e) => {
-                let yes = t.copy(alloc)?;
-                let no = e.copy(alloc)?;
-                let yes = Box::new(alloc, yes)?;
-                let no = Box::new(alloc, no)?;
+                let yes = t.clone()?;
+                let no = e.clone()?;
                 Ok(Node::Test(*l, yes, no))
             }
         }

@@ -5,6 +5,7 @@ ghost use Rattle.fdd_ops.specs.Chains.{StartsAt, StartsAt-prop};
 use fdd_nodes::{Cell, Leaf, Node, parting};
 use nk_values::Lit;
 use std::alloc::{AllocError, Global};
+use std::rc::Rc;
 
 /// A test, and the branch where it holds.
 #[derive(Drop)]
@@ -83,7 +84,7 @@ impl Chain {
         let mut root = rest;
         for arm in arms {
             let Arm { lit, branch } = arm;
-            root = Node::Test(lit, Box::new(alloc, branch)?, Box::new(alloc, root)?);
+            root = Node::Test(lit, Rc::new(alloc, branch)?, Rc::new(alloc, root)?);
         }
         Ok(root)
     }

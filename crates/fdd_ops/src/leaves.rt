@@ -9,7 +9,7 @@ use nk_values::Lit;
 use std::alloc::{AllocError, Global};
 
 /// A leaf's copies without what a cell fixes.
-pub(crate) fn settled(alloc: Global, cell: &Cell, leaf: &Leaf) -> Result<Leaf, AllocError>
+pub fn settled(alloc: Global, cell: &Cell, leaf: &Leaf) -> Result<Leaf, AllocError>
     ensures { IfOk result (λ r. Adds cell.now leaf.now [] r) }
 {
     if are_free(leaf.copies(), cell) {
@@ -44,7 +44,7 @@ fn is_free(lits: &[Lit], cell: &Cell) -> bool
 }
 
 /// The copies of two leaves without what a cell fixes.
-pub(crate) fn joined(alloc: Global, cell: &Cell, a: &Leaf, b: &Leaf) -> Result<Leaf, AllocError>
+pub fn joined(alloc: Global, cell: &Cell, a: &Leaf, b: &Leaf) -> Result<Leaf, AllocError>
     ensures { IfOk result (λ r. AddsBoth cell.now a.now b.now r) }
 {
     if a.copies().is_empty() {
@@ -60,7 +60,7 @@ pub(crate) fn joined(alloc: Global, cell: &Cell, a: &Leaf, b: &Leaf) -> Result<L
 }
 
 /// A leaf's copies after a copy, without what a cell fixes.
-pub(crate) fn following(
+pub fn following(
     alloc: Global,
     cell: &Cell,
     copy: &Assignments,

@@ -4,7 +4,7 @@
 mod chain;
 mod choices;
 mod cofactors;
-mod leaves;
+pub mod leaves;
 mod negations;
 mod ops;
 mod sequences;

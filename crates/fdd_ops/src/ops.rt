@@ -16,6 +16,7 @@ use crate::unions::union_in;
 use fdd_nodes::{Assignments, Cell, Fdd, Leaf, Node};
 use nk_values::Lit;
 use std::alloc::{AllocError, Global};
+use std::rc::Rc;
 
 /// The diagram that keeps every packet.
 pub fn one(alloc: Global) -> Result<Fdd, AllocError>
@@ -37,8 +38,8 @@ pub fn test(alloc: Global, l: Lit) -> Result<Fdd, AllocError>
     ensures { IfOk result (λ r. TestOf l (tree_of r)) }
 {
     let keeps = Leaf::of(alloc, Assignments::none(alloc))?;
-    let yes = Box::new(alloc, Node::Leaf(keeps))?;
-    let no = Box::new(alloc, Node::Leaf(Leaf::empty(alloc)))?;
+    let yes = Rc::new(alloc, Node::Leaf(keeps))?;
+    let no = Rc::new(alloc, Node::Leaf(Leaf::empty(alloc)))?;
     Ok(Fdd::new(Node::Test(l, yes, no)))
 }
 

@@ -2,5 +2,6 @@ pub mod EqualLaws
 pub mod FillLaws
 pub mod GrowLaws
 pub mod KeptLaws
+pub mod PartLaws
 pub mod StarLaws
 pub mod TurnLaws

@@ -1,8 +1,6 @@
-use Rattle.std.proofs.Common.{List, arith, subst}
+use Rattle.std.proofs.Common.{arith}
 use Rattle.std.proofs.lemmas.Bool.{le-leb, leb-true}
-use Rattle.nk_values.specs.declared.lit.Lit.{Lit}
 use Rattle.nk_syntax.specs.Views.{term_of}
-use Rattle.fdd_compile.specs.Gains.{Gains}
 use Rattle.fdd_compile.specs.Named.{TermNames}
 use Rattle.fdd_compile.proofs.GainLaws.{few_of_list, list_of_few}
 use Rattle.fdd_compile.proofs.named.names_few.Goals as goal
@@ -10,8 +8,8 @@ use Rattle.fdd_compile.proofs.named.names_few.Goals as goal
 pub returns : goal.returns
 returns c =
     let named = TermNames (term_of c.args.pol.now) in
-    let names = c.add_names.new.names.items in
-    let gains = subst (λ (old : List Lit). Gains named old names) c.new-names.ensures.items c.in_ok-add_names.ensures in (
+    let names = c.in_ok-names.names.items in
+    let gains = c.in_ok-names.ensures in (
       (λ e. few_of_list named names gains (let h = leb-true _ _ e in omega (arith, h, c.len.ensures))),
       (λ few. le-leb _ _ (let h = list_of_few named names gains few in omega (arith, h, c.len.ensures))),
     )

@@ -1,11 +1,13 @@
-use Rattle.std.proofs.Common.{ap, ◌∙◌}
+use Rattle.std.specs.Prelude.{IfSome}
+use Rattle.std.proofs.Common.{Bor, ℕ, Option, ap, ◌∙◌, subst}
 use Rattle.std.specs.Map.{lookup}
 use Rattle.nk_values.specs.declared.packet.Packet.{Packet}
-use Rattle.fdd_star.specs.Parts.{IsPart, base_of}
+use Rattle.fdd_star.specs.Parts.{IsPart}
 use Rattle.fdd_star.proofs.EqualLaws.{packet_eq}
 use Rattle.fdd_star.proofs.KeptLaws.{found_right}
 use Rattle.fdd_star.proofs.parts.Parts.get.Goals as goal
 
-pub returns : goal.returns
-returns c =
-    found_right (IsPart (base_of c.args.self.now)) _ _ _ c.requires.right (c.get.ensures.value ∙ ap (λ (q : Packet). lookup (packet_eq q) c.args.self.now.known.entries) c.generic.ensures)
+pub returns-in-Some : goal.returns-in-Some
+returns-in-Some c = λ k p h.
+    subst (λ (o : Option (Bor ℕ)). IfSome o (λ v. IsPart k p c.args.cell.now v.now)) c.in-Some.is
+    (found_right (IsPart k p) _ _ _ h.right (c.get.ensures.value ∙ ap (λ (q : Packet). lookup (packet_eq q) c.args.self.now.known.entries) c.generic.ensures))

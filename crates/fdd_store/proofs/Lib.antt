@@ -1,0 +1,15 @@
+pub mod AlikeLaws
+pub mod ChooseLaws
+pub mod CofactorLaws
+pub mod CopyLaws
+pub mod EntryLaws
+pub mod FollowLaws
+pub mod ForkLaws
+pub mod MadeLaws
+pub mod MoveLaws
+pub mod NegateLaws
+pub mod NormalLaws
+pub mod StoreLaws
+pub mod OperationLaws
+pub mod UniqueLaws
+pub mod UniteLaws

@@ -1,0 +1,10 @@
+use Rattle.std.proofs.Common.{◌≡◌, take, true}
+use Rattle.nk_values.specs.declared.lit.Lit.{Lit}
+use Rattle.nk_values.specs.Lits.{lit_field}
+use Rattle.nk_values.specs.Members.{IsIn}
+use Rattle.fdd_store.specs.Sets.{has}
+use Rattle.std.proofs.Common.{List}
+use Rattle.fdd_store.proofs.entry.fields_set.Given as goal
+
+abbrev pub invariant-loop-c : goal.invariant-loop-c
+invariant-loop-c l = (x : List Lit) → IsIn (take l.c-index l.copies) x → (m : Lit) → IsIn x m → has l.all (lit_field m) ≡ true

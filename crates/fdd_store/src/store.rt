@@ -1,0 +1,293 @@
+// The diagrams of a store.
+ghost use Rattle.std.specs.Prelude.{◌≡◌, ◌<◌, [], ℕ, List, IfSome, IfOk, OnErr, IsTrue, ◌↔◌, take, length, true};
+ghost use Rattle.nk_values.specs.declared.lit.Lit.{Lit};
+ghost use Rattle.nk_values.specs.Lits.{lit_field};
+ghost use Rattle.nk_values.specs.Members.{IsIn};
+ghost use Rattle.nk_values.specs.Ranges.{place};
+ghost use Rattle.fdd_nodes.specs.Copies.{IsCopy};
+ghost use Rattle.fdd_nodes.specs.Fdds.{tree_of};
+ghost use Rattle.fdd_nodes.specs.Names.{IsFew};
+ghost use Rattle.fdd_nodes.specs.Roots.{IsLeaf};
+ghost use Rattle.fdd_nodes.specs.Trees as trees;
+ghost use Rattle.fdd_store.specs.Entries.{IsEntry, behind};
+ghost use Rattle.fdd_store.specs.Looks.{Looks};
+ghost use Rattle.fdd_store.specs.Made.{IsMade};
+ghost use Rattle.fdd_store.specs.Stores.{Has, IsBelow, IsRight, IsStore, Grows, Gives, shape_tree, tree_at, trees as all_trees};
+
+use crate::call::Call;
+use crate::entry::{Entry, fields_set};
+use crate::id::Id;
+use crate::shape::Shape;
+use fdd_nodes::{Assignments, Fdd, Leaf, Node};
+use indexmap::{IndexMap, IndexSet};
+use nk_values::{Field, Lit};
+use std::alloc::{AllocError, Global};
+use std::marker::Model;
+use std::rc::Rc;
+
+/// Diagrams that share their parts: each node and each leaf is kept once, and so is each result of an operation.
+///
+/// All of them are ordered and reduced, so each of them is the only one that answers as it does.
+#[derive(Drop)]
+pub struct Store {
+    shapes: IndexSet<Shape>,
+    known: IndexMap<Call, Id>,
+    entries: Vec<Entry>,
+}
+
+impl Model for Store {
+    ghost use Rattle.fdd_store.specs.Entries.{AreEntries};
+    ghost use Rattle.fdd_store.specs.Stores.{Kept, IsStore};
+
+    ghost Value = { Kept };
+
+    ghost view = { λ s. record { shapes = s.shapes.keys; known = s.known.entries } };
+
+    ghost invariant = { λ s. IsStore (record { shapes = s.shapes.keys; known = s.known.entries }) × AreEntries (record { shapes = s.shapes.keys; known = s.known.entries }) s.entries.items };
+}
+
+/// How many nodes and leaves there are, and how many results.
+#[derive(Clone, Copy)]
+pub(crate) struct Size {
+    pub(crate) shapes: usize,
+    pub(crate) known: usize,
+}
+
+/// The root of a diagram: a leaf, or a test with its branches.
+#[derive(Clone, Copy)]
+pub enum Look {
+    Leaf,
+    Fork(Lit, Id, Id),
+}
+
+impl Store {
+    /// No diagram.
+    pub fn new(alloc: Global) -> Store
+        ensures shapes { result.shapes ≡ [] }
+        ensures known { result.known ≡ [] }
+    {
+        Store {
+            shapes: IndexSet::new(alloc),
+            known: IndexMap::new(alloc),
+            entries: Vec::new(alloc),
+        }
+    }
+
+    /// Whether the store has a diagram.
+    pub fn holds(&self, a: Id) -> bool
+        ensures { IsTrue result ↔ Has self.now a }
+    {
+        a.place() < self.shapes.len()
+    }
+
+    /// How much is kept.
+    pub(crate) fn size(&self) -> Size
+        ensures shapes { result.shapes ≡ length self.now.shapes }
+        ensures known { result.known ≡ length self.now.known }
+        ensures right { IsStore self.now }
+    {
+        Size {
+            shapes: self.shapes.len(),
+            known: self.known.len(),
+        }
+    }
+
+    /// The root of a diagram.
+    pub fn look(&self, a: Id) -> Look
+        requires { Has self.now a }
+        ensures made { IsMade (tree_at self.now a) }
+        ensures look { Looks self.now (tree_at self.now a) result }
+    {
+        match self.shapes.get_index(a.place()) {
+            None => unreachable!(),
+            Some(shape) => match shape {
+                Shape::Copies(_) => Look::Leaf,
+                Shape::Fork(l, t, e) => Look::Fork(*l, *t, *e),
+            },
+        }
+    }
+
+    /// The leaf that a diagram is.
+    pub fn leaf(&self, a: Id) -> &Leaf
+        requires has { Has self.now a }
+        requires leaf { IsLeaf (tree_at self.now a) }
+        ensures { tree_at self.now a ≡ trees.Leaf result.now }
+    {
+        match self.shapes.get_index(a.place()) {
+            None => unreachable!(),
+            Some(shape) => match shape {
+                Shape::Copies(leaf) => leaf,
+                Shape::Fork(_, _, _) => unreachable!(),
+            },
+        }
+    }
+
+    // What is told of a diagram.
+    fn entry(&self, a: Id) -> &Entry
+        requires { Has self.now a }
+        ensures entry { IsEntry self.now a (tree_at self.now a) result.now }
+        ensures made { IsMade (tree_at self.now a) }
+    {
+        match self.entries.get(a.place()) {
+            None => unreachable!(),
+            Some(entry) => entry,
+        }
+    }
+
+    /// A diagram as nodes, which share what the store's diagrams share.
+    pub fn tree(&self, alloc: Global, a: Id) -> Result<Fdd, AllocError>
+        requires has { Has self.now a }
+        requires few { IsFew (tree_at self.now a) }
+        ensures { IfOk result (λ r. tree_of r ≡ tree_at self.now a) }
+    {
+        let root = self.entry(a).node.copy(alloc)?;
+        Ok(Fdd::new(root))
+    }
+
+    /// Where the tests of a field at the front lead that do not hold.
+    pub(crate) fn behind(&self, f: Field, a: Id) -> Id
+        requires { Has self.now a }
+        ensures has { Has self.now result }
+        ensures leads { tree_at self.now result ≡ behind (place f) (tree_at self.now a) }
+    {
+        match self.look(a) {
+            Look::Leaf => a,
+            Look::Fork(m, _, _) => {
+                if m.field().place() == f.place() {
+                    self.entry(a).behind
+                } else {
+                    a
+                }
+            }
+        }
+    }
+
+    /// Whether a diagram may assign a field: where not, no leaf of it does.
+    pub fn may_set(&self, a: Id, f: Field) -> bool
+        requires { Has self.now a }
+        ensures { (m : Lit) → trees.Assigns (tree_at self.now a) m → lit_field m ≡ f → result ≡ true }
+    {
+        self.entry(a).sets.has(f)
+    }
+
+    /// Whether two diagrams are one.
+    pub(crate) fn same(&self, a: Id, b: Id) -> bool
+        requires has_a { Has self.now a }
+        requires has_b { Has self.now b }
+        ensures ids { IsTrue result ↔ (a ≡ b) }
+        ensures same { IsTrue result ↔ (tree_at self.now a ≡ tree_at self.now b) }
+        ensures made { IsMade (tree_at self.now a) }
+        ensures made_too { IsMade (tree_at self.now b) }
+    {
+        let _shapes = &self.shapes;
+        a.place() == b.place()
+    }
+
+    // Puts a node or a leaf, with what is told of it.
+    fn put(&mut self, shape: Shape, entry: Entry) -> Result<Id, AllocError>
+        requires below { IsBelow (length self.old.shapes) shape }
+        requires made { IsMade (shape_tree (all_trees self.old.shapes) shape) }
+        requires right { IsEntry self.old (length self.old.shapes) (shape_tree (all_trees self.old.shapes) shape) entry }
+        ensures grows { Grows self.old self.new }
+        ensures place { IfOk result (λ i. Gives self.new i (λ t. t ≡ shape_tree (all_trees self.old.shapes) shape)) }
+        ensures err { OnErr result (self.new ≡ self.old) }
+    {
+        self.entries.truncate(self.shapes.len());
+        self.entries.push(entry)?;
+        let (place, _) = self.shapes.insert_full(shape)?;
+        Ok(Id::at(place))
+    }
+
+    /// The diagram that is a leaf.
+    pub fn put_leaf(&mut self, alloc: Global, leaf: Leaf) -> Result<Id, AllocError>
+        ensures grows { Grows self.old self.new }
+        ensures place { IfOk result (λ i. Gives self.new i (λ t. t ≡ trees.Leaf leaf)) }
+        ensures err { OnErr result (self.new ≡ self.old) }
+    {
+        tell_copies(leaf.copies());
+        let again = leaf.copy(alloc)?;
+        let entry = Entry {
+            node: Rc::new(alloc, Node::Leaf(again))?,
+            behind: Id::at(0),
+            sets: fields_set(leaf.copies()),
+        };
+        self.put(Shape::Copies(leaf), entry)
+    }
+
+    /// The diagram of a test that is not idle.
+    pub(crate) fn put_fork(
+        &mut self,
+        alloc: Global,
+        l: Lit,
+        t: Id,
+        e: Id,
+    ) -> Result<Id, AllocError>
+        requires has_then { Has self.old t }
+        requires has_else { Has self.old e }
+        requires made { IsMade (trees.Node l (tree_at self.old t) (tree_at self.old e)) }
+        ensures grows { Grows self.old self.new }
+        ensures place { IfOk result (λ i. Gives self.new i (λ x. x ≡ trees.Node l (tree_at self.old t) (tree_at self.old e))) }
+        ensures err { OnErr result (self.new ≡ self.old) }
+    {
+        let entry = self.entry_of(alloc, l, t, e)?;
+        self.put(Shape::Fork(l, t, e), entry)
+    }
+
+    // What is told of a test with its branches.
+    fn entry_of(&self, alloc: Global, l: Lit, t: Id, e: Id) -> Result<Entry, AllocError>
+        requires has_then { Has self.now t }
+        requires has_else { Has self.now e }
+        ensures { IfOk result (λ r. IsEntry self.now (length self.now.shapes) (trees.Node l (tree_at self.now t) (tree_at self.now e)) r) }
+    {
+        let (yes, no) = (self.entry(t), self.entry(e));
+        let (node_then, node_else) = (yes.node.clone()?, no.node.clone()?);
+        Ok(Entry {
+            node: Rc::new(alloc, Node::Test(l, node_then, node_else))?,
+            behind: self.behind(l.field(), e),
+            sets: yes.sets.with(&no.sets),
+        })
+    }
+
+    /// The result of an operation, if it was kept.
+    pub(crate) fn known(&self, call: &Call) -> Option<Id>
+        ensures { IfSome result (λ r. IsRight self.now call.now r) }
+    {
+        match self.known.get(call) {
+            None => None,
+            Some(place) => Some(*place),
+        }
+    }
+
+    /// Keeps the result of an operation.
+    pub(crate) fn keep(&mut self, call: Call, place: Id) -> Result<(), AllocError>
+        requires { IsRight self.old call place }
+        ensures grows { Grows self.old self.new }
+        ensures shapes { self.new.shapes ≡ self.old.shapes }
+    {
+        if self.known.get(&call).is_some() {
+            return Ok(());
+        }
+        self.known.insert(call, place)?;
+        Ok(())
+    }
+
+    /// Goes back to what was kept before.
+    pub(crate) fn cut(&mut self, size: Size)
+        requires { IsStore (record { shapes = take size.shapes self.old.shapes; known = take size.known self.old.known }) }
+        ensures shapes { self.new.shapes ≡ take size.shapes self.old.shapes }
+        ensures known { self.new.known ≡ take size.known self.old.known }
+    {
+        self.shapes.truncate(size.shapes);
+        self.known.truncate(size.known);
+        self.entries.truncate(size.shapes);
+    }
+}
+
+/// Tells that each of some copies assigns a field at most once.
+fn tell_copies(copies: &[Assignments])
+    ensures { (x : List Lit) → IsIn copies.now x → IsCopy x }
+{
+    for c in copies {
+        let _lits = c.lits();
+    }
+}
