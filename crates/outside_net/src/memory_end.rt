@@ -94,6 +94,10 @@ impl<R: Wait + Drop> MemoryEnd<R> {
                 self.out.put(&self.rt, bytes)
             }
             Some(Effect::Replaces(others)) => self.out.put(&self.rt, &others),
+            Some(Effect::Cuts(others)) => {
+                self.out.put(&self.rt, &others)?;
+                Err(AllocError)
+            }
         }
     }
 
