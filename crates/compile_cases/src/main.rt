@@ -3,7 +3,9 @@
 //!
 //! A line that begins with `==` is a heading, and drops the packets that were asked. A line that begins with `>` asks for
 //! one packet more: at port 1 of switch 1, of type 2054, with zeros elsewhere, but for the assignments in the line. A line
-//! `steps N` stands for the star of the sum of `ethDst=i; ethDst:=i+1` for i from 1 to N. What is made of a packet is told
+//! `steps N` stands for the star of the sum of `ethDst=i; ethDst:=i+1` for i from 1 to N, and `rectangle N` for the
+//! packets of TCP with one of N numbers in each of four fields, whose diagram shares its parts: its tests are not counted,
+//! since each path has its own. What is made of a packet is told
 //! as a policy: the assignments that make each of its packets, `skip` for the packet itself and `drop` for none, or, where
 //! they are more than nine, how many they are.
 #![tactic(auto)]
@@ -11,8 +13,8 @@
 mod policies;
 mod told;
 
-use crate::policies::{packet_of, steps};
-use crate::told::answer;
+use crate::policies::{packet_of, rectangle, steps};
+use crate::told::{Tests, answer};
 use nk_values::Packet;
 use std::alloc::{AllocError, Global};
 use std::io;
@@ -36,8 +38,15 @@ fn main(rt: HostRuntime) -> io::Result<()> {
 }
 
 fn of_line(alloc: Global, line: &str, asked: &[Packet]) -> Result<String, AllocError> {
-    match line.strip_prefix("steps ") {
-        Some(count) => answer(alloc, &steps(alloc, count.parse().unwrap_or(0))?, asked),
-        None => answer(alloc, line, asked),
+    if let Some(count) = line.strip_prefix("steps ") {
+        let policy = steps(alloc, count.parse().unwrap_or(0))?;
+        return answer(alloc, &policy, asked, Tests::Counted);
+    }
+    match line.strip_prefix("rectangle ") {
+        Some(count) => {
+            let policy = rectangle(alloc, count.parse().unwrap_or(0))?;
+            answer(alloc, &policy, asked, Tests::Uncounted)
+        }
+        None => answer(alloc, line, asked, Tests::Counted),
     }
 }

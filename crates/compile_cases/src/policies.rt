@@ -54,3 +54,23 @@ pub fn steps(alloc: Global, count: u64) -> Result<String, AllocError> {
     text.push_str(")*")?;
     Ok(text)
 }
+
+/// The text of a rectangle: packets of TCP with one of some numbers in each of four fields go to port 2.
+pub fn rectangle(alloc: Global, count: u64) -> Result<String, AllocError> {
+    let mut text = String::from_str(alloc, "ipProto=6")?;
+    for field in ["ip4Src", "ip4Dst", "tcpSrcPort", "tcpDstPort"] {
+        text.push_str("; (drop")?;
+        add_tests(alloc, &mut text, field, count)?;
+        text.push_str(")")?;
+    }
+    text.push_str("; pt:=2")?;
+    Ok(text)
+}
+
+fn add_tests(alloc: Global, text: &mut String, field: &str, count: u64) -> Result<(), AllocError> {
+    for i in 0..count {
+        let value = i.saturating_add(1);
+        text.push_str(&format!(in alloc; " + {field}={value}")?)?;
+    }
+    Ok(())
+}

@@ -7,29 +7,54 @@ use nk_values::{Field, IPV4_TYPE, Packet};
 use std::alloc::{AllocError, Global};
 use std::collections::BTreeSet;
 
+/// Whether the tests of a diagram are counted, path by path.
+#[derive(Clone, Copy, PartialEq)]
+pub enum Tests {
+    Counted,
+    Uncounted,
+}
+
 /// What is told of a policy.
-pub fn answer(alloc: Global, policy: &str, asked: &[Packet]) -> Result<String, AllocError> {
+pub fn answer(
+    alloc: Global,
+    policy: &str,
+    asked: &[Packet],
+    tests: Tests,
+) -> Result<String, AllocError> {
     match parse_policy(alloc, policy.as_bytes()) {
-        Ok(pol) => compiled(alloc, &pol, asked),
+        Ok(pol) => compiled(alloc, &pol, asked, tests),
         Err(ParseError::Fault(_)) => String::from_str(alloc, "no policy"),
         Err(ParseError::Memory) => Err(AllocError),
     }
 }
 
-fn compiled(alloc: Global, pol: &Pol, asked: &[Packet]) -> Result<String, AllocError> {
+fn compiled(
+    alloc: Global,
+    pol: &Pol,
+    asked: &[Packet],
+    tests: Tests,
+) -> Result<String, AllocError> {
     if !names_few(alloc, pol)? {
         return String::from_str(alloc, "too many values");
     }
     match compile(alloc, pol) {
-        Ok(done) => told(alloc, &done, asked),
+        Ok(done) => told(alloc, &done, asked, tests),
         Err(CompileError::Fault(fault)) => fault_text(alloc, fault),
         Err(CompileError::Memory) => Err(AllocError),
     }
 }
 
 // How many tests the diagram has, and what it makes of the packets.
-fn told(alloc: Global, done: &Compiled, asked: &[Packet]) -> Result<String, AllocError> {
-    let mut text = format!(in alloc; "{} tests", tests(done.diagram().root()))?;
+fn told(
+    alloc: Global,
+    done: &Compiled,
+    asked: &[Packet],
+    tests: Tests,
+) -> Result<String, AllocError> {
+    let mut text = match tests {
+        Tests::Counted => format!(in alloc; "{} tests", count(done.diagram().root()))?,
+        Tests::Uncounted => String::from_str(alloc, "compiled")?,
+    };
     for packet in asked {
         let made = done.diagram().answer(alloc, packet)?;
         text.push_str(&format!(in alloc; " | {}", sum(alloc, packet, &made)?)?)?;
@@ -37,10 +62,10 @@ fn told(alloc: Global, done: &Compiled, asked: &[Packet]) -> Result<String, Allo
     Ok(text)
 }
 
-fn tests(node: &Node) -> u64 {
+fn count(node: &Node) -> u64 {
     match node {
         Node::Leaf(_) => 0,
-        Node::Test(_, yes, no) => tests(yes).saturating_add(tests(no)).saturating_add(1),
+        Node::Test(_, yes, no) => count(yes).saturating_add(count(no)).saturating_add(1),
     }
 }
 
