@@ -170,32 +170,59 @@ pub fn writes(alloc: Global) -> Result<Option<usize>, AllocError> {
     Ok(Some(1_000))
 }
 
+// What happens in the update: the flip goes on in another order than its flow mods came, with packets between them.
+const SCHEDULE: &str =
+    "settle\nbegin\nsettle\nbegin\nsend 1\nsend 1\nsend 1\nsend 1\ntake 1\ntake 1\ntake 1\ntake 1\napply 1 0\napply 1 0\napply 1 0\nreply 1\nheard 1\nsend 1\nsend 1\nsend 1\ntake 1\ntake 1\ntake 1\napply 1 2\narrive 2\napply 1 0\narrive 2\narrive 1\nsettle\ndrained 1\nsettle\n";
+
 /// The session is lost behind each event of an update, and two packets come in then: the phase stays what it was.
 pub fn events(alloc: Global) -> Result<Option<usize>, AllocError> {
     let meanings = meanings(alloc, UPDATE, UPDATE_WIRING, &UPDATE_POLICIES)?;
-    let whole = simulated(
-        alloc,
-        "settle\nbegin\nsettle\nbegin\nsettle\ndrained 1\nsettle\n",
-    )?;
+    let whole = simulated(alloc, SCHEDULE)?;
     let mut schedule = String::new(alloc);
-    let mut lines = 0;
-    for line in whole.text.lines() {
-        let before = simulated(alloc, schedule.as_str())?;
-        let cut = format!(in alloc; "{schedule}lost 1\narrive 1\narrive 2\n")?;
-        let after = simulated(alloc, &cut)?;
-        let same = line_of(&after.text, "phase ") == line_of(&before.text, "phase ");
-        let told = after.status == Status::Halted && tells_of_loss(&after.text);
-        if !same || !told || !have_one_policy(alloc, &after.text, &meanings, &[0, 1])? {
-            return Ok(Some(lines));
+    let mut came = Vec::new(alloc);
+    for (place, line) in whole.text.lines().enumerate() {
+        if !stands_when_lost(alloc, &schedule, &came, &meanings)? {
+            return Ok(Some(place));
         }
         let Some(event) = line.strip_prefix("e ") else {
             return Ok(None);
         };
-        schedule.push_str(event)?;
+        match arrival_of(event) {
+            None => schedule.push_str(event)?,
+            Some(line) => {
+                came.push(line)?;
+                schedule.push_str(if line == 0 { "arrive 1" } else { "arrive 2" })?;
+            }
+        }
         schedule.push_str("\n")?;
-        lines += 1;
     }
-    Ok(Some(lines))
+    Ok(Some(0))
+}
+
+// The packet line of an arrival, from 0.
+fn arrival_of(event: &str) -> Option<usize> {
+    if !event.starts_with("arrive ") {
+        return None;
+    }
+    Some(usize::from(!event.contains("ethDst=00:00:00:00:00:05")))
+}
+
+// Whether the phase stays and each packet has one policy where the session is lost behind these events, with those lines.
+fn stands_when_lost(
+    alloc: Global,
+    schedule: &str,
+    came: &[usize],
+    meanings: &[Vec<Vec<Text>>],
+) -> Result<bool, AllocError> {
+    let before = simulated(alloc, schedule)?;
+    let cut = format!(in alloc; "{schedule}lost 1\narrive 1\narrive 2\n")?;
+    let after = simulated(alloc, &cut)?;
+    let mut lines = Vec::from_slice(alloc, came)?;
+    lines.push(0)?;
+    lines.push(1)?;
+    let same = line_of(&after.text, "phase ") == line_of(&before.text, "phase ");
+    let told = after.status == Status::Halted && tells_of_loss(&after.text);
+    Ok(same && told && have_one_policy(alloc, &after.text, meanings, &lines)?)
 }
 
 // A simulation of the update with this schedule.
