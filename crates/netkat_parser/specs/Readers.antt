@@ -21,8 +21,8 @@ use Rattle.netkat_parser.specs.Going.{Reach, Comes}
 use Rattle.netkat_parser.specs.Cuts.{EndsAt}
 use Rattle.netkat_parser.specs.Views.{view_of, Shows}
 
--- No fault was found in the text: whatever follows, what comes of it behind what is pending is what the grammar gives of the text
--- with it. The text began at a place; at its end nothing may follow.
+-- No fault was found in a text that began at a place: whatever may follow, what comes of it behind what is pending is what the
+-- grammar gives of the text with it. At the end nothing may follow.
 pub record IsOpen (end : Bool) (begin : Place) (r : PolicyReader) (text : List ℕ) : Type 0 where
   pub front : List ℕ
   pub parts : text ≡ front ++ r.pending.items
