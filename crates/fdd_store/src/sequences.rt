@@ -100,12 +100,7 @@ impl Store {
     }
 
     // A diagram after each of some copies.
-    fn gather(
-        &mut self,
-        alloc: Global,
-        copies: &[Assignments],
-        b: Id,
-    ) -> Result<Id, AllocError>
+    fn gather(&mut self, alloc: Global, copies: &[Assignments], b: Id) -> Result<Id, AllocError>
         requires has { Has self.old b }
         ensures grows { Grows self.old self.new }
         ensures place { IfOk result (λ r. Gives self.new r (Follows (trees.Leaf copies.now) (tree_at self.old b))) }

@@ -1,12 +1,9 @@
-use Rattle.std.proofs.Common.{◌≡◌, ◌++◌, ◌/◌, ◌∙◌, refl, sym, subst, arith, length, List}
+use Rattle.std.proofs.Common.{◌≡◌, ◌++◌, ◌/◌, ◌∙◌, refl, sym, subst, arith, length}
 use Rattle.std.proofs.lemmas.List.{take-append-drop}
-use Rattle.nk_values.specs.declared.lit.Lit.{Lit}
 use Rattle.nk_values.specs.declared.packet.Packet.{Packet}
-use Rattle.fdd_nodes.specs.Cells.{open_cell}
 use Rattle.fdd_nodes.specs.Trees as trees
 use Rattle.fdd_ops.specs.Sequences.{Follow}
 use Rattle.fdd_ops.specs.Unions.{AddsBoth}
-use Rattle.fdd_store.specs.Results.{Follows}
 use Rattle.fdd_store.proofs.ForkLaws.{if_ok}
 use Rattle.fdd_store.proofs.FollowLaws.{single, follows_leaf, follows_both}
 use Rattle.fdd_store.proofs.UniteLaws.{unites_copies}
