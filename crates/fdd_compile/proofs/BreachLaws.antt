@@ -181,8 +181,8 @@ breaches_join k c l t e q o v h =
       sets = λ j ord g fresh.
           let y : Holds (fill (put l q) g) l = fill_fixed (put l q) g (lit_field l) (λ z. lit_not_free l (sym same ∙ z)) ∙ same in
           let there = one_leaf t (fill (put l q) g) (fill q g) (λ m w.
-              let f = fill_other q g l (lit_field m) (apart l m (places_past l m (tests_from t _ m ord.1 w))) in
-              ((λ z. sym f ∙ z), (λ z. f ∙ z))) in
+          let f = fill_other q g l (lit_field m) (apart l m (places_past l m (tests_from t _ m ord.1 w))) in
+          ((λ z. sym f ∙ z), (λ z. f ∙ z))) in
           sets_then k l t e (fill (put l q) g) y (subst (SetsLacking k) (sym there) (h.sets (step * (place (lit_field l) + 1)) ord.1 g (λ m i. fresh m (inr (inl i)))));
     }
   where

@@ -1,5 +1,5 @@
 -- Choices by a literal.
-use Rattle.std.proofs.Common.{◌≡◌, ◌≢◌, ℕ, ◌+◌, ◌<◌, ◌≤◌, ◌⊎◌, inl, inr, refl, ap, sym, ◌∙◌, subst, arith}
+use Rattle.std.proofs.Common.{◌≡◌, ◌≢◌, ℕ, ◌<◌, ◌≤◌, ◌⊎◌, inl, inr, ap, sym, ◌∙◌, subst, arith}
 use Rattle.std.proofs.lemmas.Bool.Decides.{eqb_tells}
 use Rattle.nk_values.specs.declared.packet.Packet.{Packet}
 use Rattle.nk_values.specs.declared.lit.Lit.{Lit}
@@ -10,7 +10,7 @@ use Rattle.nk_values.specs.Ranges.{place}
 use Rattle.nk_values.specs.Ranks.{rank}
 use Rattle.nk_values.proofs.LitLaws.{lit_small}
 use Rattle.nk_values.proofs.PacketLaws.{same_field}
-use Rattle.fdd_nodes.specs.Trees.{Tree, Leaf, Node, answers, SameAnswers, Tests, Assigns}
+use Rattle.fdd_nodes.specs.Trees.{Tree, Leaf, Node, Tests}
 use Rattle.fdd_ops.proofs.BuildLaws.{same_trans}
 use Rattle.fdd_store.specs.Made.{IsMade, IsBeyond, IsLater, IsNotBefore}
 use Rattle.fdd_store.specs.Results.{Forks, Cuts, Rests, Picks}
@@ -161,5 +161,5 @@ right_choose k n l a b r g ha hb w = (
   has_grown k n a g ha,
   has_grown k n b g hb,
   subst (λ (t : Tree). Gives n r (Forks l t (tree_at n b))) (sym (tree_grown k n a g ha))
-  (subst (λ (t : Tree). Gives n r (Forks l (tree_at k a) t)) (sym (tree_grown k n b g hb)) w),
+      (subst (λ (t : Tree). Gives n r (Forks l (tree_at k a) t)) (sym (tree_grown k n b g hb)) w),
 )

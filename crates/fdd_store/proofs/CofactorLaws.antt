@@ -1,5 +1,5 @@
 -- Cofactors.
-use Rattle.std.proofs.Common.{◌≡◌, ◌≢◌, ℕ, ◌<◌, ◌≤◌, ◌⊎◌, inl, inr, refl, ap, sym, ◌∙◌, subst, arith, cond, nat_eq, List}
+use Rattle.std.proofs.Common.{◌≡◌, ◌≢◌, ℕ, ◌<◌, inl, inr, refl, ap, sym, ◌∙◌, subst, arith, cond, nat_eq}
 use Rattle.std.proofs.lemmas.Bool.{eq-eqb, ne_eqb}
 use Rattle.std.proofs.lemmas.Bool.Decides.{eqb_tells}
 use Rattle.nk_values.specs.declared.packet.Packet.{Packet}
@@ -11,9 +11,9 @@ use Rattle.nk_values.specs.Ranges.{place}
 use Rattle.nk_values.proofs.LitLaws.{lit_small, same_lit}
 use Rattle.nk_values.proofs.PacketLaws.{same_field}
 use Rattle.fdd_nodes.specs.Roots.{IsLeaf}
-use Rattle.fdd_nodes.specs.Trees.{Tree, Leaf, Node, answers, SameAnswers, Tests, Assigns}
+use Rattle.fdd_nodes.specs.Trees.{Tree, Leaf, Node}
 use Rattle.fdd_ops.specs.Cofactors.{IsFieldFrom, part_at}
-use Rattle.fdd_ops.proofs.BuildLaws.{same_trans, same_sym, same_leaf}
+use Rattle.fdd_ops.proofs.BuildLaws.{same_trans, same_leaf}
 use Rattle.fdd_store.specs.Looks.{Forked}
 use Rattle.fdd_store.specs.Made.{IsMade, IsBeyond, IsLater}
 use Rattle.fdd_store.specs.Results.{Forks, Cofactors}

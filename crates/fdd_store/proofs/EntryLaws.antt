@@ -1,8 +1,8 @@
 -- What is told of the diagrams of a store.
-use Rattle.std.proofs.Common.{◌≡◌, ◌≢◌, ℕ, zero, suc, ◌+◌, ◌<◌, ◌≤◌, ◌⊎◌, inl, inr, refl, ap, sym, ◌∙◌, subst, arith, Bool, true, false, cond, List, [], ◌∷◌, ◌++◌, length, take, drop, get_or, slice_get, Some}
+use Rattle.std.proofs.Common.{◌≡◌, ◌≢◌, ℕ, zero, suc, ◌<◌, ◌≤◌, inl, inr, refl, ap, sym, ◌∙◌, subst, arith, Bool, true, false, cond, List, [], ◌∷◌, ◌++◌, length, take, drop, get_or, slice_get, Some}
 use Rattle.std.proofs.lemmas.Bool.{eq-eqb, ne_eqb}
 use Rattle.std.proofs.lemmas.Bool.Decides.{eqb_tells}
-use Rattle.std.proofs.lemmas.List.{append-nil, take-append-drop, length-take-le, length-append}
+use Rattle.std.proofs.lemmas.List.{append-nil, take-append-drop, length-append}
 use Rattle.std.proofs.lemmas.Option.{slice_get_within, get_or_from_slice_get}
 use Rattle.std.specs.List.{list_any}
 use Rattle.nk_values.specs.declared.lit.Lit.{Lit}
@@ -10,17 +10,17 @@ use Rattle.nk_values.specs.Lits.{lit_field}
 use Rattle.nk_values.specs.Ranges.{place}
 use Rattle.nk_values.specs.Ranks.{rank}
 use Rattle.nk_values.proofs.LitLaws.{lit_small}
-use Rattle.fdd_nodes.specs.Trees.{Tree, Leaf, Node, Tests, Assigns}
+use Rattle.fdd_nodes.specs.Trees.{Tree, Leaf, Node, Assigns}
 use Rattle.fdd_store.specs.declared.entry.Entry.{Entry}
 use Rattle.fdd_store.specs.declared.shape.Shape.{Shape}
 use Rattle.fdd_store.specs.Entries.{behind, IsEntry, EntryAt, AreEntries}
 use Rattle.fdd_store.specs.Made.{IsMade, IsLater, IsPastOf}
 use Rattle.fdd_store.specs.Results.{Passes}
-use Rattle.fdd_store.specs.Stores.{Kept, Has, Grows, IsBelow, shape_tree, trees, tree_at}
+use Rattle.fdd_store.specs.Stores.{Kept, Has, Grows, shape_tree, trees}
 use Rattle.fdd_store.proofs.AlikeLaws.{shape_eq}
 use Rattle.fdd_store.proofs.ForkLaws.{passes_itself, passes_else}
 use Rattle.fdd_store.proofs.MadeLaws.{tests_from, made_else}
-use Rattle.fdd_store.proofs.StoreLaws.{tree_grown, with_shape, grows_with, more_grows, more, tree_last, last_place}
+use Rattle.fdd_store.proofs.StoreLaws.{tree_grown, with_shape, more_grows, more, tree_last, last_place}
 
 -- lists of entries
 

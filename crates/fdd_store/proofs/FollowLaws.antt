@@ -1,5 +1,5 @@
 -- One diagram after another.
-use Rattle.std.proofs.Common.{true, ◌==◌, ◌≡◌, ◌≢◌, ℕ, ◌<◌, ◌⊎◌, inl, inr, refl, ap, sym, ◌∙◌, subst, arith, Bool, cond, Option, Some, None, List, [], ◌∷◌, ◌++◌, length, get_or}
+use Rattle.std.proofs.Common.{true, ◌==◌, ◌≡◌, ◌≢◌, ℕ, ◌⊎◌, inl, inr, refl, ap, sym, ◌∙◌, subst, arith, Bool, cond, Option, Some, None, List, [], ◌∷◌, ◌++◌, length, get_or}
 use Rattle.std.proofs.lemmas.Bool.{false≢true}
 use Rattle.std.proofs.lemmas.Bool.Decides.{eqb_tells}
 use Rattle.nk_values.specs.declared.packet.Packet.{Packet}
@@ -11,7 +11,7 @@ use Rattle.nk_values.specs.Packets.{get}
 use Rattle.nk_values.specs.Ranges.{place}
 use Rattle.nk_values.proofs.MemberLaws.{in-left, in-right, in-either}
 use Rattle.fdd_nodes.specs.Trees.{Tree, Leaf, Node, apply, outcomes, answers, SameAnswers, Tests, IsSetBy, Assigns}
-use Rattle.fdd_nodes.specs.Copies.{IsCopy, assigned}
+use Rattle.fdd_nodes.specs.Copies.{assigned}
 use Rattle.fdd_nodes.specs.Cells.{open_cell}
 use Rattle.fdd_nodes.specs.declared.cell.Known.TheVariants.{Open}
 use Rattle.fdd_nodes.proofs.CellLaws.{open_agrees, get-open}
@@ -232,7 +232,7 @@ right_follow k n a b r g ha hb w = (
   has_grown k n a g ha,
   has_grown k n b g hb,
   subst (λ (t : Tree). Gives n r (Follows t (tree_at n b))) (sym (tree_grown k n a g ha))
-  (subst (λ (t : Tree). Gives n r (Follows (tree_at k a) t)) (sym (tree_grown k n b g hb)) w),
+      (subst (λ (t : Tree). Gives n r (Follows (tree_at k a) t)) (sym (tree_grown k n b g hb)) w),
 )
 
 pub one_grown : (k n : Kept) (c : ℕ) → Grows k n → Has k c → IsOne (tree_at k c) → IsOne (tree_at n c)

@@ -1,6 +1,6 @@
 -- Tests, and diagrams without an assignment.
 use Rattle.std.specs.Prelude.{IfOk}
-use Rattle.std.proofs.Common.{Result, Ok, Err, ◌≡◌, ◌≢◌, ℕ, ◌+◌, ◌-◌, ◌*◌, ◌<◌, ◌≤◌, ◌⊎◌, inl, inr, refl, ap, sym, ◌∙◌, subst, arith, List, []}
+use Rattle.std.proofs.Common.{Result, Ok, Err, ◌≡◌, ◌≢◌, ℕ, ◌-◌, ◌<◌, ◌≤◌, inl, inr, refl, ap, sym, ◌∙◌, subst, arith, List, []}
 use Rattle.std.proofs.lemmas.Bool.Decides.{eqb_tells}
 use Rattle.nk_values.specs.declared.packet.Packet.{Packet}
 use Rattle.nk_values.specs.declared.lit.Lit.{Lit}
@@ -8,11 +8,10 @@ use Rattle.nk_values.specs.Held.{Holds}
 use Rattle.nk_values.specs.Lits.{lit_field, lit_value}
 use Rattle.nk_values.specs.Packets.{get}
 use Rattle.nk_values.specs.Ranges.{place}
-use Rattle.nk_values.specs.Ranks.{step, rank}
+use Rattle.nk_values.specs.Ranks.{rank}
 use Rattle.nk_values.proofs.LitLaws.{lit_small, place_small}
 use Rattle.nk_values.proofs.PacketLaws.{get-with_same, same_field}
-use Rattle.fdd_nodes.specs.Trees.{Tree, Leaf, Node, leaf_at, answers, SameAnswers, Tests, Assigns}
-use Rattle.fdd_nodes.specs.Roots.{IsLeaf}
+use Rattle.fdd_nodes.specs.Trees.{Tree, Leaf, Node, answers, SameAnswers, Tests}
 use Rattle.fdd_nodes.specs.Cells.{open_cell, cell_of}
 use Rattle.fdd_nodes.proofs.CellLaws.{cell_agrees}
 use Rattle.fdd_nodes.proofs.SplitLaws.{leaf_at-then, leaf_at-else}

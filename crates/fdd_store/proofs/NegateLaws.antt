@@ -1,18 +1,15 @@
 -- Negations.
-use Rattle.std.proofs.Common.{◌≡◌, ℕ, ◌<◌, ◌⊎◌, inl, inr, refl, ap, sym, ◌∙◌, subst, arith, List, [], ◌∷◌}
+use Rattle.std.proofs.Common.{◌≡◌, ℕ, inl, inr, refl, sym, ◌∙◌, subst, List, [], ◌∷◌}
 use Rattle.std.proofs.lemmas.Bool.Decides.{eqb_tells}
-use Rattle.nk_values.specs.declared.packet.Packet.{Packet}
 use Rattle.nk_values.specs.declared.lit.Lit.{Lit}
-use Rattle.nk_values.specs.Held.{Holds, put}
+use Rattle.nk_values.specs.Held.{put}
 use Rattle.nk_values.specs.Lits.{lit_field, lit_value}
-use Rattle.nk_values.specs.Members.{IsIn}
 use Rattle.nk_values.specs.Packets.{get}
 use Rattle.nk_values.proofs.PacketLaws.{get-with_same}
-use Rattle.fdd_nodes.specs.Trees.{Tree, Leaf, Node, answers, SameAnswers, Tests, Assigns}
+use Rattle.fdd_nodes.specs.Trees.{Tree, Leaf, Node, Tests, Assigns}
 use Rattle.fdd_nodes.specs.Cells.{open_cell}
 use Rattle.fdd_nodes.proofs.CellLaws.{open_agrees}
 use Rattle.fdd_ops.specs.Negations.{IsPredicate, IsOther}
-use Rattle.fdd_ops.proofs.BuildLaws.{same_trans, same_sym}
 use Rattle.fdd_ops.proofs.NegationLaws.{negates_leaf}
 use Rattle.fdd_store.specs.Made.{IsMade, IsIdle, IsBeyond, IsLater}
 use Rattle.fdd_store.specs.Results.{Forks, Opposes}

@@ -1,9 +1,6 @@
 -- What the operations of a store promise.
-use Rattle.std.proofs.Common.{◌≡◌, ℕ, ◌⊎◌, inl, inr, refl, sym, subst, arith, ◌∙◌, ap, List, [], ◌∷◌}
-use Rattle.nk_values.specs.declared.packet.Packet.{Packet}
+use Rattle.std.proofs.Common.{◌≡◌, ℕ, ◌⊎◌, inl, inr, sym, subst, arith, ◌∙◌, ap, List, [], ◌∷◌}
 use Rattle.nk_values.specs.declared.lit.Lit.{Lit}
-use Rattle.nk_values.specs.Held.{Holds}
-use Rattle.nk_values.specs.Packets.{IsInRange}
 use Rattle.fdd_nodes.specs.Trees.{Tree, Leaf, Node, answers, Tests, Assigns}
 use Rattle.nk_values.specs.Members.{IsIn}
 use Rattle.fdd_nodes.specs.Names.{IsFew, AreFew}

@@ -106,7 +106,7 @@ right_grown old new (Sequence a b) r g h = (
   has_grown old new a g h.0,
   has_grown old new b g h.1,
   subst (λ (t : Tree). Gives new r (Follows t (tree_at new b))) (sym (tree_grown old new a g h.0))
-  (subst (λ (t : Tree). Gives new r (Follows (tree_at old a) t)) (sym (tree_grown old new b g h.1)) (gives_grown old new r _ g h.2)),
+      (subst (λ (t : Tree). Gives new r (Follows (tree_at old a) t)) (sym (tree_grown old new b g h.1)) (gives_grown old new r _ g h.2)),
 )
 right_grown old new (Negate a) r g h = (
   has_grown old new a g h.0,
@@ -116,7 +116,7 @@ right_grown old new (Choose l a b) r g h = (
   has_grown old new a g h.0,
   has_grown old new b g h.1,
   subst (λ (t : Tree). Gives new r (Forks l t (tree_at new b))) (sym (tree_grown old new a g h.0))
-  (subst (λ (t : Tree). Gives new r (Forks l (tree_at old a) t)) (sym (tree_grown old new b g h.1)) (gives_grown old new r _ g h.2)),
+      (subst (λ (t : Tree). Gives new r (Forks l (tree_at old a) t)) (sym (tree_grown old new b g h.1)) (gives_grown old new r _ g h.2)),
 )
 right_grown old new (Cofactor l a) r g h = (
   has_grown old new a g h.0,

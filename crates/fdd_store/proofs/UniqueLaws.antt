@@ -1,5 +1,5 @@
 -- Made diagrams that answer alike are one.
-use Rattle.std.proofs.Common.{◌≡◌, ◌≢◌, ℕ, zero, suc, ◌+◌, ◌<◌, ◌≤◌, ◌⊎◌, inl, inr, refl, ap, sym, ◌∙◌, subst, arith}
+use Rattle.std.proofs.Common.{◌≡◌, ℕ, zero, suc, ◌+◌, ◌<◌, ◌≤◌, ◌⊎◌, inl, inr, refl, ap, sym, ◌∙◌, subst, arith}
 use Rattle.std.proofs.lemmas.Bool.Decides.{eqb_tells, nat_tests}
 use Rattle.nk_values.specs.declared.packet.Packet.{Packet}
 use Rattle.nk_values.specs.declared.lit.Lit.{Lit}
@@ -10,7 +10,7 @@ use Rattle.nk_values.specs.Ranges.{place}
 use Rattle.nk_values.specs.Ranks.{rank}
 use Rattle.nk_values.proofs.LitLaws.{same_lit, same_rank}
 use Rattle.nk_values.proofs.PacketLaws.{get-with_same, get-with_other}
-use Rattle.fdd_nodes.specs.Trees.{Tree, Leaf, Node, answers, SameAnswers, Tests, Assigns}
+use Rattle.fdd_nodes.specs.Trees.{Tree, Leaf, Node, answers, SameAnswers, Assigns}
 use Rattle.fdd_nodes.specs.Cells.{free, open_cell}
 use Rattle.fdd_nodes.proofs.CellLaws.{lit_not_free}
 use Rattle.fdd_nodes.proofs.SplitLaws.{leaf_at-then, leaf_at-else}

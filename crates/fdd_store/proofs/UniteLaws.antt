@@ -1,13 +1,11 @@
 -- First tests, parts of diagrams, and unions.
 use Rattle.std.specs.Prelude.{IsTrue, ◌↔◌}
 use Rattle.std.proofs.lemmas.Bool.{false≢true}
-use Rattle.std.proofs.Common.{◌≡◌, ◌≢◌, ℕ, ◌+◌, ◌<◌, ◌≤◌, ◌⊎◌, inl, inr, refl, ap, sym, ◌∙◌, subst, arith, Bool, cond, ltb, true, false, List}
+use Rattle.std.proofs.Common.{◌≡◌, ◌≢◌, ℕ, ◌<◌, ◌≤◌, ◌⊎◌, inl, inr, refl, sym, ◌∙◌, subst, arith, Bool, cond, ltb, true, false, List}
 use Rattle.std.proofs.lemmas.Bool.Decides.{eqb_tells, nat_tests}
 use Rattle.nk_values.specs.declared.packet.Packet.{Packet}
 use Rattle.nk_values.specs.declared.lit.Lit.{Lit}
-use Rattle.nk_values.specs.Held.{Holds}
 use Rattle.nk_values.specs.Lits.{lit_field, lit_value}
-use Rattle.nk_values.specs.Members.{IsIn}
 use Rattle.nk_values.specs.Packets.{get}
 use Rattle.nk_values.specs.Ranks.{rank}
 use Rattle.nk_values.proofs.LitLaws.{same_rank}
@@ -15,16 +13,15 @@ use Rattle.fdd_nodes.specs.Trees.{Tree, Leaf, Node, answers, SameAnswers, Tests,
 use Rattle.fdd_nodes.specs.Roots.{IsLeaf}
 use Rattle.fdd_nodes.specs.Cells.{open_cell}
 use Rattle.fdd_nodes.proofs.CellLaws.{open_agrees}
-use Rattle.fdd_nodes.proofs.SplitLaws.{leaf_at-then, leaf_at-else}
 use Rattle.fdd_ops.specs.Unions.{IsUnion, AddsBoth}
-use Rattle.fdd_ops.proofs.BuildLaws.{same_trans, same_sym, same_leaf}
+use Rattle.fdd_ops.proofs.BuildLaws.{same_leaf}
 use Rattle.fdd_ops.proofs.UnionLaws.{joins_copies}
 use Rattle.fdd_store.specs.Made.{IsMade, IsBeyond, IsLater, IsNotBefore}
 use Rattle.fdd_store.specs.Results.{Passes, Strips, Forks, Cuts, Rests, Unites}
 use Rattle.fdd_store.specs.Looks.{Forked, Firsts}
 use Rattle.fdd_store.specs.Stores.{Kept, tree_at, Has, Gives, Grows}
 use Rattle.fdd_store.proofs.MadeLaws.{tests_from, past_later}
-use Rattle.fdd_store.proofs.ForkLaws.{depth, level, level_later, gives_then, gives_else, level_forked, tests_then, tests_else, root_tested, strips_passed, passed_same, node_then_as, node_else_as}
+use Rattle.fdd_store.proofs.ForkLaws.{depth, level, level_later, gives_then, gives_else, tests_then, tests_else, root_tested, strips_passed, passed_same, node_then_as, node_else_as}
 use Rattle.fdd_store.proofs.StoreLaws.{tree_grown, gives_grown, has_grown}
 
 -- the greater of two numbers

@@ -11,7 +11,7 @@ use crate::call::Call;
 use crate::id::Id;
 use crate::store::{Look, Store};
 use fdd_nodes::{Assignments, Cell, Leaf};
-use fdd_ops::leaves::following;
+use fdd_ops::leaves::{following, joined};
 use nk_values::Field;
 use std::alloc::{AllocError, Global};
 
@@ -100,12 +100,7 @@ impl Store {
     }
 
     // A diagram after each of some copies.
-    fn gather(
-        &mut self,
-        alloc: Global,
-        copies: &[Assignments],
-        b: Id,
-    ) -> Result<Id, AllocError>
+    fn gather(&mut self, alloc: Global, copies: &[Assignments], b: Id) -> Result<Id, AllocError>
         requires has { Has self.old b }
         ensures grows { Grows self.old self.new }
         ensures place { IfOk result (λ r. Gives self.new r (Follows (trees.Leaf copies.now) (tree_at self.old b))) }
@@ -126,6 +121,26 @@ impl Store {
                 let x = self.gather(alloc, front, b)?;
                 let y = self.gather(alloc, back, b)?;
                 self.unite(alloc, x, y)
+            }
+        }
+    }
+
+    // A diagram after a leaf. Two leaves are one after the other without a diagram being made of each copy.
+    fn follow_leaf(&mut self, alloc: Global, a: Id, b: Id) -> Result<Id, AllocError>
+        requires has_a { Has self.old a }
+        requires has_b { Has self.old b }
+        requires leaf { IsLeaf (tree_at self.old a) }
+        ensures grows { Grows self.old self.new }
+        ensures place { IfOk result (λ r. Gives self.new r (Follows (tree_at self.old a) (tree_at self.old b))) }
+    {
+        match self.look(b) {
+            Look::Leaf => {
+                let all = leaf_after(alloc, self.leaf(a).copies(), self.leaf(b))?;
+                self.put_leaf(alloc, all)
+            }
+            Look::Fork(_, _, _) => {
+                let leaf = self.leaf(a).copy(alloc)?;
+                self.gather(alloc, leaf.copies(), b)
             }
         }
     }
@@ -155,15 +170,28 @@ impl Store {
         ensures place { IfOk result (λ r. Gives self.new r (Follows (tree_at self.old a) (tree_at self.old b))) }
     {
         match self.look(a) {
-            Look::Leaf => {
-                let leaf = self.leaf(a).copy(alloc)?;
-                self.gather(alloc, leaf.copies(), b)
-            }
+            Look::Leaf => self.follow_leaf(alloc, a, b),
             Look::Fork(l, t, e) => {
                 let x = self.follow(alloc, t, b)?;
                 let y = self.follow(alloc, e, b)?;
                 self.choose(alloc, l, x, y)
             }
+        }
+    }
+}
+
+// A leaf after each of some copies.
+fn leaf_after(alloc: Global, copies: &[Assignments], later: &Leaf) -> Result<Leaf, AllocError>
+    ensures { IfOk result (λ r. Follows (trees.Leaf copies.now) (trees.Leaf later.now) (trees.Leaf r)) }
+{
+    match copies {
+        [] => Ok(Leaf::empty(alloc)),
+        [copy] => following(alloc, &Cell::open(), copy, later),
+        _ => {
+            let (front, back) = copies.split_at(copies.len() / 2);
+            let x = leaf_after(alloc, front, later)?;
+            let y = leaf_after(alloc, back, later)?;
+            joined(alloc, &Cell::open(), &x, &y)
         }
     }
 }

@@ -215,13 +215,7 @@ impl Store {
     }
 
     /// The diagram of a test that is not idle.
-    pub(crate) fn put_fork(
-        &mut self,
-        alloc: Global,
-        l: Lit,
-        t: Id,
-        e: Id,
-    ) -> Result<Id, AllocError>
+    pub(crate) fn put_fork(&mut self, alloc: Global, l: Lit, t: Id, e: Id) -> Result<Id, AllocError>
         requires has_then { Has self.old t }
         requires has_else { Has self.old e }
         requires made { IsMade (trees.Node l (tree_at self.old t) (tree_at self.old e)) }

@@ -1,5 +1,5 @@
 use Rattle.std.proofs.Common.{arith, sym, subst}
-use Rattle.fdd_store.specs.Stores.{Gives, tree_at}
+use Rattle.fdd_store.specs.Stores.{tree_at}
 use Rattle.fdd_store.proofs.ForkLaws.{if_ok}
 use Rattle.fdd_store.proofs.StoreLaws.{gives_as, grows_on}
 use Rattle.fdd_compile.proofs.FoldLaws.{held_as, held_grown, held_push, trees_kept}

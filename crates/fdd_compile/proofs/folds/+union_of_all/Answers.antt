@@ -1,10 +1,10 @@
-use Rattle.std.proofs.Common.{◌≡◌, refl, sym, subst, arith, length, List}
+use Rattle.std.proofs.Common.{refl, sym, subst, arith, List}
 use Rattle.fdd_nodes.specs.Trees.{Tree}
 use Rattle.fdd_compile.specs.Folds.{AreSmall, UnionOfAll}
-use Rattle.fdd_compile.proofs.FoldLaws.{one_held, shorter, front_held, front_small, back_held, back_small, union_none, union_one, union_has, union_few, union_whole}
+use Rattle.fdd_compile.proofs.FoldLaws.{one_held, shorter, front_held, front_small, back_held, back_small, union_one, union_few, union_whole}
 use Rattle.fdd_store.specs.Stores.{tree_at}
 use Rattle.fdd_store.proofs.ForkLaws.{if_ok}
-use Rattle.fdd_store.proofs.StoreLaws.{gives_as, grows_on}
+use Rattle.fdd_store.proofs.StoreLaws.{gives_as}
 use Rattle.fdd_compile.proofs.folds.+union_of_all.Goals as goal
 
 pub each_is_made-requires : goal.each_is_made-requires

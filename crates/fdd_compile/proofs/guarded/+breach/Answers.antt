@@ -1,4 +1,4 @@
-use Rattle.std.proofs.Common.{◌≡◌, sym, ◌∙◌, ap, subst, Option, Some, None}
+use Rattle.std.proofs.Common.{sym, ◌∙◌, subst}
 use Rattle.nk_values.specs.declared.packet.Packet.{Packet}
 use Rattle.nk_values.specs.Held.{Holds, put}
 use Rattle.nk_values.specs.Lits.{lit_field}

@@ -2,7 +2,7 @@ use Rattle.std.proofs.Common.{sym, subst}
 use Rattle.nk_syntax.specs.Views.{term_of}
 use Rattle.fdd_store.specs.Stores.{tree_at}
 use Rattle.fdd_compile.specs.Breaches.{TellsBreach, IsBreach}
-use Rattle.fdd_compile.proofs.GuardLaws.{breach_of, no_breach_of}
+use Rattle.fdd_compile.proofs.GuardLaws.{breach_of}
 use Rattle.fdd_compile.proofs.SafeLaws.{few_names, fresh_of_all}
 use Rattle.fdd_compile.proofs.guarded.unguarded_in.Goals as goal
 

@@ -1,9 +1,8 @@
-use Rattle.std.proofs.Common.{◌≡◌, List, [], refl, sym, ap, subst, arith, ◌∙◌}
+use Rattle.std.proofs.Common.{◌≡◌, List, [], sym, ap, subst, arith, ◌∙◌}
 use Rattle.std.proofs.lemmas.Bool.{false≢true}
 use Rattle.std.specs.List.Sorted.{IsPermutation}
 use Rattle.nk_values.specs.declared.packet.Packet.{Packet}
 use Rattle.nk_values.specs.declared.lit.Lit.{Lit}
-use Rattle.nk_values.specs.Held.{put}
 use Rattle.nk_values.specs.Lits.{lit_field}
 use Rattle.nk_values.specs.Members.{SameMembers}
 use Rattle.fdd_nodes.specs.Cells.{IsValid, IsOpen}
@@ -12,11 +11,10 @@ use Rattle.fdd_nodes.specs.Trees.{Tree, Leaf, Tests}
 use Rattle.fdd_nodes.proofs.CellLaws.{valid_with}
 use Rattle.fdd_nodes.proofs.OpenLaws.{open_fields, fewer_open}
 use Rattle.fdd_star.specs.declared.reach.Reach.{Reach}
-use Rattle.fdd_star.specs.Parts.{AreParts}
 use Rattle.fdd_star.specs.Reaches.{copies_of, asked_of, IsClosed, StarBut}
-use Rattle.fdd_star.proofs.StarLaws.{few_within, star_leaf, star_more, choice_few, same_sorted, fewer_left, last_of, none_left}
+use Rattle.fdd_star.proofs.StarLaws.{star_leaf, star_more, choice_few, same_sorted, fewer_left, last_of, none_left}
 use Rattle.fdd_star.proofs.PartLaws.{parts_grown}
-use Rattle.fdd_store.specs.Stores.{Kept, Gives, tree_at}
+use Rattle.fdd_store.specs.Stores.{Gives, tree_at}
 use Rattle.fdd_store.proofs.StoreLaws.{gives_as, gives_grown, grows_on}
 use Rattle.fdd_star.proofs.repetition.+star.Goals as goal
 

@@ -1,4 +1,4 @@
-use Rattle.std.proofs.Common.{◌≡◌, ap, sym, ◌∙◌, subst, arith, length, List, [], ◌∷◌}
+use Rattle.std.proofs.Common.{◌≡◌, ap, sym, ◌∙◌, subst, arith, length}
 use Rattle.nk_values.specs.declared.packet.Packet.{Packet}
 use Rattle.fdd_nodes.specs.Trees as trees
 use Rattle.fdd_ops.specs.Sequences.{Follow}

@@ -1,4 +1,4 @@
-use Rattle.std.proofs.Common.{sym, subst, ◌∙◌}
+use Rattle.std.proofs.Common.{sym, subst}
 use Rattle.fdd_store.specs.Stores.{IsStore}
 use Rattle.fdd_store.proofs.StoreLaws.{taken}
 use Rattle.fdd_store.proofs.OperationLaws.{cofactor_of}

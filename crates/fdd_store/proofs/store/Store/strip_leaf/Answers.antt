@@ -1,7 +1,5 @@
-use Rattle.std.proofs.Common.{subst, sym, ap, ◌∙◌, List, []}
+use Rattle.std.proofs.Common.{subst, sym, []}
 use Rattle.nk_values.specs.declared.packet.Packet.{Packet}
-use Rattle.nk_values.specs.declared.lit.Lit.{Lit}
-use Rattle.fdd_nodes.specs.Trees.{Tree, Leaf}
 use Rattle.fdd_ops.specs.Unions.{Adds}
 use Rattle.fdd_store.specs.Results.{Strips}
 use Rattle.fdd_store.specs.Stores.{tree_at}
