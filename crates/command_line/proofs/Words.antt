@@ -83,7 +83,7 @@ asks-taken ws n w rest e (run is none) =
 asks-taken ws n w rest e (workload x is one p) =
     let f : n ∷ w ∷ rest ≡ n ∷ codes "generate" ∷ x ∷ [] = ap₂ (λ a b. n ∷ a ∷ b) is one in
     subst (λ (o : Option Request). IfSome o (λ q. AsksFor q ws)) (sym (ap (λ (t : List Text). option_and_then asked_by (subcommand_of form t)) f ∙ number-found n x p))
-        (as-number x (workload_number x) (λ q. AsksFor q ws) refl (λ k is'. (n, x, e ∙ f, is')))
+    (as-number x (workload_number x) (λ q. AsksFor q ws) refl (λ k is'. (n, x, e ∙ f, is')))
 
 -- no word, or the program's name alone
 short : (ws : List (String Global)) (ts : List Text) → map string_bytes ws ≡ ts → list_all is_plain (drop 1 ts) ≡ true → fault_of form ts ≡ [] → IfSome (option_and_then asked_by (subcommand_of form ts)) (λ q. AsksFor q ws)
