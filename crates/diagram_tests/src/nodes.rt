@@ -3,6 +3,7 @@ use crate::made::{lit, one, packet};
 use fdd_nodes::{Assignments, Cell, Fdd, Leaf, Node, Path, parting};
 use nk_values::Field;
 use std::alloc::Global;
+use std::rc::Rc;
 use std::test::Fail;
 
 // The leaf that sets ethDst to 2 in one copy, and pt to 5 in another.
