@@ -85,7 +85,7 @@ pub fn links<R: Wait + Threads + AllocGlobal + Copy + Clone + Drop + Send + Sync
 ) -> Result<Option<usize>, AllocError> {
     let alloc = rt.alloc();
     let meanings = meanings(alloc, LINE, LINE_WIRING, &LINE_POLICIES)?;
-    let mut done = 0;
+    let mut done = 0u32;
     for call in 1..MOST_CALLS {
         let mut failing = Failing::nothing(alloc);
         failing.links.push(Trouble::Call(call))?;
@@ -98,8 +98,12 @@ pub fn links<R: Wait + Threads + AllocGlobal + Copy + Clone + Drop + Send + Sync
         if !ended || !have_one_policy(alloc, &text, &meanings, &[])? {
             return Ok(Some(call as usize));
         }
-        done = if status == Status::Done { done + 1 } else { 0 };
-        if done == 3 {
+        done = if status == Status::Done {
+            done.saturating_add(1)
+        } else {
+            0
+        };
+        if done >= 3 {
             return Ok(None);
         }
     }
