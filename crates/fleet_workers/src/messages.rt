@@ -33,6 +33,9 @@ pub(crate) fn send_message<E: Link>(alloc: Global, end: &mut E, message: &Messag
     if encode(message, &mut out).is_err() {
         return Went::Memory;
     }
+    if end.make_room(out.len()).is_err() {
+        return Went::Memory;
+    }
     match end.send(out.as_slice()) {
         Ok(()) => Went::Well,
         Err(LinkFault::Failed) => Went::Failed,
@@ -48,6 +51,9 @@ pub(crate) fn receive<E: Link>(end: &mut E, framer: &mut Framer) -> Went
     ensures failed { result ≡ Went.Failed → 0 < E.faults end.new }
 {
     let mut place = [0u8; 512];
+    if end.make_room(place.len()).is_err() {
+        return Went::Memory;
+    }
     match end.recv(&mut place) {
         Ok(count) => match framer.feed(&place[..count]) {
             Ok(()) => Went::Well,

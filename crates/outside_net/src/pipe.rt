@@ -60,6 +60,11 @@ impl Pipe {
         }
     }
 
+    /// Makes room for so many bytes more than there are. Only the end that puts bytes in asks for it, so the room stays.
+    pub fn make_room<R: Wait>(&self, rt: &R, bytes: usize) -> Result<(), AllocError> {
+        self.flow.lock(rt).bytes.reserve(bytes)
+    }
+
     /// Puts these bytes in, all or none, and says whether it did: not where the pipe is closed.
     pub fn put<R: Wait>(&self, rt: &R, bytes: &[u8]) -> Result<bool, AllocError> {
         let did = self.flow.lock(rt).put(bytes)?;

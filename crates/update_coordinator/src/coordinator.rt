@@ -1,6 +1,6 @@
 // The coordinator.
 ghost use Rattle.update_coordinator.specs.Calls.{is_stamp};
-ghost use Rattle.std.specs.Prelude.{IsTrue, ◌↔◌, IfOk, ◌≡◌, ◌<◌, ◌⊎◌, ◌≢◌, None, Some, Err, IfErr, OnOk, OnErr, IfNone, IfSome, length, option_map, slice_get, is_some};
+ghost use Rattle.std.specs.Prelude.{ℕ, IsTrue, ◌↔◌, IfOk, ◌≡◌, ◌<◌, ◌⊎◌, ◌≢◌, None, Some, Err, IfErr, OnOk, OnErr, IfNone, IfSome, length, option_map, slice_get, is_some};
 
 use crate::cause::Cause;
 use crate::phase::{Entry, Phase};
@@ -131,17 +131,25 @@ impl Coordinator {
         Ok(())
     }
 
+    /// The stamp of which the report is waited for that no packet carries it any more.
+    pub fn draining(&self) -> Option<u16>
+        ensures some { IfSome result (λ stamp. drain_refusal self.now stamp ≡ None) }
+        ensures only { (stamp : ℕ) → drain_refusal self.now stamp ≡ None → result ≡ Some stamp }
+    {
+        if self.halt.is_some() {
+            return None;
+        }
+        match self.phase {
+            Phase::Drain(policy) => self.stamps.get(policy.saturating_sub(2)).copied(),
+            _ => None,
+        }
+    }
+
     /// Whether the report that no packet carries this stamp any more is waited for.
     pub fn may_drain(&self, stamp: u16) -> bool
         ensures { IsTrue result ↔ (drain_refusal self.now stamp ≡ None) }
     {
-        if self.halt.is_some() {
-            return false;
-        }
-        match self.phase {
-            Phase::Drain(policy) => is_stamp(self.stamps.get(policy.saturating_sub(2)), stamp),
-            _ => false,
-        }
+        self.draining() == Some(stamp)
     }
 
     /// Takes the report that no packet carries this stamp any more.

@@ -3,3 +3,4 @@ pub mod Growing
 pub mod Marks
 pub mod Ended
 pub mod Crossing
+pub mod Searching

@@ -71,6 +71,10 @@ pub record Arrives {E : Type 0} (w : ℕ) (lines : List Line) (place : ℕ) (old
   pub arrived : new.arrived ≡ slice_set old.arrived place true
   pub rest : IsBeside (record old { arrived = new.arrived }) new
 
+-- no packet of a line at this place can come in
+abbrev pub IsBarred : WorldValue → List Line → ℕ → Type 0
+IsBarred w lines place = (line : Line) → slice_get lines place ≡ Some line → ¬ IsEnabled w (event.Arrive line.packet line.tag)
+
 -- The step that this side of switch s makes by itself, if one is enabled: a session sends; a switch applies the first pending flow mod, or else answers its barrier.
 abbrev pub Advances : {E : Type 0} → ℕ → Side → ℕ → RunValue E → RunValue E → Option Kind → Type 0
 Advances w side.Controller s old new None = (¬ IsEnabled old.held.world (event.Send s)) × (new ≡ old)

@@ -1,5 +1,8 @@
 // What the caller and the workers that bring packets in ask of a run.
-ghost use Rattle.std.specs.Prelude.{◌≡◌, IfOk, IfSome, OnErr};
+ghost use Rattle.std.specs.Prelude.{◌≡◌, ℕ, IfOk, IfSome, IfNone, OnErr};
+ghost use Rattle.world_core.specs.declared.event.Event.{Event as EventValue};
+ghost use Rattle.world_core.specs.declared.event.Event.TheVariants as event;
+ghost use Rattle.world_core.specs.Steps.{IsEnabled};
 ghost use Rattle.world_journal.specs.Journals.{switches};
 ghost use Rattle.world_journal.specs.Makers.{IsCaller, IsTraffic};
 ghost use Rattle.world_journal.specs.Moves.{ComesIn, HopsOn, IsUpdate, Updates};
@@ -10,7 +13,6 @@ use crate::run::Run;
 use crate::seat::Seat;
 use outside_net::Link;
 use std::alloc::{AllocError, Global};
-use update_coordinator::Phase;
 use world_core::{Event, StepFault, World};
 
 /// What came of a call.
@@ -95,38 +97,44 @@ impl<L: RunName, E: Link> Run<L, E> {
 }
 
 // The first copy that may take another hop.
-fn first_hop(world: &World) -> Option<usize> {
-    let most = world.hops();
-    world
-        .flights()
-        .as_slice()
-        .iter()
-        .position(|flight| flight.hops < most)
-}
-
-// What the caller may do in this phase.
-fn next_update(world: &World) -> Option<Event>
-    ensures { IfSome result IsUpdate }
+fn first_hop(world: &World) -> Option<usize>
+    ensures some { IfSome result (λ place. IsEnabled world.now (event.Hop place)) }
+    ensures none { IfNone result ((k : ℕ) → ¬ IsEnabled world.now (event.Hop k)) }
 {
-    match world.coordinator().phase() {
-        Phase::Idle(_) => Some(Event::Begin),
-        Phase::Drain(policy) => {
-            let before = world.versions().get(policy.saturating_sub(2))?;
-            Some(drain(world, before.rows.stamp))
+    for place in 0..world.flights().len() {
+        if world.enabled(&Event::Hop(place)) {
+            return Some(place);
         }
-        _ => None,
     }
+    None
 }
 
-// What is to be told of the drain of a stamp.
-fn drain(world: &World, stamp: u16) -> Event
-    ensures { IsUpdate result }
+// The first copy that bars the drain and can go no further.
+fn first_stuck(world: &World) -> Option<usize>
+    ensures some { IfSome result (λ place. IsEnabled world.now (event.Stuck place)) }
+    ensures none { IfNone result ((k : ℕ) → ¬ IsEnabled world.now (event.Stuck k)) }
 {
-    let most = world.hops();
-    let stuck = world.flights().as_slice().iter().position(|flight| flight.hops >= most
-        && flight.tag.id() == Some(stamp));
-    match stuck {
-        Some(place) => Event::Stuck(place),
-        None => Event::Drained(stamp),
+    for place in 0..world.flights().len() {
+        if world.enabled(&Event::Stuck(place)) {
+            return Some(place);
+        }
     }
+    None
+}
+
+// What the caller may do now.
+fn next_update(world: &World) -> Option<Event>
+    ensures update { IfSome result IsUpdate }
+    ensures some { IfSome result (λ e. IsEnabled world.now e) }
+    ensures none { IfNone result ((e : EventValue) → IsUpdate e → ¬ IsEnabled world.now e) }
+{
+    if world.enabled(&Event::Begin) {
+        return Some(Event::Begin);
+    }
+    let stamp = world.coordinator().draining()?;
+    if world.enabled(&Event::Drained(stamp)) {
+        return Some(Event::Drained(stamp));
+    }
+    let place = first_stuck(world)?;
+    Some(Event::Stuck(place))
 }

@@ -69,7 +69,7 @@ impl<L: RunName, E: Link> Run<L, E> {
     ghost use Rattle.world_journal.specs.Cuts.{HandsBack, Refuses};
     ghost use Rattle.world_journal.specs.Arriving.{IsOver, is_arrival};
     ghost use Rattle.world_journal.specs.Runs.{RunValue, Stops, waits, marking};
-    ghost use Rattle.world_journal.specs.Calls.{Made, Cuts, Arrives};
+    ghost use Rattle.world_journal.specs.Calls.{Made, Cuts, Arrives, IsBarred};
 
     /// A run that begins: no packet has come in, and each switch's HELLO waits to be handed out.
     pub fn new(
@@ -156,6 +156,7 @@ impl<L: RunName, E: Link> Run<L, E> {
         requires maker { IsTraffic (switches L.start) seat.old.worker }
         requires first { slice_get self.old.arrived place ≡ Some false }
         ensures made { OnOk result (Arrives seat.old.worker L.lines place self.old self.new) }
+        ensures refused { result ≡ Err faults.NotEnabled → IsBarred self.old.held.world L.lines place }
         ensures seat { (seat.new.worker ≡ seat.old.worker) × (seat.new.share.parts ≡ seat.old.share.parts) }
         ensures booked { OnOk result (seat.new.share.amount ≡ seat.old.share.amount + 1) }
         ensures err { OnErr result ((self.new ≡ self.old) × (seat.new.share.amount ≡ seat.old.share.amount)) }
