@@ -10,7 +10,7 @@ use Rattle.fdd_nodes.specs.Names.{literals, IsFew, AreFew}
 use Rattle.fdd_nodes.specs.Normals.{IsNormal}
 use Rattle.fdd_nodes.specs.Trees.{Tree, Leaf, Node, answers, Tests, IsSetBy, Assigns}
 use Rattle.fdd_nodes.proofs.NameLaws.{tests_literal, assigns_literal, count_within}
-use Rattle.fdd_ops.specs.Operations.{OneOf, ZeroOf, UnionOf, SequenceOf}
+use Rattle.fdd_store.specs.Operations.{OneOf, ZeroOf, UnionOf, SequenceOf}
 use Rattle.fdd_compile.specs.Folds.{all_literals, SomeTests, SomeAssigns, AreNormal, AreSmall, SomeAnswers, AnswersThrough, UnionOfAll, SequenceOfAll, AreHeld}
 use Rattle.fdd_store.specs.Stores.{Kept, Has, Gives, Grows, tree_at}
 use Rattle.fdd_store.proofs.StoreLaws.{all_more, tree_grown, has_grown, gives_grown}

@@ -1,11 +1,2 @@
-pub mod BuildLaws
-pub mod ChainLaws
-pub mod ChoiceLaws
-pub mod CofactorLaws
-pub mod CountLaws
-pub mod PushLaws
-pub mod SkipLaws
-pub mod SequenceLaws
-pub mod UnionLaws
-pub mod NegationLaws
 pub mod OperationLaws
+pub mod PartLaws

@@ -1,173 +1,115 @@
--- What the operations promise.
-use Rattle.std.proofs.Common.{◌≡◌, ◌⊎◌, inl, inr, refl, ap, sym, ◌∙◌, subst, arith, List, [], ◌∷◌}
-use Rattle.nk_values.specs.declared.field.Field.{Field}
+-- What operations on diagrams in a store say of the diagrams that were brought into it.
+use Rattle.std.proofs.Common.{ℕ, inl, inr, arith, ◌++◌}
 use Rattle.nk_values.specs.declared.packet.Packet.{Packet}
 use Rattle.nk_values.specs.declared.lit.Lit.{Lit}
-use Rattle.nk_values.specs.Held.{Holds, put}
-use Rattle.nk_values.specs.Lits.{lit_field, lit_value}
 use Rattle.nk_values.specs.Members.{IsIn}
-use Rattle.nk_values.specs.Packets.{get, IsInRange}
-use Rattle.nk_values.specs.Ranges.{IsValue}
-use Rattle.nk_values.proofs.LitLaws.{lit_is_value}
-use Rattle.nk_values.proofs.PacketLaws.{get-with_same, get-with_other, field_cases}
-use Rattle.fdd_nodes.specs.Trees.{Tree, Leaf, Node, outcomes, answers, IsOrdered, Tests, Assigns}
-use Rattle.fdd_nodes.specs.Cells.{open_cell, Respects}
+use Rattle.nk_values.proofs.MemberLaws.{in-left, in-right, in-either}
+use Rattle.fdd_nodes.specs.Trees.{Tree, Node, Tests, Assigns}
 use Rattle.fdd_nodes.specs.Names.{literals, IsFew, AreFew}
-use Rattle.fdd_nodes.specs.Normals.{IsNormal}
-use Rattle.fdd_ops.specs.Builds.{IsOpenAt, Sound}
-use Rattle.fdd_ops.specs.Unions.{Joins}
-use Rattle.fdd_ops.specs.Sequences.{Sequences}
-use Rattle.fdd_ops.specs.Cofactors.{Cofactors}
-use Rattle.fdd_ops.specs.Negations.{Negates}
-use Rattle.fdd_nodes.proofs.SplitLaws.{leaf_at-then, leaf_at-else}
-use Rattle.fdd_nodes.proofs.CellLaws.{lit_not_free, open_agrees, get-open}
-use Rattle.fdd_ops.specs.Choices.{Chosen}
-use Rattle.fdd_ops.specs.Operations.{OneOf, ZeroOf, TestOf, AssignmentOf, UnionOf, ChoiceOf, SequenceOf, NegationOf, CofactorOf}
-use Rattle.fdd_ops.proofs.BuildLaws.{sound_weaken}
-use Rattle.fdd_ops.proofs.ChoiceLaws.{chosen_yes, chosen_no, chosen_ordered, chosen_sound}
-use Rattle.fdd_nodes.proofs.NameLaws.{fresh_packet, fresh_of_one, count_within, named, tests_literal, assigns_literal}
+use Rattle.fdd_nodes.proofs.NameLaws.{count_within, few_of_both, named, tests_literal, assigns_literal}
+use Rattle.fdd_store.specs.Operations.{Through, IsPredicate, IsFieldFrom, UnionOf, SequenceOf, NegationOf, ChoiceOf, CofactorOf, ReductionOf}
+use Rattle.fdd_store.specs.Stores.{Kept, tree_at, Gives, Grows}
+use Rattle.fdd_store.proofs.SameLaws.{same_trans}
+use Rattle.fdd_store.proofs.StoreLaws.{gives_grown}
 
--- what is built in the open cell from few values is normal
-normal_of : (T A : Lit → Type 0) (r : Tree) (g : Packet) → IsInRange g → ((m : Lit) → T m → ¬ Holds g m) → ((m : Lit) → A m → ¬ Holds g m) → IsOrdered r → Sound open_cell T A r → IsNormal r
-normal_of T A r g q ft fa o s = record { ordered = o; respects = s.respects; tight = s.tight o g q ft fa }
+-- what names no more
 
-of_both : (a b r : Tree) → AreFew a b → IsOrdered r → Sound open_cell (λ m. Tests a m ⊎ Tests b m) (λ m. Assigns a m ⊎ Assigns b m) r → IsNormal r
-of_both a b r few o s =
-    let g = fresh_packet a b few in
-    normal_of _ _ r g.0 g.1.in_range
-    (λ m h. elim h [ inl k ↦ g.1.fresh_a.tested m k | inr k ↦ g.1.fresh_b.tested m k ])
-    (λ m h. elim h [ inl k ↦ g.1.fresh_a.assigned m k | inr k ↦ g.1.fresh_b.assigned m k ]) o s
+names_within : (a r : Tree) → ((m : Lit) → Tests r m → Tests a m) → ((m : Lit) → Assigns r m → Assigns a m) → (m : Lit) → IsIn (literals r) m → IsIn (literals a) m
+names_within a r ht ha m w = elim (named r m w) [ inl x ↦ tests_literal a m (ht m x) | inr x ↦ assigns_literal a m (ha m x) ]
 
-of_one : (a r : Tree) → IsFew a → IsOrdered r → Sound open_cell (Tests a) (Assigns a) r → IsNormal r
-of_one a r few o s = let g = fresh_of_one a few in normal_of _ _ r g.0 g.1 g.2.tested g.2.assigned o s
-
--- what names no more than a does names few values
 pub few_of_one : (a r : Tree) → ((m : Lit) → Tests r m → Tests a m) → ((m : Lit) → Assigns r m → Assigns a m) → IsFew a → IsFew r
-few_of_one a r ht ha few =
-    let k = count_within (literals r) (literals a) (λ m w. elim (named r m w) [
-      | inl x ↦ tests_literal a m (ht m x)
-      | inr x ↦ assigns_literal a m (ha m x)
-    ]) in
-    omega (arith, k, few)
+few_of_one a r ht ha few = let k = count_within (literals r) (literals a) (names_within a r ht ha) in omega (arith, k, few)
 
-pub union_of : (a b r : Tree) → IsOrdered a → IsOrdered b → AreFew a b → Joins open_cell a b r → UnionOf a b r
-union_of a b r oa ob few j = record {
-  answer = λ p. j.union p (open_agrees p);
-  normal = of_both a b r few (j.ordered 0 oa ob) j.sound;
-  tests = j.sound.tests;
-  assigns = j.sound.assigns;
-}
+-- one diagram
 
--- what is normal is as what is built in the open cell
-sound_of : (b : Tree) → IsNormal b → Sound open_cell (Tests b) (Assigns b) b
-sound_of b n = record { is_open = open_at b; respects = n.respects; tests = λ m k. k; assigns = λ m k. k; tight = λ o g q ft fa. n.tight }
-  where
-    open_at : (t : Tree) → IsOpenAt open_cell t
-    open_at (Leaf cs) = tt
-    open_at (Node l t e) = get-open (lit_field l)
+module _ (k : Kept) (a : Tree) (x : ℕ) (g : Gives k x (ReductionOf a)) where
+  pub few_one : IsFew a → IsFew (tree_at k x)
+  few_one h = few_of_one a _ g.is.tests g.is.assigns h
 
--- what a choice names
-choice_sound : (l : Lit) (a b r : Tree) → IsNormal b → Chosen l a b r → Sound open_cell (λ m. (l ≡ m) ⊎ (Tests a m ⊎ Tests b m)) (λ m. Assigns a m ⊎ Assigns b m) r
-choice_sound l a b r n c =
-    chosen_sound l _ _ a b r (inl refl) (λ m k. inr (inl k)) (λ m k. inr (inr k)) (λ m k. inl k) (λ m k. inr k)
-    (sound_weaken open_cell _ _ _ _ b (λ m k. inr (inr k)) (λ m k. inr k) (sound_of b n)) c
+  pub predicate : IsPredicate a → IsPredicate (tree_at k x)
+  predicate h = λ m w. h m (g.is.assigns m w)
 
-pub choice_of : (l : Lit) (a b r : Tree) → IsOrdered a → IsOrdered b → IsFew (Node l a b) → IsNormal b → Chosen l a b r → ChoiceOf l a b r
-choice_of l a b r oa ob few n c =
-    let g = fresh_of_one (Node l a b) few in
-    let s = choice_sound l a b r n c in
-    record {
-      yes = chosen_yes l a b r c;
-      no = chosen_no l a b r c;
-      normal = normal_of _ _ r g.0 g.1 g.2.tested g.2.assigned (chosen_ordered l a b r c oa ob) s;
-      tests = s.tests;
-      assigns = s.assigns;
-    }
+  pub negation : (r : Tree) → NegationOf (tree_at k x) r → NegationOf a r
+  negation r n = record {
+    answer = λ p q. (
+      (λ h. let w = (n.answer p q).0 h in (w.0, λ z. w.1 ((g.is.answer p).back p z))),
+      λ h. (n.answer p q).1 (h.0, λ z. h.1 ((g.is.answer p).front p z)),
+    );
+    normal = n.normal;
+    tests = λ m w. g.is.tests m (n.tests m w);
+    assigns = λ m w. g.is.assigns m (n.assigns m w);
+  }
 
--- a choice names few values
-pub choice_few : (l : Lit) (a b r : Tree) → IsFew (Node l a b) → IsNormal b → Chosen l a b r → IsFew r
-choice_few l a b r few n c = let s = choice_sound l a b r n c in few_of_one (Node l a b) r s.tests s.assigns few
+  pub cofactor : (l : Lit) (r : Tree) → (¬ IsFieldFrom l a) → CofactorOf l (tree_at k x) r → CofactorOf l a r
+  cofactor l r other c = record {
+    answer = λ p h. same_trans _ _ _ (c.answer p h) (g.is.answer p);
+    stands = λ f. absurd (other f);
+    normal = λ _. c.normal g.is.normal;
+    tests = λ m w. g.is.tests m (c.tests m w);
+    assigns = λ m w. g.is.assigns m (c.assigns m w);
+  }
 
-pub sequence_law : (a b r : Tree) → IsOrdered a → IsOrdered b → AreFew a b → Sequences a b r → SequenceOf a b r
-sequence_law a b r oa ob few j = record {
-  answer = λ p z. (j.only p z, j.has p z);
-  normal = of_both a b r few (j.ordered oa ob) j.sound;
-  tests = j.sound.tests;
-  assigns = j.sound.assigns;
-}
+-- two diagrams, the second of which came into the store later
 
-pub negation_of : (a r : Tree) → IsOrdered a → IsFew a → Negates open_cell a r → NegationOf a r
-negation_of a r oa few j = record {
-  answer = λ p q. (j.only p q (open_agrees p), λ h. subst (IsIn (answers r p)) h.0 (j.keeps p (open_agrees p) h.1));
-  normal = of_one a r few (j.ordered 0 oa) j.sound;
-  tests = j.sound.tests;
-  assigns = j.sound.assigns;
-}
+module _ (k n : Kept) (a b : Tree) (x y : ℕ) (g : Grows k n) (gx : Gives k x (ReductionOf a)) (gy : Gives n y (ReductionOf b)) where
+  first : ReductionOf a (tree_at n x)
+  first = (gives_grown k n x _ g gx).is
 
-pub cofactor_law : (l : Lit) (a r : Tree) → IsOrdered a → IsFew a → Cofactors l a r → CofactorOf l a r
-cofactor_law l a r oa few j =
-    let g = fresh_of_one a few in
-    record {
-      answer = j.same;
-      stands = λ f. j.stands f oa;
-      normal = λ n. record {
-        ordered = j.ordered 0 oa;
-        respects = j.respects open_cell (λ f _. get-open f) n.respects;
-        tight = j.tight n.tight (j.ordered 0 oa) g.0 g.1 g.2;
-      };
-      tests = j.tests;
-      assigns = j.assigns;
-    }
+  pub few_both : AreFew a b → AreFew (tree_at n x) (tree_at n y)
+  few_both h =
+      let c = count_within (literals (tree_at n x) ++ literals (tree_at n y)) (literals a ++ literals b) (λ m w. elim (in-either (literals (tree_at n x)) _ m w) [
+        | inl u ↦ in-left _ _ m (names_within a _ first.tests first.assigns m u)
+        | inr u ↦ in-right (literals a) _ m (names_within b _ gy.is.tests gy.is.assigns m u)
+      ]) in
+      record { bound = let d = h.bound in omega (arith, c, d) }
 
-one_leaf : (c : List Lit) → Respects open_cell (Leaf (c ∷ []))
-one_leaf c = λ m k z. lit_not_free m (sym z ∙ get-open (lit_field m))
+  pub few_behind : (l : Lit) → IsFew (Node l a b) → IsFew (Node l (tree_at n x) (tree_at n y))
+  few_behind l h = few_of_one (Node l a b) (Node l (tree_at n x) (tree_at n y))
+      (λ m w. elim w [ inl e ↦ inl e | inr v ↦ elim v [ inl u ↦ inr (inl (first.tests m u)) | inr u ↦ inr (inr (gy.is.tests m u)) ] ])
+      (λ m w. elim w [ inl u ↦ inl (first.assigns m u) | inr u ↦ inr (gy.is.assigns m u) ]) h
 
-pub one_of : OneOf (Leaf ([] ∷ []))
-one_of = record {
-  answer = λ p. refl;
-  normal = record { ordered = tt; respects = one_leaf []; tight = tt };
-  tests = λ m k. k;
-  assigns = λ m k. elim k [ inl w ↦ w | inr w ↦ w ];
-}
+  pub union : (r : Tree) → UnionOf (tree_at n x) (tree_at n y) r → UnionOf a b r
+  union r u = record {
+    answer = λ p. let w = u.answer p in record {
+      left = λ q h. w.left q ((first.answer p).back q h);
+      right = λ q h. w.right q ((gy.is.answer p).back q h);
+      only = λ q h. elim (w.only q h) [ inl v ↦ inl ((first.answer p).front q v) | inr v ↦ inr ((gy.is.answer p).front q v) ];
+    };
+    normal = u.normal;
+    tests = λ m w. elim (u.tests m w) [ inl v ↦ inl (first.tests m v) | inr v ↦ inr (gy.is.tests m v) ];
+    assigns = λ m w. elim (u.assigns m w) [ inl v ↦ inl (first.assigns m v) | inr v ↦ inr (gy.is.assigns m v) ];
+  }
 
-pub zero_of : ZeroOf (Leaf [])
-zero_of = record {
-  answer = λ p. refl;
-  normal = record { ordered = tt; respects = λ m k. absurd k; tight = tt };
-  tests = λ m k. k;
-  assigns = λ m k. k;
-}
+  through_from : (p z : Packet) → Through (tree_at n x) (tree_at n y) p z → Through a b p z
+  through_from p z t = record { between = t.between; first = (first.answer p).front _ t.first; second = (gy.is.answer t.between).front z t.second }
 
-pub assignment_of : (l : Lit) → AssignmentOf l (Leaf ((l ∷ []) ∷ []))
-assignment_of l = record {
-  answer = λ p. refl;
-  normal = record { ordered = tt; respects = one_leaf (l ∷ []); tight = tt };
-  tests = λ m k. k;
-  assigns = λ m k. elim k [ inl w ↦ elim w [ inl e ↦ e | inr n ↦ absurd n ] | inr w ↦ absurd w ];
-}
+  through_to : (p z : Packet) → Through a b p z → Through (tree_at n x) (tree_at n y) p z
+  through_to p z t = record { between = t.between; first = (first.answer p).back _ t.first; second = (gy.is.answer t.between).back z t.second }
 
--- a packet in range that holds a literal
-holder_of : (l : Lit) → IsFew (Node l (Leaf ([] ∷ [])) (Leaf [])) → (p : Packet) × IsInRange p × Holds p l
-holder_of l few =
-    let g = fresh_of_one (Node l (Leaf ([] ∷ [])) (Leaf [])) few in
-    let same = get-with_same g.0 (lit_field l) (lit_value l) in (
-      put l g.0,
-      λ f. elim (field_cases (lit_field l) f) [
-        | inl e ↦ subst (λ (h : Field). IsValue h (get (put l g.0) h)) e (subst (IsValue (lit_field l)) (sym same) (lit_is_value l))
-        | inr d ↦ subst (IsValue f) (sym (get-with_other g.0 (lit_field l) f (lit_value l) d)) (g.1 f)
-      ],
-      same,
-    )
+  pub sequence : (r : Tree) → SequenceOf (tree_at n x) (tree_at n y) r → SequenceOf a b r
+  sequence r s = record {
+    answer = λ p z. ((λ h. through_from p z ((s.answer p z).0 h)), λ h. (s.answer p z).1 (through_to p z h));
+    normal = s.normal;
+    tests = λ m w. elim (s.tests m w) [ inl v ↦ inl (first.tests m v) | inr v ↦ inr (gy.is.tests m v) ];
+    assigns = λ m w. elim (s.assigns m w) [ inl v ↦ inl (first.assigns m v) | inr v ↦ inr (gy.is.assigns m v) ];
+  }
 
-pub test_of : (l : Lit) → IsFew (Node l (Leaf ([] ∷ [])) (Leaf [])) → TestOf l (Node l (Leaf ([] ∷ [])) (Leaf []))
-test_of l few = record {
-  yes = λ p h. ap (λ cs. outcomes cs p) (leaf_at-then l (Leaf ([] ∷ [])) (Leaf []) p h);
-  no = λ p h. ap (λ cs. outcomes cs p) (leaf_at-else l (Leaf ([] ∷ [])) (Leaf []) p h);
-  normal = record {
-    ordered = (omega arith, tt, tt);
-    respects = ((λ m k. absurd (elim k [ inl w ↦ w | inr w ↦ w ])), λ m k. absurd k);
-    tight = ((λ r. let p = holder_of l few in (r.same p.0 p.1 p.2).front p.0 (inl refl)), tt, tt);
-  };
-  tests = λ m k. elim k [ inl e ↦ e | inr w ↦ elim w [ inl v ↦ absurd v | inr v ↦ absurd v ] ];
-  assigns = λ m k. elim k [ inl w ↦ elim w [ inl v ↦ v | inr v ↦ v ] | inr w ↦ w ];
-}
+  pub choice : (l : Lit) (r : Tree) → ChoiceOf l (tree_at n x) (tree_at n y) r → ChoiceOf l a b r
+  choice l r c = record {
+    yes = λ p h. same_trans _ _ _ (c.yes p h) (first.answer p);
+    no = λ p h. same_trans _ _ _ (c.no p h) (gy.is.answer p);
+    normal = c.normal;
+    tests = λ m w. elim (c.tests m w) [ inl e ↦ inl e | inr v ↦ elim v [ inl u ↦ inr (inl (first.tests m u)) | inr u ↦ inr (inr (gy.is.tests m u)) ] ];
+    assigns = λ m w. elim (c.assigns m w) [ inl v ↦ inl (first.assigns m v) | inr v ↦ inr (gy.is.assigns m v) ];
+  }
+
+-- the results name few values
+
+pub union_few : (a b r : Tree) → AreFew a b → UnionOf a b r → IsFew r
+union_few a b r few u = few_of_both a b r u.tests u.assigns few
+
+pub sequence_few : (a b r : Tree) → AreFew a b → SequenceOf a b r → IsFew r
+sequence_few a b r few s = few_of_both a b r s.tests s.assigns few
+
+pub choice_few : (l : Lit) (a b r : Tree) → IsFew (Node l a b) → ChoiceOf l a b r → IsFew r
+choice_few l a b r few c = few_of_one (Node l a b) r c.tests c.assigns few

@@ -1,19 +1,15 @@
 // The operations on diagrams. Each result is normal, and names only literals that its arguments name.
+// Each is done in a store of its own, into which the arguments are brought path by path.
 ghost use Rattle.std.specs.Prelude.{IfOk};
 ghost use Rattle.fdd_nodes.specs.Fdds.{tree_of};
 ghost use Rattle.fdd_nodes.specs.Names.{IsFew, AreFew};
 ghost use Rattle.fdd_nodes.specs.Normals.{IsNormal};
 ghost use Rattle.fdd_nodes.specs.Trees as trees;
-ghost use Rattle.fdd_ops.specs.Negations.{IsPredicate};
-ghost use Rattle.fdd_ops.specs.Operations.{OneOf, ZeroOf, TestOf, AssignmentOf, UnionOf, ChoiceOf, SequenceOf, NegationOf, CofactorOf};
+ghost use Rattle.fdd_store.specs.Operations.{IsPredicate, OneOf, ZeroOf, TestOf, AssignmentOf, UnionOf, ChoiceOf, SequenceOf, NegationOf, CofactorOf};
 
-use crate::chain::Chain;
-use crate::choices::choose;
-use crate::cofactors::cofactor_of;
-use crate::negations::negate_in;
-use crate::sequences::sequence_of;
-use crate::unions::union_in;
-use fdd_nodes::{Assignments, Cell, Fdd, Leaf, Node};
+use crate::parts::{is_field_from, part_of};
+use fdd_nodes::{Assignments, Fdd, Leaf, Node};
+use fdd_store::Store;
 use nk_values::Lit;
 use std::alloc::{AllocError, Global};
 use std::rc::Rc;
@@ -57,24 +53,26 @@ pub fn union(alloc: Global, a: &Fdd, b: &Fdd) -> Result<Fdd, AllocError>
     requires { AreFew (tree_of a.now) (tree_of b.now) }
     ensures { IfOk result (λ r. UnionOf (tree_of a.now) (tree_of b.now) (tree_of r)) }
 {
-    let chain = union_in(alloc, &Cell::open(), a.root(), b.root())?;
-    let root = chain.close(alloc)?;
-    Ok(Fdd::new(root))
+    let mut store = Store::new(alloc);
+    let x = store.intern(alloc, a)?;
+    let y = store.intern(alloc, b)?;
+    let r = store.union(alloc, x, y)?;
+    store.tree(alloc, r)
 }
 
 /// The diagram that tests a literal (ICFP 2015, section 3): the first diagram where it holds, and else the second.
 ///
-/// The second one is kept as it stands where it can be, so it has to be normal. The literal and the two diagrams name
-/// at most 4,000 literals together. The only error is want of memory.
+/// The literal and the two diagrams name at most 4,000 literals together. The only error is want of memory.
 pub fn choice(alloc: Global, l: Lit, a: &Fdd, b: Fdd) -> Result<Fdd, AllocError>
     requires few { IsFew (trees.Node l (tree_of a.now) (tree_of b)) }
     requires normal { IsNormal (tree_of b) }
     ensures { IfOk result (λ r. ChoiceOf l (tree_of a.now) (tree_of b) (tree_of r)) }
 {
-    let other = Chain::of(alloc, b.into_root());
-    let chain = choose(alloc, &l, a.root(), other)?;
-    let root = chain.close(alloc)?;
-    Ok(Fdd::new(root))
+    let mut store = Store::new(alloc);
+    let x = store.intern(alloc, a)?;
+    let y = store.intern(alloc, &b)?;
+    let r = store.choice(alloc, l, x, y)?;
+    store.tree(alloc, r)
 }
 
 /// The sequence `a; b`.
@@ -82,9 +80,11 @@ pub fn sequence(alloc: Global, a: &Fdd, b: &Fdd) -> Result<Fdd, AllocError>
     requires { AreFew (tree_of a.now) (tree_of b.now) }
     ensures { IfOk result (λ r. SequenceOf (tree_of a.now) (tree_of b.now) (tree_of r)) }
 {
-    let chain = sequence_of(alloc, a.root(), b.root())?;
-    let root = chain.close(alloc)?;
-    Ok(Fdd::new(root))
+    let mut store = Store::new(alloc);
+    let x = store.intern(alloc, a)?;
+    let y = store.intern(alloc, b)?;
+    let r = store.sequence(alloc, x, y)?;
+    store.tree(alloc, r)
 }
 
 /// The negation `not a` of a diagram that keeps packets or drops them.
@@ -92,16 +92,22 @@ pub fn negate(alloc: Global, a: &Fdd) -> Result<Fdd, AllocError>
     requires { IsPredicate (tree_of a.now) }
     ensures { IfOk result (λ r. NegationOf (tree_of a.now) (tree_of r)) }
 {
-    let chain = negate_in(alloc, &Cell::open(), a.root())?;
-    let root = chain.close(alloc)?;
-    Ok(Fdd::new(root))
+    let mut store = Store::new(alloc);
+    let x = store.intern(alloc, a)?;
+    let r = store.negate(alloc, x)?;
+    store.tree(alloc, r)
 }
 
 /// The diagram where a literal holds.
 pub fn cofactor(alloc: Global, a: &Fdd, l: Lit) -> Result<Fdd, AllocError>
     ensures { IfOk result (λ r. CofactorOf l (tree_of a.now) (tree_of r)) }
 {
-    let chain = cofactor_of(alloc, a.root(), &l)?;
-    let root = chain.close(alloc)?;
-    Ok(Fdd::new(root))
+    if is_field_from(a.root(), &l) {
+        let part = part_of(a.root(), &l).copy(alloc)?;
+        return Ok(Fdd::new(part));
+    }
+    let mut store = Store::new(alloc);
+    let x = store.intern(alloc, a)?;
+    let r = store.cofactor(alloc, x, l)?;
+    store.tree(alloc, r)
 }

@@ -18,7 +18,7 @@ use Rattle.fdd_nodes.specs.Names.{literals, IsFew}
 use Rattle.fdd_nodes.proofs.CellLaws.{lit_not_free, agrees_with, open_agrees, get-open}
 use Rattle.fdd_nodes.proofs.MakesLaws.{source, outcome}
 use Rattle.fdd_nodes.proofs.NameLaws.{count_within, named, tests_literal, assigns_literal}
-use Rattle.fdd_ops.specs.Operations.{ChoiceOf}
+use Rattle.fdd_store.specs.Operations.{ChoiceOf}
 use Rattle.fdd_star.specs.declared.reach.Reach.{Reach}
 use Rattle.fdd_star.specs.Asks.{Asks}
 use Rattle.fdd_star.specs.Reaches.{copies_of, asked_of, IsClosed, IsNamedBy, Misses, StarBut}

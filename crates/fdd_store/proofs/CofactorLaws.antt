@@ -12,8 +12,8 @@ use Rattle.nk_values.proofs.LitLaws.{lit_small, same_lit}
 use Rattle.nk_values.proofs.PacketLaws.{same_field}
 use Rattle.fdd_nodes.specs.Roots.{IsLeaf}
 use Rattle.fdd_nodes.specs.Trees.{Tree, Leaf, Node}
-use Rattle.fdd_ops.specs.Cofactors.{IsFieldFrom, part_at}
-use Rattle.fdd_ops.proofs.BuildLaws.{same_trans, same_leaf}
+use Rattle.fdd_store.specs.Operations.{IsFieldFrom, part_at}
+use Rattle.fdd_store.proofs.SameLaws.{same_trans, same_leaf}
 use Rattle.fdd_store.specs.Looks.{Forked}
 use Rattle.fdd_store.specs.Made.{IsMade, IsBeyond, IsLater}
 use Rattle.fdd_store.specs.Results.{Forks, Cofactors}

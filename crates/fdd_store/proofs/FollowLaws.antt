@@ -13,13 +13,13 @@ use Rattle.nk_values.proofs.MemberLaws.{in-left, in-right, in-either}
 use Rattle.fdd_nodes.specs.Trees.{Tree, Leaf, Node, apply, outcomes, answers, SameAnswers, Tests, IsSetBy, Assigns}
 use Rattle.fdd_nodes.specs.Copies.{assigned}
 use Rattle.fdd_nodes.specs.Cells.{open_cell}
-use Rattle.fdd_nodes.specs.declared.cell.Known.TheVariants.{Open}
-use Rattle.fdd_nodes.proofs.CellLaws.{open_agrees, get-open}
+use Rattle.fdd_nodes.proofs.CellLaws.{open_agrees}
 use Rattle.fdd_nodes.proofs.MakesLaws.{source, outcome, among_lists}
 use Rattle.fdd_nodes.proofs.StripLaws.{holder}
-use Rattle.fdd_ops.specs.Sequences.{Through, Follow}
-use Rattle.fdd_ops.proofs.BuildLaws.{same_trans, same_leaf}
-use Rattle.fdd_ops.proofs.PushLaws.{after_some, after_none}
+use Rattle.fdd_store.specs.Leaves.{Follow}
+use Rattle.fdd_store.specs.Operations.{Through}
+use Rattle.fdd_store.proofs.SameLaws.{same_trans, same_leaf}
+use Rattle.fdd_store.proofs.LeafLaws.{after_some, assigned_none}
 use Rattle.fdd_store.specs.Made.{IsMade, IsBeyond, IsLater}
 use Rattle.fdd_store.specs.Ones.{IsOne, Sets}
 use Rattle.fdd_store.specs.Results.{Forks, Unites, Follows}
@@ -146,7 +146,7 @@ module _ (k0 k1 k2 : Kept) (c : ℕ) (m : Lit) (i j x y : ℕ) (b : Tree) (o : O
   pub pushed : (r : Tree) → Forks m (tree_at k2 x) (tree_at k2 y) r → Follows (tree_at k0 c) b r
   pushed r w =
       subst (λ (t : Tree). Follows (tree_at k0 c) t r) (sym f.is) (subst (λ (t : Tree). Follows t (Node m (tree_at k0 i) (tree_at k0 j)) r) (sym s.is)
-      (follows_split s.copy m _ _ _ _ r (λ p. (after_none open_cell s.copy m Open (sym s.told ∙ none) (get-open (lit_field m))).own p) on_then on_else w))
+      (follows_split s.copy m _ _ _ _ r (λ p. assigned_none s.copy (lit_field m) p (sym s.told ∙ none)) on_then on_else w))
 
 -- several copies
 

@@ -15,9 +15,9 @@ use Rattle.fdd_nodes.specs.Trees.{Tree, Leaf, Node, answers, SameAnswers, Tests}
 use Rattle.fdd_nodes.specs.Cells.{open_cell, cell_of}
 use Rattle.fdd_nodes.proofs.CellLaws.{cell_agrees}
 use Rattle.fdd_nodes.proofs.SplitLaws.{leaf_at-then, leaf_at-else}
-use Rattle.fdd_ops.specs.Unions.{Adds}
-use Rattle.fdd_ops.proofs.BuildLaws.{same_trans, same_sym, same_leaf}
-use Rattle.fdd_ops.proofs.PushLaws.{settles_leaf}
+use Rattle.fdd_store.specs.Leaves.{Adds}
+use Rattle.fdd_store.proofs.SameLaws.{same_trans, same_sym, same_leaf}
+use Rattle.fdd_store.proofs.LeafLaws.{follows_none}
 use Rattle.fdd_store.specs.Made.{IsMade, IsIdle, IsBeyond, IsLater, IsPastOf}
 use Rattle.fdd_store.specs.Results.{Passes, Strips, Forks}
 use Rattle.fdd_store.specs.Looks.{Forked}
@@ -85,12 +85,12 @@ passes_else l m t e r f h s = record {
 
 pub strips_leaf : (l : Lit) (a : Tree) (cs ds : List (List Lit)) → a ≡ Leaf cs → Adds (cell_of l) cs [] ds → Strips l a (Leaf ds)
 strips_leaf l a cs ds e h =
-    let s = settles_leaf (cell_of l) cs ds h in
+    let s = follows_none (cell_of l) cs ds h in
     subst (λ (x : Tree). Strips l x (Leaf ds)) (sym e) (record {
-      same = λ p y. s.same p (cell_agrees l p y);
+      same = λ p y. s.image p (cell_agrees l p y);
       tests = λ m k. absurd k;
-      assigns = λ m k. s.sound.assigns m k;
-      clean = λ k. s.sound.respects l k (get-with_same open_cell (lit_field l) (lit_value l));
+      assigns = λ m k. elim (s.assigns m k) [ inl w ↦ w | inr w ↦ absurd w ];
+      clean = λ k. s.fixed l k (get-with_same open_cell (lit_field l) (lit_value l));
     })
 
 pub node_then_as : (l : Lit) (t e : Tree) (p : Packet) → Holds p l → SameAnswers (answers t p) (answers (Node l t e) p)

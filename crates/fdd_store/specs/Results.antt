@@ -6,9 +6,7 @@ use Rattle.nk_values.specs.Held.{Holds}
 use Rattle.nk_values.specs.Members.{IsIn}
 use Rattle.fdd_nodes.specs.Trees.{Tree, leaf_at, answers, SameAnswers, Tests, Assigns}
 use Rattle.fdd_store.specs.Made.{IsBeyond, IsLater, IsPastOf}
-use Rattle.fdd_ops.specs.Cofactors.{IsFieldFrom, part_at}
-use Rattle.fdd_ops.specs.Sequences.{Through}
-use Rattle.fdd_ops.specs.Unions.{IsUnion}
+use Rattle.fdd_store.specs.Operations.{IsUnion, Through, IsFieldFrom, part_at}
 
 -- r is a without the assignment of l, which changes no packet that holds l
 pub record Strips (l : Lit) (a r : Tree) : Type 0 where
@@ -77,5 +75,11 @@ pub record Follows (a b r : Tree) : Type 0 where
 pub record Cofactors (l : Lit) (a r : Tree) : Type 0 where
   pub same : (p : Packet) → Holds p l → SameAnswers (answers r p) (answers a p)
   pub stands : IsFieldFrom l a → r ≡ part_at l a
+  pub tests : (m : Lit) → Tests r m → Tests a m
+  pub assigns : (m : Lit) → Assigns r m → Assigns a m
+
+-- r answers as a
+pub record Reduces (a r : Tree) : Type 0 where
+  pub same : (p : Packet) → SameAnswers (answers r p) (answers a p)
   pub tests : (m : Lit) → Tests r m → Tests a m
   pub assigns : (m : Lit) → Assigns r m → Assigns a m

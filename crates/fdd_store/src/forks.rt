@@ -8,9 +8,9 @@ ghost use Rattle.fdd_store.specs.Stores.{Has, Grows, Gives, tree_at};
 
 use crate::call::Call;
 use crate::id::Id;
+use crate::leaves::settled;
 use crate::store::{Look, Store};
 use fdd_nodes::Cell;
-use fdd_ops::leaves::settled;
 use nk_values::Lit;
 use std::alloc::{AllocError, Global};
 

@@ -2,8 +2,9 @@
 ghost use Rattle.std.specs.Prelude.{◌≡◌, [], ◌∷◌, IfOk, IsTrue};
 ghost use Rattle.fdd_nodes.specs.Roots.{IsLeaf};
 ghost use Rattle.fdd_nodes.specs.Trees as trees;
-ghost use Rattle.fdd_ops.specs.Negations.{IsPredicate, IsOther};
+ghost use Rattle.fdd_store.specs.Leaves.{IsOther};
 ghost use Rattle.fdd_store.specs.Made.{IsMade};
+ghost use Rattle.fdd_store.specs.Operations.{IsPredicate};
 ghost use Rattle.fdd_store.specs.Results.{Opposes};
 ghost use Rattle.fdd_store.specs.Stores.{Has, Grows, Gives, tree_at};
 

@@ -1,14 +1,14 @@
 // The operations of a store. Each result is normal, and where memory runs out the store is as it was.
 ghost use Rattle.std.specs.Prelude.{◌≡◌, IfOk, OnErr};
+ghost use Rattle.fdd_nodes.specs.Fdds.{tree_of};
 ghost use Rattle.fdd_nodes.specs.Names.{IsFew, AreFew};
 ghost use Rattle.fdd_nodes.specs.Trees as trees;
-ghost use Rattle.fdd_ops.specs.Negations.{IsPredicate};
-ghost use Rattle.fdd_ops.specs.Operations.{OneOf, ZeroOf, TestOf, AssignmentOf, UnionOf, SequenceOf, NegationOf, ChoiceOf, CofactorOf};
+ghost use Rattle.fdd_store.specs.Operations.{IsPredicate, OneOf, ZeroOf, TestOf, AssignmentOf, UnionOf, SequenceOf, NegationOf, ChoiceOf, CofactorOf, ReductionOf};
 ghost use Rattle.fdd_store.specs.Stores.{Has, Grows, Gives, tree_at};
 
 use crate::id::Id;
 use crate::store::Store;
-use fdd_nodes::{Assignments, Leaf};
+use fdd_nodes::{Assignments, Fdd, Leaf};
 use nk_values::Lit;
 use std::alloc::{AllocError, Global};
 
@@ -144,6 +144,23 @@ impl Store {
     {
         let size = self.size();
         match self.reduce(alloc, l, a) {
+            Ok(r) => Ok(r),
+            Err(fault) => {
+                self.cut(size);
+                Err(fault)
+            }
+        }
+    }
+    /// The diagram that answers as one which is made of nodes. That one need not be normal.
+    ///
+    /// Each path of the nodes is walked, also where paths share nodes.
+    pub fn intern(&mut self, alloc: Global, a: &Fdd) -> Result<Id, AllocError>
+        ensures grows { Grows self.old self.new }
+        ensures place { IfOk result (λ r. Gives self.new r (ReductionOf (tree_of a.now))) }
+        ensures err { OnErr result (self.new ≡ self.old) }
+    {
+        let size = self.size();
+        match self.bring(alloc, a.root()) {
             Ok(r) => Ok(r),
             Err(fault) => {
                 self.cut(size);

@@ -9,9 +9,9 @@ ghost use Rattle.fdd_store.specs.Stores.{Has, Grows, Gives, tree_at};
 
 use crate::call::Call;
 use crate::id::Id;
+use crate::leaves::{following, joined};
 use crate::store::{Look, Store};
 use fdd_nodes::{Assignments, Cell, Leaf};
-use fdd_ops::leaves::{following, joined};
 use nk_values::Field;
 use std::alloc::{AllocError, Global};
 

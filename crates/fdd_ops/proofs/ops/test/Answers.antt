@@ -2,8 +2,8 @@ use Rattle.std.proofs.Common.{List, [], ◌∷◌, sym, subst, ap, ◌∙◌, ar
 use Rattle.nk_values.specs.declared.lit.Lit.{Lit}
 use Rattle.fdd_nodes.specs.Names.{IsFew}
 use Rattle.fdd_nodes.specs.Trees.{Tree, Leaf, Node, tree}
-use Rattle.fdd_ops.specs.Operations.{TestOf}
-use Rattle.fdd_ops.proofs.OperationLaws.{test_of}
+use Rattle.fdd_store.specs.Operations.{TestOf}
+use Rattle.fdd_store.proofs.PlainLaws.{test_of}
 use Rattle.fdd_ops.proofs.ops.test.Goals as goal
 
 pub returns : goal.returns

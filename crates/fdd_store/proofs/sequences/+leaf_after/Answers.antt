@@ -2,8 +2,8 @@ use Rattle.std.proofs.Common.{◌≡◌, ◌++◌, ◌/◌, ◌∙◌, refl, sym
 use Rattle.std.proofs.lemmas.List.{take-append-drop}
 use Rattle.nk_values.specs.declared.packet.Packet.{Packet}
 use Rattle.fdd_nodes.specs.Trees as trees
-use Rattle.fdd_ops.specs.Sequences.{Follow}
-use Rattle.fdd_ops.specs.Unions.{AddsBoth}
+use Rattle.fdd_store.specs.Leaves.{Follow}
+use Rattle.fdd_store.specs.Leaves.{AddsBoth}
 use Rattle.fdd_store.proofs.ForkLaws.{if_ok}
 use Rattle.fdd_store.proofs.FollowLaws.{single, follows_leaf, follows_both}
 use Rattle.fdd_store.proofs.UniteLaws.{unites_copies}

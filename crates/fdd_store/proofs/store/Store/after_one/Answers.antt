@@ -1,7 +1,7 @@
 use Rattle.std.proofs.Common.{◌≡◌, ap, sym, ◌∙◌, subst, arith, length}
 use Rattle.nk_values.specs.declared.packet.Packet.{Packet}
 use Rattle.fdd_nodes.specs.Trees as trees
-use Rattle.fdd_ops.specs.Sequences.{Follow}
+use Rattle.fdd_store.specs.Leaves.{Follow}
 use Rattle.fdd_store.proofs.ForkLaws.{if_ok}
 use Rattle.fdd_store.proofs.FollowLaws.{single, follows_leaf}
 use Rattle.fdd_store.proofs.store.Store.after_one.Goals as goal
