@@ -11,7 +11,7 @@ use Rattle.nk_values.specs.Ranges.{place}
 use Rattle.nk_values.specs.Ranks.{rank}
 use Rattle.nk_values.proofs.LitLaws.{lit_small, place_small}
 use Rattle.nk_values.proofs.PacketLaws.{get-with_same, same_field}
-use Rattle.fdd_nodes.specs.Trees.{Tree, Leaf, Node, answers, SameAnswers, Tests}
+use Rattle.fdd_nodes.specs.Trees.{Tree, Leaf, Node, answers, SameAnswers, Tests, Assigns}
 use Rattle.fdd_nodes.specs.Cells.{open_cell, cell_of}
 use Rattle.fdd_nodes.proofs.CellLaws.{cell_agrees}
 use Rattle.fdd_nodes.proofs.SplitLaws.{leaf_at-then, leaf_at-else}
@@ -82,6 +82,9 @@ passes_else l m t e r f h s = record {
 }
 
 -- strip
+
+pub strips_itself : (k : Kept) (l : Lit) (a : ℕ) → Has k a → IsMade (tree_at k a) → (¬ Assigns (tree_at k a) l) → Gives k a (Strips l (tree_at k a))
+strips_itself k l a w m n = record { has = w; made = m; is = record { same = λ p y. same_leaf (tree_at k a) (tree_at k a) p refl; tests = λ m k. k; assigns = λ m k. k; clean = n } }
 
 pub strips_leaf : (l : Lit) (a : Tree) (cs ds : List (List Lit)) → a ≡ Leaf cs → Adds (cell_of l) cs [] ds → Strips l a (Leaf ds)
 strips_leaf l a cs ds e h =

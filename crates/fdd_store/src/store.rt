@@ -9,7 +9,7 @@ ghost use Rattle.fdd_nodes.specs.Fdds.{tree_of};
 ghost use Rattle.fdd_nodes.specs.Names.{IsFew};
 ghost use Rattle.fdd_nodes.specs.Roots.{IsLeaf};
 ghost use Rattle.fdd_nodes.specs.Trees as trees;
-ghost use Rattle.fdd_store.specs.Entries.{IsEntry, behind};
+ghost use Rattle.fdd_store.specs.Entries.{IsEntry, SetsField, behind};
 ghost use Rattle.fdd_store.specs.Looks.{Looks};
 ghost use Rattle.fdd_store.specs.Made.{IsMade};
 ghost use Rattle.fdd_store.specs.Stores.{Has, IsBelow, IsRight, IsStore, Grows, Gives, shape_tree, tree_at, trees as all_trees};
@@ -162,10 +162,10 @@ impl Store {
         }
     }
 
-    /// Whether a diagram may assign a field: where not, no leaf of it does.
-    pub fn may_set(&self, a: Id, f: Field) -> bool
+    /// Whether some leaf of a diagram assigns a field.
+    pub fn sets(&self, a: Id, f: Field) -> bool
         requires { Has self.now a }
-        ensures { (m : Lit) → trees.Assigns (tree_at self.now a) m → lit_field m ≡ f → result ≡ true }
+        ensures { IsTrue result ↔ SetsField (tree_at self.now a) f }
     {
         self.entry(a).sets.has(f)
     }
@@ -199,6 +199,7 @@ impl Store {
     }
 
     /// The diagram that is a leaf.
+    #[tactic(auto, using(crate::proofs::EntryLaws::sets_leaf))]
     pub fn put_leaf(&mut self, alloc: Global, leaf: Leaf) -> Result<Id, AllocError>
         ensures grows { Grows self.old self.new }
         ensures place { IfOk result (λ i. Gives self.new i (λ t. t ≡ trees.Leaf leaf)) }
@@ -228,6 +229,7 @@ impl Store {
     }
 
     // What is told of a test with its branches.
+    #[tactic(auto, using(crate::proofs::EntryLaws::sets_test))]
     fn entry_of(&self, alloc: Global, l: Lit, t: Id, e: Id) -> Result<Entry, AllocError>
         requires has_then { Has self.now t }
         requires has_else { Has self.now e }
