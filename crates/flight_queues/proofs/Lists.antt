@@ -1,10 +1,10 @@
 -- Lists: what passes a test, and lists that are joined.
-use Rattle.std.proofs.Common.{◌≡◌, ◌≢◌, ℕ, zero, suc, ◌<◌, inl, inr, ◌⊎◌, Bool, true, false, cond, nat_eq, List, [], ◌∷◌, ◌++◌, length, map, refl, sym, ◌∙◌, ap, subst, Some, slice_get, slice_set, remove, get_or, take, ◌||◌, Result, Ok, Err, OnErr}
-use Rattle.std.specs.List.{filter, flat_map, list_any}
+use Rattle.std.proofs.Common.{◌≡◌, ◌≢◌, ℕ, zero, suc, ◌+◌, ◌<◌, inl, inr, ◌⊎◌, Bool, true, false, cond, nat_eq, List, [], ◌∷◌, ◌++◌, length, map, refl, sym, ◌∙◌, ap, subst, Some, slice_get, slice_set, remove, get_or, Option, add-one, MatchOption, option_map, drop, Result, Ok, Err, OnErr, None}
+use Rattle.std.specs.List.{filter, flat_map}
 use Rattle.std.proofs.lemmas.List.{get_or_default}
 use Rattle.std.proofs.lemmas.Bool.Decides.{Decides-eqb}
 use Rattle.nk_values.specs.Members.{IsIn}
-use Rattle.flow_index.proofs.Lists.{none-some, some-is}
+use Rattle.flow_index.proofs.Lists.{none-some, some-is, within-at}
 
 -- ---- numbers that are equal, or not
 
@@ -48,30 +48,22 @@ in-end [] y x (inr h) = absurd h
 in-end (z ∷ xs) y x (inl e) = inl (inl e)
 in-end (z ∷ xs) y x (inr h) = elim (in-end xs y x h) [ inl k ↦ inl (inr k) | inr k ↦ inr k ]
 
+-- what an iterator that reads at a place gives, and what it leaves
+pub first-left : {R X : Type 0} (now : R → X) (xs : List X) (k : ℕ) (r : Option R) → option_map now r ≡ slice_get xs k → k < length xs →
+    MatchOption r ((drop k xs ≡ []) × (drop (k + 1) xs ≡ [])) (λ x. drop k xs ≡ now x ∷ drop (k + 1) xs)
+first-left {R} {X} now xs k None e l = let there = within-at xs k l in none-some there.0 (e ∙ there.1)
+first-left {R} {X} now xs k (Some x) e l = rw add-one (at-place xs k (now x) (sym e))
+  where
+    at-place : (ys : List X) (j : ℕ) (y : X) → slice_get ys j ≡ Some y → drop j ys ≡ y ∷ drop (suc j) ys
+    at-place [] j y q = none-some y q
+    at-place (z ∷ zs) zero y q = ap (λ (w : X). w ∷ zs) (some-is z y q)
+    at-place (z ∷ zs) (suc j) y q = at-place zs j y q
+
 -- a list that is what an index reads of lists of lists
 pub read-list : {X : Type 0} (xss : List (List X)) (k : ℕ) (xs : List X) → k < length xss → xs ≡ get_or xss k xs → xs ≡ get_or xss k []
 read-list xss k xs l e = e ∙ get_or_default xss k xs [] l
 
-pub any-at : {X : Type 0} (p : X → Bool) (xs : List X) (k : ℕ) (x : X) → slice_get xs k ≡ Some x → p x ≡ true → list_any p xs ≡ true
-any-at p [] k x q e = none-some x q
-any-at p (y ∷ ys) zero x q e = ap (λ (b : Bool). b || list_any p ys) (ap p (some-is y x q) ∙ e)
-any-at p (y ∷ ys) (suc k) x q e = ap (λ (b : Bool). p y || b) (any-at p ys k x q e) ∙ or-true (p y)
-  where
-    or-true : (b : Bool) → (b || true) ≡ true
-    or-true true = refl
-    or-true false = refl
-
-pub none-more : {X : Type 0} (p : X → Bool) (xs : List X) (k : ℕ) (x : X) → slice_get xs k ≡ Some x → p x ≡ false → list_any p (take k xs) ≡ false → list_any p (take (suc k) xs) ≡ false
-none-more p [] k x q e h = none-some x q
-none-more p (y ∷ ys) zero x q e h = ap (λ (b : Bool). b || false) (ap p (some-is y x q) ∙ e)
-none-more p (y ∷ ys) (suc k) x q e h =
-    let two = neither (p y) (list_any p (take k ys)) h in
-    ap (λ (b : Bool). b || list_any p (take (suc k) ys)) two.0 ∙ none-more p ys k x q e two.1
-  where
-    neither : (b c : Bool) → (b || c) ≡ false → (b ≡ false) × (c ≡ false)
-    neither true c t = true-false true refl t
-    neither false c t = (refl, t)
-
+-- a test that tells that something is there
 pub no-none : {P : Type 0} → false ≡ true → P
 no-none e = true-false false e refl
 

@@ -5,6 +5,7 @@ ghost use Rattle.packet_tracer.specs.declared.flight.Flight.{Flight as FlightVal
 ghost use Rattle.flight_queues.specs.declared.numbered.Mark.{Mark as MarkValue};
 ghost use Rattle.flight_queues.specs.Merged.{AreMarked, IsKept, flights_of, merged, queue_at};
 
+use crate::copies::Copies;
 use crate::numbered::Mark;
 use crate::queue::Queue;
 use packet_tracer::Flight;
@@ -80,6 +81,17 @@ impl Flights {
         Some(self.queues[mark.place].copy(mark.number))
     }
 
+    /// All of them, in order.
+    pub fn iter(&self) -> Copies<'_>
+        ensures flights { result.flights.now ≡ self.now }
+        ensures place { result.place ≡ 0 }
+    {
+        Copies {
+            flights: self,
+            place: 0,
+        }
+    }
+
     /// The queue of a switch, if a copy ever came to it: the copies that came to it and are in flight.
     pub fn queue(&self, switch: u64) -> Option<&Queue>
         ensures { copies_of (option_map (λ q. q.now) result) ≡ filter (stands_at switch) self.now }
@@ -92,15 +104,7 @@ impl Flights {
     pub fn carry(&self, stamp: u16) -> bool
         ensures { result ≡ list_any (carries stamp) self.now }
     {
-        for place in 0..self.len() {
-            let Some(flight) = self.get(place) else {
-                return false;
-            };
-            if flight.tag.id() == Some(stamp) {
-                return true;
-            }
-        }
-        false
+        self.iter().any(|flight| flight.tag.id() == Some(stamp))
     }
 
     /// The copy at a place goes, and these come behind all others.

@@ -1,17 +1,11 @@
-use Rattle.std.proofs.Common.{◌≡◌, ℕ, true, false, nat_eq, Option, Some, slice_get, sym, ap, ◌∙◌, add-one}
-use Rattle.std.specs.Option.{option_eq}
+use Rattle.std.proofs.Common.{drop, rules}
+use Rattle.std.proofs.lemmas.Iterator.Search.{any_from_yields_List}
+use Rattle.std.proofs.lemmas.Iterator.Consumers.{YieldsList-from_first}
+use Rattle.flight_queues.specs.declared.copies.Copies.{Copies}
 use Rattle.flight_queues.specs.Merged.{carries}
-use Rattle.flight_queues.proofs.Lists.{any-at, none-more}
 use Rattle.flight_queues.proofs.flights.Flights.carry.Goals as goal
 
-pub returns-then-eq : goal.returns-then-eq
-returns-then-eq c =
-    let at : slice_get c.args.self.now c.loop-place.place ≡ Some c.in-Some.flight.now = sym c.in-Some.ensures in
-    let test : carries c.args.stamp c.in-Some.flight.now ≡ true = ap (λ (t : Option ℕ). option_eq nat_eq t (Some c.args.stamp)) (sym c.id.ensures.id) ∙ sym c.eq.ensures ∙ c.if-eq.true in
-    sym (any-at (carries c.args.stamp) c.args.self.now c.loop-place.place c.in-Some.flight.now at test)
-
-pub loop-place-preserved : goal.loop-place-preserved
-loop-place-preserved c =
-    let at : slice_get c.args.self.now c.loop-place.place ≡ Some c.in-Some.flight.now = sym c.in-Some.ensures in
-    let test : carries c.args.stamp c.in-Some.flight.now ≡ false = ap (λ (t : Option ℕ). option_eq nat_eq t (Some c.args.stamp)) (sym c.id.ensures.id) ∙ sym c.eq.ensures ∙ c.if-eq.false in
-    rw add-one (none-more (carries c.args.stamp) c.args.self.now c.loop-place.place c.in-Some.flight.now at test c.loop-place.invariant)
+pub returns : goal.returns
+returns c =
+    let all = YieldsList-from_first (λ x. x.now) (λ (s : Copies). drop s.place s.flights.now) {s = c.iter.result} c.args.self.now (λ i. drop (c.iter.ensures.place i) (c.iter.ensures.flights i)) in
+    any_from_yields_List (carries c.args.stamp) c.any.new.self _ c.any.result c.any.ensures.ran all (λ x b q k. search rules)
