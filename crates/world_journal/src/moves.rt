@@ -97,11 +97,10 @@ impl<L: RunName, E: Link> Run<L, E> {
 // The first copy that may take another hop.
 fn first_hop(world: &World) -> Option<usize> {
     let most = world.hops();
-    world
-        .flights()
-        .as_slice()
-        .iter()
-        .position(|flight| flight.hops < most)
+    let flights = world.flights();
+    (0..flights.len()).find(|place| {
+        flights.get(*place).is_some_and(|flight| flight.hops < most)
+    })
 }
 
 // What the caller may do in this phase.
@@ -123,8 +122,11 @@ fn drain(world: &World, stamp: u16) -> Event
     ensures { IsUpdate result }
 {
     let most = world.hops();
-    let stuck = world.flights().as_slice().iter().position(|flight| flight.hops >= most
-        && flight.tag.id() == Some(stamp));
+    let flights = world.flights();
+    let stuck = (0..flights.len()).find(|place| {
+        flights.get(*place).is_some_and(|flight| flight.hops >= most
+            && flight.tag.id() == Some(stamp))
+    });
     match stuck {
         Some(place) => Event::Stuck(place),
         None => Event::Drained(stamp),
