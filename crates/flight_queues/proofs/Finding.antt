@@ -1,5 +1,5 @@
 -- Copies by their numbers.
-use Rattle.std.proofs.Common.{◌≡◌, ◌≢◌, ℕ, zero, suc, ◌+◌, inl, inr, Bool, true, false, cond, not, nat_eq, List, [], ◌∷◌, ◌++◌, refl, sym, ◌∙◌, ap, subst, Some, slice_get, arith}
+use Rattle.std.proofs.Common.{◌≡◌, ◌≢◌, ℕ, zero, suc, ◌+◌, ◌<◌, inl, inr, Bool, true, false, cond, not, nat_eq, List, [], ◌∷◌, ◌++◌, length, refl, sym, ◌∙◌, ap, subst, Some, slice_get, arith}
 use Rattle.nk_values.specs.Members.{IsIn}
 use Rattle.packet_tracer.specs.declared.flight.Flight.{Flight}
 use Rattle.flight_queues.specs.declared.numbered.Numbered.{Numbered}
@@ -32,6 +32,10 @@ found-at low high (d ∷ es) zero e r q =
 found-at low high (d ∷ es) (suc k) e r q =
     let bounds = rises-bounds (d.number + 1) high (numbers_of es) e.number r.1 (in-map (λ (z : Numbered). z.number) es e (at-in es k e q)) in
     found-later e.number d es (λ p. absurd (omega (arith, bounds.0, p))) ∙ found-at (d.number + 1) high es k e r.1 q
+
+pub some-number : (n : ℕ) (es : List Numbered) → IsIn (numbers_of es) n → 0 < length es
+some-number n [] h = absurd h
+some-number n (e ∷ es) h = omega arith
 
 -- the copy where a number stands
 pub has-at : (n : ℕ) (es : List Numbered) (k : ℕ) → IsIn (numbers_of es) n → k ≡ index_of n (numbers_of es) → HasNumber es k n

@@ -48,12 +48,15 @@ impl Queue {
         self.copies.get(place)
     }
 
-    // The place of a number that one of them has.
+    // The place of a number that one of them has, most often the first.
     fn position(&self, number: u64) -> usize
         requires rising { AreRising self.now }
         requires held { IsIn (numbers_of self.now) number }
         ensures { HasNumber self.now result number }
     {
+        if self.copies[0].number == number {
+            return 0;
+        }
         let mut low = 0;
         let mut high = self.copies.len();
         while low < high {
