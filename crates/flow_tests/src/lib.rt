@@ -1,8 +1,10 @@
-//! Tests of flow tables, barriers and stamps: what no clause says, that calls succeed where memory is there.
+//! Tests of flow tables, queues of copies, barriers and stamps: what no clause says, that calls succeed where memory is there.
 #![tactic(auto)]
 
 #[cfg(test)]
 mod changes;
+#[cfg(test)]
+mod flights;
 #[cfg(test)]
 mod hits;
 #[cfg(test)]

@@ -1,5 +1,6 @@
 // The text of reports.
 use crate::histories::{history, packet};
+use flight_queues::Flights;
 use nk_values::Tag;
 use openflow_wire::Octets;
 use report_text::{Standing, report_text};
@@ -51,11 +52,12 @@ fn report(
     text: &str,
 ) -> Result<bool, AllocError> {
     let switches = switches(alloc)?;
+    let flights = Flights::new(alloc);
     let standing = Standing {
         switches: &switches,
         phase,
         halt,
-        flights: &[],
+        flights: &flights,
         arrivals: &[],
     };
     Ok(report_text(alloc, &standing, events)?.as_str() == text)

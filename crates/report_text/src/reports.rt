@@ -10,7 +10,7 @@ use crate::events::put_events;
 use crate::lines::{lines, put_lines, sort_lines};
 use crate::text::Text;
 use crate::values::put_place;
-use packet_tracer::Flight;
+use flight_queues::Flights;
 use std::alloc::{AllocError, Global};
 use std::fmt::Write;
 use topology_model::Site;
@@ -24,7 +24,7 @@ pub struct Standing<'a> {
     pub switches: &'a [Site],
     pub phase: Phase,
     pub halt: Option<&'a Cause>,
-    pub flights: &'a [Flight],
+    pub flights: &'a Flights,
     pub arrivals: &'a [Arrival],
 }
 
@@ -55,7 +55,7 @@ pub fn world_report(alloc: Global, world: &World, events: &[Event]) -> Result<Te
         switches: world.topology().switches(),
         phase: coordinator.phase(),
         halt: coordinator.halt(),
-        flights: world.flights().as_slice(),
+        flights: world.flights(),
         arrivals: world.arrivals(),
     };
     report_text(alloc, &standing, events)
@@ -66,7 +66,7 @@ fn put_arrivals(
     alloc: Global,
     out: &mut String,
     arrivals: &[Arrival],
-    flights: &[Flight],
+    flights: &Flights,
 ) -> Result<(), AllocError>
     ensures { OnOk result (Adds (AreTexts (IsArrivalText flights.now) 0 arrivals.now) (string_bytes out.old) (string_bytes out.new)) }
 {

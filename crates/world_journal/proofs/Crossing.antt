@@ -29,7 +29,7 @@ use Rattle.topology_model.proofs.topology.Topology.TheSendSync as topologies
 use Rattle.update_coordinator.proofs.coordinator.Coordinator.TheSendSync as coordinators
 use Rattle.world_core.specs.contracts.end.End as end_
 use Rattle.world_core.proofs.end.End.TheSendSync as ends
-use Rattle.world_core.proofs.flights.Flights.TheSendSync as flown
+use Rattle.flight_queues.proofs.flights.Flights.TheSendSync as flown
 use Rattle.world_core.specs.contracts.arrival.Arrival as arrival
 use Rattle.world_core.proofs.arrival.Arrival.TheSendSync as arrivals
 use Rattle.world_core.specs.contracts.world.World as world

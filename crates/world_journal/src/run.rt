@@ -332,9 +332,5 @@ fn are_spent(world: &World) -> bool
     ensures { IsTrue result ↔ AreSpent world.now }
 {
     let most = world.hops();
-    world
-        .flights()
-        .as_slice()
-        .iter()
-        .all(|flight| flight.hops >= most)
+    world.flights().iter().all(|flight| flight.hops >= most)
 }

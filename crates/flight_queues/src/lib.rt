@@ -1,0 +1,12 @@
+//! Copies in flight, in queues by the switches that they came to, and in the order in which they were sent.
+#![tactic(auto)]
+
+mod copies;
+mod flights;
+mod numbered;
+mod queue;
+
+pub use copies::Copies;
+pub use flights::Flights;
+pub use numbered::{Mark, Numbered};
+pub use queue::Queue;
