@@ -65,26 +65,26 @@ turn-stop s n len text ws f e some w h =
 
 -- a line that was taken
 pub turn-line : (s : State) (r : Reader) (x : Taken) (n len : ℕ) (text rest : List ℕ) (ws : List (List ℕ)) → IsFirst len text → 0 < length text → ws ≡ words_of (take len text)
-    → rest ≡ drop len text → x ≡ Line r → Takes (step s n ws) (Ok x)
+    → rest ≡ drop len text → x ≡ Line → Takes (step s n ws) s (state_of r) (Ok x)
     → (o : Outcome) → IsFrom (Lines (state_of r)) (n + 1) (lines_of rest) o → IsFrom (Lines s) n (lines_of text) o
 turn-line s r x n len text rest ws e some w d t h o k =
-    turn-next s (state_of r) n len text ws e some w (subst (λ y. Takes (step s n ws) (Ok y)) t h) o
+    turn-next s (state_of r) n len text ws e some w (subst (λ y. Takes (step s n ws) s (state_of r) (Ok y)) t h) o
     (subst (λ ls. IsFrom (Lines (state_of r)) (n + 1) (lines_of ls) o) d k)
 
-pub turn-fault : (s : State) (x : Stop) (f : TextFault) (n len : ℕ) (text : List ℕ) (ws : List (List ℕ)) → IsFirst len text → 0 < length text → ws ≡ words_of (take len text)
-    → x ≡ stop.Fault f → Takes (step s n ws) (Err x) → IsFrom (Lines s) n (lines_of text) (refused_at n f)
-turn-fault s x f n len text ws e some w t h = turn-stop s n len text ws f e some w (subst (λ y. Takes (step s n ws) (Err y)) t h)
+pub turn-fault : (s t : State) (x : Stop) (f : TextFault) (n len : ℕ) (text : List ℕ) (ws : List (List ℕ)) → IsFirst len text → 0 < length text → ws ≡ words_of (take len text)
+    → x ≡ stop.Fault f → Takes (step s n ws) s t (Err x) → IsFrom (Lines s) n (lines_of text) (refused_at n f)
+turn-fault s t x f n len text ws e some w d h = turn-stop s n len text ws f e some w (subst (λ y. Takes (step s n ws) s t (Err y)) d h)
 
 -- a policy that was taken
 pub turn-close : (r q : Reader) (x : Taken) (b : declared.Block) (n len : ℕ) (text rest : List ℕ) (ws : List (List ℕ)) (a : Result (Reader × ℕ × Bor (List ℕ)) DocumentError)
-    → IsFirst len text → 0 < length text → ws ≡ words_of (take len text) → rest ≡ drop len text → x ≡ Opening q → Takes (step (state_of r) n ws) (Ok x)
+    → IsFirst len text → 0 < length text → ws ≡ words_of (take len text) → rest ≡ drop len text → x ≡ Opening → Takes (step (state_of r) n ws) (state_of r) (state_of q) (Ok x)
     → ((s : State) (begin : ℕ) (o : Outcome) → Remains s begin o b → IsFrom (Block s begin []) begin (lines_of rest) o)
     → answers.Closes (state_of q) (n + 1) b a → Turns r n text a
 turn-close r q x b n len text rest ws (Ok y) e some w d t h reads closes = λ o k.
-    turn-opening (state_of r) (state_of q) n len text ws e some w (subst (λ z. Takes (step (state_of r) n ws) (Ok z)) t h) o
+    turn-opening (state_of r) (state_of q) n len text ws e some w (subst (λ z. Takes (step (state_of r) n ws) (state_of r) (state_of q) (Ok z)) t h) o
     (subst (λ ls. IsFrom (Block (state_of q) (n + 1) []) (n + 1) (lines_of ls) o) d (reads (state_of q) (n + 1) o (closes o k)))
 turn-close r q x b n len text rest ws (Err (document.Fault f)) e some w d t h reads closes =
-    turn-opening (state_of r) (state_of q) n len text ws e some w (subst (λ z. Takes (step (state_of r) n ws) (Ok z)) t h) (Refused f)
+    turn-opening (state_of r) (state_of q) n len text ws e some w (subst (λ z. Takes (step (state_of r) n ws) (state_of r) (state_of q) (Ok z)) t h) (Refused f)
     (subst (λ ls. IsFrom (Block (state_of q) (n + 1) []) (n + 1) (lines_of ls) (Refused f)) d (reads (state_of q) (n + 1) (Refused f) closes))
 turn-close r q x b n len text rest ws (Err document.Memory) e some w d t h reads closes = tt
 

@@ -59,6 +59,12 @@ Matches view r (Ok a) = r ≡ Ok (view a)
 Matches view r (Err (stop.Fault f)) = r ≡ Err f
 Matches view r (Err stop.Memory) = ⊤
 
+-- the reader came to this state, or stops at this fault; where memory ran out, the state is as it was
+abbrev pub Becomes : {U : Type 0} → Result State TextFault → State → State → Result U Stop → Type 0
+Becomes r old new (Ok u) = r ≡ Ok new
+Becomes r old new (Err (stop.Fault f)) = r ≡ Err f
+Becomes r old new (Err stop.Memory) = new ≡ old
+
 -- the value of a form, or none, unless memory ran out
 abbrev pub Forms : {A B : Type 0} → (A → B) → Option B → Result A Stop → Type 0
 Forms view o (Ok a) = o ≡ Some (view a)
@@ -104,11 +110,18 @@ IsStop (Stops g) f = f ≡ g
 IsStop (Enters p s) f = (IsWellShaped p.packet → ⊥) × (f ≡ BadLine)
 IsStop _ f = ⊥
 
-abbrev pub Takes : Step → Result Taken Stop → Type 0
-Takes x (Ok (Line r)) = IsNext x (state_of r)
-Takes x (Ok (Opening r)) = IsOpening x (state_of r)
-Takes x (Err (stop.Fault f)) = IsStop x f
-Takes x (Err stop.Memory) = ⊤
+-- the reader came from this state to that one by the step, or stops; where memory ran out, the state is as it was
+abbrev pub Takes : Step → State → State → Result Taken Stop → Type 0
+Takes x old new (Ok Line) = IsNext x new
+Takes x old new (Ok Opening) = IsOpening x new
+Takes x old new (Err (stop.Fault f)) = IsStop x f
+Takes x old new (Err stop.Memory) = new ≡ old
+
+-- the same of a line behind which another one stands
+abbrev pub Passes : {U : Type 0} → Step → State → State → Result U Stop → Type 0
+Passes x old new (Ok u) = IsNext x new
+Passes x old new (Err (stop.Fault f)) = IsStop x f
+Passes x old new (Err stop.Memory) = new ≡ old
 
 -- what the words of a packet line have given
 abbrev pub given_of : Given → packets.Given

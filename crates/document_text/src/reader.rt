@@ -13,9 +13,9 @@ pub struct Reader {
     pub ghost edge: { nat_le 2 (place_of_kind told.reached) ≡ true → has_edge draft ≡ true },
 }
 
-/// A line that was taken: reading goes on behind it, or a policy's text begins there.
-#[derive(Drop)]
+/// What stands behind a line that was taken: another line, or a policy's text.
+#[derive(Clone, Copy, Debug, PartialEq, Eq)]
 pub enum Taken {
-    Line(Reader),
-    Opening(Reader),
+    Line,
+    Opening,
 }

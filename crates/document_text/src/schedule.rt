@@ -4,7 +4,7 @@ ghost use Rattle.nk_values.specs.declared.field.Field.TheVariants.{Sw};
 ghost use Rattle.document_text.specs.Schedules.{arrival, at_switch, is_index, event_alone, event_of_one, event_of_two, event_of};
 ghost use Rattle.document_text.specs.Lines.{schedule_line};
 ghost use Rattle.document_text.specs.Packets.{is_vlan_id};
-ghost use Rattle.document_text.specs.Answers.{texts, state_of, Matches, Ranges, NamesSwitch};
+ghost use Rattle.document_text.specs.Answers.{texts, state_of, Becomes, Matches, Ranges, NamesSwitch};
 
 use crate::document::Event;
 use crate::fault::Stop;
@@ -20,17 +20,16 @@ use std::alloc::Global;
 const LAST_INDEX: u64 = 0xffff_ffff;
 
 /// Takes `schedule`, behind which events stand.
-pub fn schedule_line(reader: Reader, alloc: Global, words: &[&[u8]]) -> Result<Reader, Stop>
-    ensures { Matches state_of (schedule_line (state_of reader) (texts words.now)) result }
+pub fn schedule_line(reader: &mut Reader, alloc: Global, words: &[&[u8]]) -> Result<(), Stop>
+    ensures { Becomes (schedule_line (state_of reader.old) (texts words.now)) (state_of reader.old) (state_of reader.new) result }
 {
     if !words.is_empty() || reader.told.reached.place() >= 5 {
         return Err(Stop::Fault(TextFault::BadLine));
     }
     reader.behind_policies(alloc)?;
-    let mut reader = reader;
     reader.told.reached = Kind::Schedule;
     reader.told.inside = true;
-    Ok(reader)
+    Ok(())
 }
 
 /// The event of a line.

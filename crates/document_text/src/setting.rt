@@ -2,7 +2,7 @@
 ghost use Rattle.std.specs.Prelude.{◌≡◌, true, OnOk};
 ghost use Rattle.document_text.specs.States.{State, has_edge};
 ghost use Rattle.document_text.specs.Lines.{unset, one_numeral, two_numerals, hops_line, capacity_line, stamps_line, policy_line};
-ghost use Rattle.document_text.specs.Answers.{texts, state_of, Forms, Matches, Lets};
+ghost use Rattle.document_text.specs.Answers.{texts, state_of, Becomes, Forms, Lets};
 
 use crate::fault::Stop;
 use crate::reader::Reader;
@@ -50,62 +50,58 @@ fn two_numerals(words: &[&[u8]]) -> Result<(u64, u64), Stop>
 }
 
 /// Takes `hops N`.
-pub fn hops_line(reader: Reader, alloc: Global, words: &[&[u8]]) -> Result<Reader, Stop>
-    ensures { Matches state_of (hops_line (state_of reader) (texts words.now)) result }
+pub fn hops_line(reader: &mut Reader, alloc: Global, words: &[&[u8]]) -> Result<(), Stop>
+    ensures { Becomes (hops_line (state_of reader.old) (texts words.now)) (state_of reader.old) (state_of reader.new) result }
 {
     let hops = one_numeral(words)?;
-    unset(&reader, alloc, reader.told.hops.is_some())?;
+    unset(reader, alloc, reader.told.hops.is_some())?;
     if hops < 1 || hops > MOST_HOPS {
         return Err(Stop::Fault(TextFault::ValueRange));
     }
-    let mut reader = reader;
     reader.told.hops = Some(hops as u32);
     reader.told.reached = Kind::Setting;
-    Ok(reader)
+    Ok(())
 }
 
 /// Takes `capacity N`.
-pub fn capacity_line(reader: Reader, alloc: Global, words: &[&[u8]]) -> Result<Reader, Stop>
-    ensures { Matches state_of (capacity_line (state_of reader) (texts words.now)) result }
+pub fn capacity_line(reader: &mut Reader, alloc: Global, words: &[&[u8]]) -> Result<(), Stop>
+    ensures { Becomes (capacity_line (state_of reader.old) (texts words.now)) (state_of reader.old) (state_of reader.new) result }
 {
     let capacity = one_numeral(words)?;
-    unset(&reader, alloc, reader.told.capacity.is_some())?;
+    unset(reader, alloc, reader.told.capacity.is_some())?;
     if capacity < 1 || capacity > MOST_ROWS {
         return Err(Stop::Fault(TextFault::ValueRange));
     }
-    let mut reader = reader;
     reader.told.capacity = Some(capacity as u32);
     reader.told.reached = Kind::Setting;
-    Ok(reader)
+    Ok(())
 }
 
 /// Takes `stamps LO HI`.
-pub fn stamps_line(reader: Reader, alloc: Global, words: &[&[u8]]) -> Result<Reader, Stop>
-    ensures { Matches state_of (stamps_line (state_of reader) (texts words.now)) result }
+pub fn stamps_line(reader: &mut Reader, alloc: Global, words: &[&[u8]]) -> Result<(), Stop>
+    ensures { Becomes (stamps_line (state_of reader.old) (texts words.now)) (state_of reader.old) (state_of reader.new) result }
 {
     let (low, high) = two_numerals(words)?;
-    unset(&reader, alloc, reader.told.stamps.is_some())?;
+    unset(reader, alloc, reader.told.stamps.is_some())?;
     if low < 1 || low > high || high > u64::from(GREATEST_VLAN_ID) {
         return Err(Stop::Fault(TextFault::StampRange));
     }
     if low == high {
         return Err(Stop::Fault(TextFault::TooFewStamps));
     }
-    let mut reader = reader;
     reader.told.stamps = Some((low as u16, high as u16));
     reader.told.reached = Kind::Setting;
-    Ok(reader)
+    Ok(())
 }
 
 /// Takes `policy`, behind which a policy's text begins.
-pub fn policy_line(reader: Reader, alloc: Global, words: &[&[u8]]) -> Result<Reader, Stop>
-    ensures { Matches state_of (policy_line (state_of reader) (texts words.now)) result }
+pub fn policy_line(reader: &mut Reader, alloc: Global, words: &[&[u8]]) -> Result<(), Stop>
+    ensures { Becomes (policy_line (state_of reader.old) (texts words.now)) (state_of reader.old) (state_of reader.new) result }
 {
     if !words.is_empty() || reader.is_late(Kind::Policy) {
         return Err(Stop::Fault(TextFault::BadLine));
     }
     reader.behind_topology(alloc)?;
-    let mut reader = reader;
     reader.told.reached = Kind::Policy;
-    Ok(reader)
+    Ok(())
 }

@@ -3,7 +3,7 @@ ghost use Rattle.std.specs.Prelude.{◌≡◌, true};
 ghost use Rattle.document_text.specs.States.{has_edge};
 ghost use Rattle.document_text.specs.Steps.{scheduled, enters};
 ghost use Rattle.document_text.specs.Lines.{packet_line};
-ghost use Rattle.document_text.specs.Answers.{state_of, texts, Takes};
+ghost use Rattle.document_text.specs.Answers.{state_of, texts};
 ghost use Rattle.document_text.specs.declared.fault.DocumentError.TheVariants as to;
 
 use crate::document::{Document, ScheduleLine, Settings};
@@ -35,7 +35,7 @@ impl Reader {
     ghost use Rattle.document_text.specs.Grammar.{finished};
     ghost use Rattle.document_text.specs.Answers.{texts, IsAnswer};
     ghost use Rattle.document_text.specs.Lines.{behind_topology, behind_policies};
-    ghost use Rattle.document_text.specs.Answers.{state_of, FindsEdge, Lets, Takes};
+    ghost use Rattle.document_text.specs.Answers.{state_of, FindsEdge, Lets, Takes, Passes};
 
     /// Before the first line.
     pub fn new(alloc: Global) -> Reader
@@ -78,19 +78,20 @@ impl Reader {
         Ok(())
     }
 
-    /// Takes the words of the line with this number.
-    pub fn take(self, alloc: Global, line: u64, words: &[&[u8]]) -> Result<Taken, Stop>
-        ensures { Takes (step (state_of self) line (texts words.now)) result }
+    /// Takes the words of the line with this number. Where memory is wanting, nothing changes.
+    pub fn take(&mut self, alloc: Global, line: u64, words: &[&[u8]]) -> Result<Taken, Stop>
+        ensures { Takes (step (state_of self.old) line (texts words.now)) (state_of self.old) (state_of self.new) result }
     {
         let Some((first, rest)) = words.split_first() else {
-            return Ok(Taken::Line(self));
+            return Ok(Taken::Line);
         };
         let head = head_of(first);
         if self.is_too_many(head, words) {
             return Err(Stop::Fault(TextFault::Limit));
         }
         if self.told.inside {
-            return scheduled(self, line, words);
+            self.scheduled(line, words)?;
+            return Ok(Taken::Line);
         }
         self.declares(alloc, head, rest)
     }
@@ -108,20 +109,50 @@ impl Reader {
     }
 
     // Takes a line outside the schedule.
-    fn declares(self, alloc: Global, head: Head, words: &[&[u8]]) -> Result<Taken, Stop>
-        ensures { Takes (declares (state_of self) head (texts words.now)) result }
+    fn declares(&mut self, alloc: Global, head: Head, words: &[&[u8]]) -> Result<Taken, Stop>
+        ensures { Takes (declares (state_of self.old) head (texts words.now)) (state_of self.old) (state_of self.new) result }
     {
         match head {
-            Head::Switch => Ok(Taken::Line(switch_line(self, alloc, words)?)),
-            Head::Link => Ok(Taken::Line(link_line(self, alloc, words)?)),
-            Head::Hops => Ok(Taken::Line(hops_line(self, alloc, words)?)),
-            Head::Capacity => Ok(Taken::Line(capacity_line(self, alloc, words)?)),
-            Head::Stamps => Ok(Taken::Line(stamps_line(self, alloc, words)?)),
-            Head::Policy => Ok(Taken::Opening(policy_line(self, alloc, words)?)),
-            Head::Packet => enters(self, alloc, words),
-            Head::Schedule => Ok(Taken::Line(schedule_line(self, alloc, words)?)),
-            Head::Unlisted => Err(Stop::Fault(TextFault::BadLine)),
+            Head::Switch => switch_line(self, alloc, words)?,
+            Head::Link => link_line(self, alloc, words)?,
+            Head::Hops => hops_line(self, alloc, words)?,
+            Head::Capacity => capacity_line(self, alloc, words)?,
+            Head::Stamps => stamps_line(self, alloc, words)?,
+            Head::Policy => {
+                policy_line(self, alloc, words)?;
+                return Ok(Taken::Opening);
+            }
+            Head::Packet => self.enters(alloc, words)?,
+            Head::Schedule => schedule_line(self, alloc, words)?,
+            Head::Unlisted => return Err(Stop::Fault(TextFault::BadLine)),
         }
+        Ok(Taken::Line)
+    }
+
+    // Takes a line inside the schedule.
+    fn scheduled(&mut self, line: u64, words: &[&[u8]]) -> Result<(), Stop>
+        ensures { Passes (scheduled (state_of self.old) line (texts words.now)) (state_of self.old) (state_of self.new) result }
+    {
+        if is_end(words) {
+            self.told.inside = false;
+        } else {
+            let event = event_of(self, words)?;
+            self.told.events.push(ScheduleLine { line, event })?;
+        }
+        Ok(())
+    }
+
+    // Takes a packet, which has to be well shaped.
+    fn enters(&mut self, alloc: Global, words: &[&[u8]]) -> Result<(), Stop>
+        ensures { Passes (enters (state_of self.old) (packet_line (state_of self.old) (texts words.now))) (state_of self.old) (state_of self.new) result }
+    {
+        let line = packet_line(self, alloc, words)?;
+        if !well_shaped(&line.packet) {
+            return Err(Stop::Fault(TextFault::BadLine));
+        }
+        self.told.packets.push(line)?;
+        self.told.reached = Kind::Packet;
+        Ok(())
     }
 
     /// The document of all lines, where the one behind the last has this number.
@@ -163,32 +194,4 @@ pub fn refused(line: u64, fault: TextFault) -> DocumentError
         line,
         column: 1,
     })
-}
-
-// Takes a line inside the schedule.
-fn scheduled(reader: Reader, line: u64, words: &[&[u8]]) -> Result<Taken, Stop>
-    ensures { Takes (scheduled (state_of reader) line (texts words.now)) result }
-{
-    let mut reader = reader;
-    if is_end(words) {
-        reader.told.inside = false;
-    } else {
-        let event = event_of(&reader, words)?;
-        reader.told.events.push(ScheduleLine { line, event })?;
-    }
-    Ok(Taken::Line(reader))
-}
-
-// Takes a packet, which has to be well shaped.
-fn enters(reader: Reader, alloc: Global, words: &[&[u8]]) -> Result<Taken, Stop>
-    ensures { Takes (enters (state_of reader) (packet_line (state_of reader) (texts words.now))) result }
-{
-    let line = packet_line(&reader, alloc, words)?;
-    if !well_shaped(&line.packet) {
-        return Err(Stop::Fault(TextFault::BadLine));
-    }
-    let mut reader = reader;
-    reader.told.packets.push(line)?;
-    reader.told.reached = Kind::Packet;
-    Ok(Taken::Line(reader))
 }

@@ -6,7 +6,7 @@ ghost use Rattle.topology_model.specs.Lines.{IsLineInRange};
 ghost use Rattle.document_text.specs.Packets.{is_value};
 ghost use Rattle.document_text.specs.States.{place_of_kind};
 ghost use Rattle.document_text.specs.Lines.{switch_form, switch_line, link_form, link_line, is_end_value, placed};
-ghost use Rattle.document_text.specs.Answers.{texts, state_of, Forms, Matches, Ranges};
+ghost use Rattle.document_text.specs.Answers.{texts, state_of, Becomes, Forms, Ranges};
 
 use crate::fault::Stop;
 use crate::head::is_text;
@@ -18,8 +18,8 @@ use std::alloc::Global;
 use topology_model::{End, LineError, Ports, TopoLine};
 
 /// Takes `switch S ports B1 B2 ..`.
-pub fn switch_line(reader: Reader, alloc: Global, words: &[&[u8]]) -> Result<Reader, Stop>
-    ensures { Matches state_of (switch_line (state_of reader) (texts words.now)) result }
+pub fn switch_line(reader: &mut Reader, alloc: Global, words: &[&[u8]]) -> Result<(), Stop>
+    ensures { Becomes (switch_line (state_of reader.old) (texts words.now)) (state_of reader.old) (state_of reader.new) result }
 {
     let (number, numbers) = switch_form(alloc, words)?;
     if reader.is_late(Kind::Switch) {
@@ -88,8 +88,8 @@ pub fn end_in_range(numbers: (u64, u64)) -> Result<End, Stop>
 }
 
 /// Takes `link S:B S:B`.
-pub fn link_line(reader: Reader, alloc: Global, words: &[&[u8]]) -> Result<Reader, Stop>
-    ensures { Matches state_of (link_line (state_of reader) (texts words.now)) result }
+pub fn link_line(reader: &mut Reader, alloc: Global, words: &[&[u8]]) -> Result<(), Stop>
+    ensures { Becomes (link_line (state_of reader.old) (texts words.now)) (state_of reader.old) (state_of reader.new) result }
 {
     let (first, second) = link_form(words)?;
     if reader.is_late(Kind::Link) {
@@ -115,16 +115,15 @@ fn link_form(words: &[&[u8]]) -> Result<((u64, u64), (u64, u64)), Stop>
 }
 
 // With one more line of the topology.
-fn placed(reader: Reader, alloc: Global, kind: Kind, line: &TopoLine) -> Result<Reader, Stop>
+fn placed(reader: &mut Reader, alloc: Global, kind: Kind, line: &TopoLine) -> Result<(), Stop>
     requires in_range { IsLineInRange line.now }
     requires kind { nat_le 2 (place_of_kind kind) ≡ false }
-    ensures { Matches state_of (placed (state_of reader) kind line.now) result }
+    ensures { Becomes (placed (state_of reader.old) kind line.now) (state_of reader.old) (state_of reader.new) result }
 {
-    let Reader { draft, mut told } = reader;
-    match draft.with(alloc, line) {
-        Ok(draft) => {
-            told.reached = kind;
-            Ok(Reader { draft, told })
+    match reader.draft.add(alloc, line) {
+        Ok(()) => {
+            reader.told.reached = kind;
+            Ok(())
         }
         Err(LineError::Fault(fault)) => Err(Stop::Fault(fault)),
         Err(LineError::Memory) => Err(Stop::Memory),

@@ -30,9 +30,10 @@ pub fn turn<'a>(
     let len = first_len(text);
     let words = words(alloc, &text[..len])?;
     let rest = &text[len..];
+    let mut reader = reader;
     match reader.take(alloc, line, &words) {
-        Ok(Taken::Line(reader)) => Ok((reader, line + 1, rest)),
-        Ok(Taken::Opening(reader)) => {
+        Ok(Taken::Line) => Ok((reader, line + 1, rest)),
+        Ok(Taken::Opening) => {
             let block = block_of(rest);
             close(alloc, reader, line + 1, block)
         }

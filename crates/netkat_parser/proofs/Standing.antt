@@ -1,5 +1,5 @@
 -- What readers stand for.
-use Rattle.std.proofs.Common.{◌≡◌, ℕ, ◌+◌, ◌<◌, ◌≤◌, Bool, true, false, cond, ◌==◌, List, [], ◌∷◌, ◌++◌, length, take, drop, ◌⊎◌, inl, inr, Some, None, Result, Ok, Err, refl, sym, ap, ◌∙◌, subst, append_assoc, length-append, arith}
+use Rattle.std.proofs.Common.{◌≡◌, ℕ, ◌+◌, ◌<◌, ◌≤◌, Bool, true, false, cond, ◌==◌, List, [], ◌∷◌, ◌++◌, length, take, drop, ◌⊎◌, inl, inr, Option, Some, None, Result, Ok, Err, refl, sym, ap, ◌∙◌, subst, append_assoc, length-append, arith}
 use Rattle.std.proofs.lemmas.List.{append-nil, take-append-drop}
 use Rattle.nk_values.specs.declared.fault.TextFault.{TextFault}
 use Rattle.std.specs.Result.{IfOk, IsErrAnd, MatchResult}
@@ -23,9 +23,9 @@ use Rattle.netkat_parser.specs.Places.{next_place, place_behind, HasFault}
 use Rattle.netkat_parser.specs.Answers.{spot}
 use Rattle.netkat_parser.specs.Pairs.{pairs}
 use Rattle.netkat_parser.specs.Going.{Comes}
-use Rattle.netkat_parser.specs.Views.{view_of, first_reach, GivesWhole}
+use Rattle.netkat_parser.specs.Views.{View, view_of, first_reach, GivesWhole, Keeps}
 use Rattle.netkat_parser.specs.Standing.{Leaves, Advances}
-use Rattle.netkat_parser.specs.Readers.{IsOpen, IsFaulty, StandsBy, StandsFor, AnswersFor, Settles}
+use Rattle.netkat_parser.specs.Readers.{IsOpen, IsFaulty, StandsBy, StandsFor, EndsBy, EndsFor, AnswersFor, Settles}
 use Rattle.netkat_parser.proofs.Goes.{policy-of}
 
 -- ---- places
@@ -112,13 +112,24 @@ ends-open begin r text h = record {
   goes = λ rest o e k. h.goes rest o (λ z. absurd (let clash = z in cc)) k;
 }
 
-pub open-of : (begin : Place) (r : PolicyReader) (text : List ℕ) → r.fault ≡ None → StandsFor begin r text → IsOpen true begin r text
-open-of begin r text e h = ends-open begin r text (subst (λ f. StandsBy f begin r text) e h)
+ends-by : (g : Option ParseFault) (begin : Place) (r : PolicyReader) (text : List ℕ) → StandsBy g begin r text → EndsBy g begin r text
+ends-by None begin r text h = ends-open begin r text h
+ends-by (Some f) begin r text h = h
 
-pub faulty-of : (begin : Place) (r : PolicyReader) (text : List ℕ) (f : ParseFault) → r.fault ≡ Some f → StandsFor begin r text → HasFault begin text f
+pub ends-of : (begin : Place) (r : PolicyReader) (text : List ℕ) → StandsFor begin r text → EndsFor begin r text
+ends-of begin r text h = ends-by r.fault begin r text h
+
+pub open-of : (begin : Place) (r : PolicyReader) (text : List ℕ) → r.fault ≡ None → EndsFor begin r text → IsOpen true begin r text
+open-of begin r text e h = subst (λ f. EndsBy f begin r text) e h
+
+pub faulty-of : (begin : Place) (r : PolicyReader) (text : List ℕ) (f : ParseFault) → r.fault ≡ Some f → EndsFor begin r text → HasFault begin text f
 faulty-of begin r text f e h =
-    let k : IsFaulty begin text f = subst (λ g. StandsBy g begin r text) e h in
+    let k : IsFaulty begin text f = subst (λ g. EndsBy g begin r text) e h in
     subst (λ t. HasFault begin t f) (append-nil text) (k [])
+
+-- room that is made changes nothing of it
+pub given-still : (old new : View) (p : Term) → Keeps old new → GivesWhole new p → GivesWhole old p
+given-still old new p k g = λ x s t e. subst (λ ns. Comes x (spot t ns) (Read p (spot t ns))) k.1 (g x (k.0 x s) t e)
 
 pub whole-text : (begin : Place) (r : PolicyReader) (text : List ℕ) (p : Term) → Settles true begin text r (pause.Halt halt.Done) → GivesWhole (view_of r.reading) p → IsText text p
 whole-text begin r text p s g =

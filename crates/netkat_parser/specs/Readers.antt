@@ -1,5 +1,5 @@
 -- The text that a reader stands for.
-use Rattle.std.specs.Prelude.{◌≡◌, ⊤, ℕ, Bool, false, List, ◌++◌, Option, None, Some, Result, Ok, Err}
+use Rattle.std.specs.Prelude.{◌≡◌, ⊤, ℕ, Bool, true, false, List, ◌++◌, Option, None, Some, Result, Ok, Err}
 use Rattle.nk_syntax.specs.Terms.{Term}
 use Rattle.nk_syntax.specs.Views.{term_of}
 use Rattle.nk_syntax.specs.declared.pol.Pol.{Pol}
@@ -44,6 +44,14 @@ StandsBy (Some f) begin r text = IsFaulty begin text f
 -- followed by it.
 abbrev pub StandsFor : Place → PolicyReader → List ℕ → Type 0
 StandsFor begin r text = StandsBy r.fault begin r text
+
+abbrev pub EndsBy : Option ParseFault → Place → PolicyReader → List ℕ → Type 0
+EndsBy None begin r text = IsOpen true begin r text
+EndsBy (Some f) begin r text = IsFaulty begin text f
+
+-- The same of a reader of a whole text, behind which nothing follows.
+abbrev pub EndsFor : Place → PolicyReader → List ℕ → Type 0
+EndsFor begin r text = EndsBy r.fault begin r text
 
 -- the answer is the grammar's, unless memory ran out
 abbrev pub AnswersFor : Place → List ℕ → Result Pol ParseError → Type 0

@@ -1,9 +1,10 @@
 // A policy's text that comes in pieces.
 ghost use Rattle.std.specs.Prelude.{◌≡◌, ◌++◌, ℕ, false, List, [], OnOk, OnErr};
 ghost use Rattle.netkat_parser.specs.Places.{text_start};
-ghost use Rattle.netkat_parser.specs.Readers.{IsOpen, StandsFor, AnswersFor, Settles};
+ghost use Rattle.netkat_parser.specs.Readers.{IsOpen, StandsFor, EndsFor, AnswersFor, Settles};
 ghost use Rattle.netkat_parser.specs.Views.{view_of, IsWhole};
 ghost use Rattle.netkat_parser.specs.declared.fault.Place.{Place as Start};
+ghost use Rattle.netkat_parser.specs.declared.fault.ParseError.{ParseError as Error};
 ghost use Rattle.netkat_parser.specs.declared.advance.Pause.TheVariants as pause;
 ghost use Rattle.netkat_parser.specs.declared.reading.Halt.TheVariants as halt;
 
@@ -16,6 +17,7 @@ use bytes::BytesMut;
 use nk_syntax::Pol;
 use nk_values::TextFault;
 use std::alloc::{AllocError, Global};
+use std::mem;
 
 impl PolicyReader {
     /// Nothing was fed. The text begins at the first line and column.
@@ -63,18 +65,26 @@ impl PolicyReader {
     pub fn finish(self, alloc: Global) -> Result<Pol, ParseError>
         ensures { (begin : Start) (text : List ℕ) → StandsFor begin self text → AnswersFor begin text result }
     {
+        let mut reader = self;
+        reader.close(alloc)
+    }
+
+    /// The same, where nothing follows, of a reader that stays: where memory is wanting, it can be asked again.
+    pub fn close(&mut self, alloc: Global) -> Result<Pol, ParseError>
+        ensures answer { (begin : Start) (text : List ℕ) → EndsFor begin self.old text → AnswersFor begin text result }
+        ensures again { result ≡ Err Error.Memory → (begin : Start) (text : List ℕ) → EndsFor begin self.old text → EndsFor begin self.new text }
+    {
         if let Some(fault) = self.fault {
             return Err(ParseError::Fault(fault));
         }
-        let mut reader = self;
-        match reader.settle(alloc, true) {
-            Pause::Halt(Halt::Fault(fault)) => Err(ParseError::Fault(fault_at(
-                fault,
-                reader.place,
-            ))),
+        match self.settle(alloc, true) {
+            Pause::Halt(Halt::Fault(fault)) => {
+                Err(ParseError::Fault(fault_at(fault, self.place)))
+            }
             Pause::Halt(Halt::Done) => {
-                let PolicyReader { reading, .. } = reader;
-                Ok(reading.policy()?)
+                self.reading.reserve()?;
+                let none = Reading::new(alloc);
+                Ok(mem::replace(&mut self.reading, none).policy())
             }
             Pause::Halt(Halt::Memory) | Pause::Wait => Err(ParseError::Memory),
         }

@@ -1,9 +1,9 @@
 // Reading goes on from sign to sign.
-ghost use Rattle.std.specs.Prelude.{◌≡◌, ◌<◌, ◌≢◌, true, false, [], ◌∷◌, length, reverse, IfOk, vec_len, vec_capacity};
+ghost use Rattle.std.specs.Prelude.{◌≡◌, ◌<◌, ◌≢◌, true, false, [], ◌∷◌, length, reverse, OnOk, vec_len, vec_capacity};
 ghost use Rattle.netkat_parser.specs.declared.sign.Sign.TheVariants as to_sign;
 ghost use Rattle.netkat_parser.specs.declared.stage.Stage.TheVariants as stage;
 ghost use Rattle.netkat_parser.specs.declared.reading.Level.TheVariants as level;
-ghost use Rattle.netkat_parser.specs.Views.{view_of, at, within, first_reach, Shows, Moves, MovesOn, GoesOn, TakesRun, IsWhole, GivesWhole};
+ghost use Rattle.netkat_parser.specs.Views.{view_of, at, within, first_reach, Shows, Moves, MovesOn, GoesOn, TakesRun, IsWhole, GivesWhole, Keeps};
 ghost use Rattle.netkat_parser.specs.Showing.{HaveRoom};
 ghost use Rattle.nk_syntax.specs.Views.{term_of};
 ghost use Rattle.netkat_parser.specs.declared.sign.Sign.{Sign};
@@ -331,19 +331,24 @@ impl Reading {
         Ok(())
     }
 
-    /// The policy, where the whole text was read.
-    pub fn policy(self) -> Result<Pol, AllocError>
-        requires { IsWhole (view_of self) }
-        ensures { IfOk result (λ pol. GivesWhole (view_of self) (term_of pol)) }
+    /// Makes room for the policy. The state stays.
+    pub fn reserve(&mut self) -> Result<(), AllocError>
+        ensures room { OnOk result (HaveRoom self.new.chain) }
+        ensures keeps { Keeps (view_of self.old) (view_of self.new) }
+        ensures whole { IsWhole (view_of self.old) → IsWhole (view_of self.new) }
     {
-        let Reading {
-            stage,
-            mut chain,
-            ..
-        } = self;
-        chain.reserve()?;
+        self.chain.reserve()
+    }
+
+    /// The policy, where the whole text was read and there is room for it.
+    pub fn policy(self) -> Pol
+        requires whole { IsWhole (view_of self) }
+        requires room { HaveRoom self.chain }
+        ensures { GivesWhole (view_of self) (term_of result) }
+    {
+        let Reading { stage, chain, .. } = self;
         match stage {
-            Stage::Behind(pol, _) => Ok(chain.policy(pol)),
+            Stage::Behind(pol, _) => chain.policy(pol),
             _ => unreachable!(),
         }
     }

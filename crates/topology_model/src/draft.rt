@@ -1,5 +1,5 @@
 // A topology that grows line by line.
-ghost use Rattle.std.specs.Prelude.{◌≡◌, ◌&&◌, ◌||◌, ◌++◌, ◌∷◌, [], IsTrue, IfOk, IfErr, OnOk, Option, Some, None, option_map, not, map, filter};
+ghost use Rattle.std.specs.Prelude.{◌≡◌, ◌&&◌, ◌||◌, ◌++◌, ◌∷◌, [], IsTrue, IfOk, IfErr, OnOk, OnErr, Option, Some, None, option_map, not, map, filter};
 ghost use Rattle.std.specs.List.{flat_map};
 ghost use Rattle.topology_model.specs.Layouts.{place_of, place_in, has_switch, has_port, far_end, is_linked, is_edge, places_at, edges_of};
 ghost use Rattle.topology_model.specs.Lines.{has_repeat};
@@ -181,86 +181,126 @@ impl Draft {
         Ok(())
     }
 
-    /// With one more line. Each number of the line is in its range.
-    pub fn with(self, alloc: Global, line: &TopoLine) -> Result<Draft, LineError>
+    /// Takes one more line. Each number of the line is in its range. After an `Err` the lines are those that
+    /// there were.
+    pub fn add(&mut self, alloc: Global, line: &TopoLine) -> Result<(), LineError>
         requires { IsLineInRange line.now }
-        ensures line { IfOk result (λ d. d ≡ with_line self line.now) }
-        ensures faultless { OnOk result (line_fault self line.now ≡ None) }
-        ensures cause { IfErr result (IsLineCause self line.now) }
+        ensures line { OnOk result (self.new ≡ with_line self.old line.now) }
+        ensures faultless { OnOk result (line_fault self.old line.now ≡ None) }
+        ensures same { OnErr result (self.new ≡ self.old) }
+        ensures cause { IfErr result (IsLineCause self.old line.now) }
     {
         if let Some(fault) = self.fault(line) {
             return Err(LineError::Fault(fault));
         }
         match line {
-            TopoLine::Switch { sw, ports } => Ok(self.with_switch(alloc, *sw, ports)?),
-            TopoLine::Link { a, b } => Ok(self.with_link(*a, *b)?),
+            TopoLine::Switch { sw, ports } => self.add_switch(alloc, *sw, ports)?,
+            TopoLine::Link { a, b } => self.add_link(*a, *b)?,
         }
+        Ok(())
     }
 
-    // With one more switch.
-    fn with_switch(self, alloc: Global, sw: u16, ports: &Ports) -> Result<Draft, AllocError>
+    // Takes one more switch.
+    fn add_switch(&mut self, alloc: Global, sw: u16, ports: &Ports) -> Result<(), AllocError>
         requires in_range { IsLineInRange (TopoLine.Switch sw ports.now) }
-        requires faultless { line_fault self (TopoLine.Switch sw ports.now) ≡ None }
-        ensures { IfOk result (λ d. d ≡ with_line self (TopoLine.Switch sw ports.now)) }
+        requires faultless { line_fault self.old (TopoLine.Switch sw ports.now) ≡ None }
+        ensures ok { OnOk result (self.new ≡ with_line self.old (TopoLine.Switch sw ports.now)) }
+        ensures err { OnErr result (self.new ≡ self.old) }
     {
-        let Draft {
-            mut switches,
-            links,
-            mut places,
-            mut far_ends,
-        } = self;
-        put_edges(&mut far_ends, sw, ports.as_slice())?;
-        places.insert(sw, switches.len())?;
-        let ports = copied(alloc, ports)?;
-        switches.push(Site { sw, ports })?;
-        Ok(Draft {
-            switches,
-            links,
-            places,
-            far_ends,
-        })
+        let site = Site {
+            sw,
+            ports: copied(alloc, ports)?,
+        };
+        make_room(
+            &mut self.switches,
+            &mut self.places,
+            &mut self.far_ends,
+            ports.as_slice().len(),
+        )?;
+        put_place(&mut self.places, sw, self.switches.len());
+        put_edges(&mut self.far_ends, sw, ports.as_slice());
+        self.switches.push_reserved(site);
+        Ok(())
     }
 
-    // With one more link.
-    fn with_link(self, a: End, b: End) -> Result<Draft, AllocError>
+    // Takes one more link.
+    fn add_link(&mut self, a: End, b: End) -> Result<(), AllocError>
         requires in_range { IsLineInRange (TopoLine.Link a b) }
-        requires faultless { line_fault self (TopoLine.Link a b) ≡ None }
-        ensures { IfOk result (λ d. d ≡ with_line self (TopoLine.Link a b)) }
+        requires faultless { line_fault self.old (TopoLine.Link a b) ≡ None }
+        ensures ok { OnOk result (self.new ≡ with_line self.old (TopoLine.Link a b)) }
+        ensures err { OnErr result (self.new ≡ self.old) }
     {
-        let Draft {
-            switches,
-            mut links,
-            places,
-            mut far_ends,
-        } = self;
-        far_ends.insert(a, Some(b))?;
-        far_ends.insert(b, Some(a))?;
-        links.push((a, b))?;
-        Ok(Draft {
-            switches,
-            links,
-            places,
-            far_ends,
-        })
+        self.links.reserve(1)?;
+        join(&mut self.far_ends, a, b);
+        join(&mut self.far_ends, b, a);
+        self.links.push_reserved((a, b));
+        Ok(())
     }
 }
 
-ghost use Rattle.std.specs.Prelude.{ℕ, ◌==◌, if◌then◌else◌};
+ghost use Rattle.std.specs.Prelude.{ℕ, ◌<◌, ◌≤◌, ◌+◌, ◌==◌, length, nat_eq, vec_len, vec_capacity, if◌then◌else◌, IsTrue, is_some};
 ghost use Rattle.std.specs.List.{list_any};
-ghost use Rattle.topology_model.specs.Ends.{entry};
+ghost use Rattle.std.specs.HashMap.{get, spare};
+ghost use Rattle.topology_model.specs.Ends.{entry, same_end};
 
-// Puts the ports of a switch, with no link.
-fn put_edges(
+// Makes room for one more switch with so many ports. All stays as it is.
+fn make_room(
+    switches: &mut Vec<Site>,
+    places: &mut HashMap<u16, usize>,
     far_ends: &mut HashMap<End, Option<End>>,
-    sw: u16,
-    ports: &[u16],
+    ports: usize,
 ) -> Result<(), AllocError>
-    ensures { OnOk result ((e : ℕ × ℕ) → entry far_ends.new e ≡ (if sw == e.0 && list_any (λ n. n == e.1) ports.now then Some None else entry far_ends.old e)) }
+    ensures switches { switches.new.items ≡ switches.old.items }
+    ensures places { (q : ℕ) → get nat_eq places.new q ≡ get nat_eq places.old q }
+    ensures ends { (e : ℕ × ℕ) → entry far_ends.new e ≡ entry far_ends.old e }
+    ensures site { OnOk result (vec_len switches.new < vec_capacity switches.new) }
+    ensures place { OnOk result (0 < spare places.new) }
+    ensures edges { OnOk result (ports ≤ spare far_ends.new) }
+{
+    switches.reserve(1)?;
+    places.reserve(1)?;
+    far_ends.reserve(ports)
+}
+
+// Puts where a switch stands, for which there is room.
+fn put_place(places: &mut HashMap<u16, usize>, sw: u16, place: usize)
+    requires { 0 < spare places.old }
+    ensures { (q : ℕ) → get nat_eq places.new q ≡ (if nat_eq sw q then Some place else get nat_eq places.old q) }
+{
+    if let Err(_) = places.insert(sw, place) {
+        prove!(false);
+    }
+}
+
+// Puts the ports of a switch, with no link. There is room for them.
+fn put_edges(far_ends: &mut HashMap<End, Option<End>>, sw: u16, ports: &[u16])
+    requires { length ports.now ≤ spare far_ends.old }
+    ensures { (e : ℕ × ℕ) → entry far_ends.new e ≡ (if sw == e.0 && list_any (λ n. n == e.1) ports.now then Some None else entry far_ends.old e) }
 {
     for port in ports {
-        far_ends.insert((sw, *port), None)?;
+        put_edge(far_ends, (sw, *port));
     }
-    Ok(())
+}
+
+// Puts a port, with no link, for which there is room.
+fn put_edge(far_ends: &mut HashMap<End, Option<End>>, end: End)
+    requires { 0 < spare far_ends.old }
+    ensures edge { (e : ℕ × ℕ) → entry far_ends.new e ≡ (if same_end end e then Some None else entry far_ends.old e) }
+    ensures room { spare far_ends.old ≤ spare far_ends.new + 1 }
+{
+    if let Err(_) = far_ends.insert(end, None) {
+        prove!(false);
+    }
+}
+
+// Puts the far end of a port that is there.
+fn join(far_ends: &mut HashMap<End, Option<End>>, from: End, to: End)
+    requires { IsTrue (is_some (entry far_ends.old from)) }
+    ensures { (e : ℕ × ℕ) → entry far_ends.new e ≡ (if same_end from e then Some (Some to) else entry far_ends.old e) }
+{
+    if let Err(_) = far_ends.insert(from, Some(to)) {
+        prove!(false);
+    }
 }
 
 // The same ports.

@@ -214,10 +214,9 @@ fn draft_of(alloc: Global, lines: &[TopoLine]) -> Result<Draft, TopoError>
 {
     let mut draft = Draft::new(alloc);
     for (place, line) in lines.iter().enumerate() {
-        draft = match draft.with(alloc, line) {
-            Ok(draft) => draft,
-            Err(error) => return Err(error.at(place)),
-        };
+        if let Err(error) = draft.add(alloc, line) {
+            return Err(error.at(place));
+        }
     }
     Ok(draft)
 }

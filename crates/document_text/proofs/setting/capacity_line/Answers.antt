@@ -4,4 +4,4 @@ use Rattle.document_text.proofs.Settled.{in-range, unset-ok}
 use Rattle.document_text.proofs.setting.capacity_line.Goals as goal
 
 pub returns : goal.returns
-returns c = rw c.in_ok-capacity.ensures (unset-ok (state_of c.args.reader) _ _ _ _ _ c.is_some.ensures c.in_ok-unset.ensures.tests (in-range c.in_ok-capacity.capacity 200000 (omega arith) (omega arith)))
+returns c = rw c.in_ok-capacity.ensures (unset-ok (state_of c.args.reader.now) _ _ _ _ _ c.is_some.ensures c.in_ok-unset.ensures.tests (in-range c.in_ok-capacity.capacity 200000 (omega arith) (omega arith)))

@@ -6,5 +6,5 @@ use Rattle.document_text.proofs.setting.stamps_line.Goals as goal
 pub returns : goal.returns
 returns c =
     rw c.in_ok-low.ensures
-    (unset-ok-twice (state_of c.args.reader) _ _ _ _ _ _ _ c.is_some.ensures c.in_ok-unset.ensures.tests
+    (unset-ok-twice (state_of c.args.reader.now) _ _ _ _ _ _ _ c.is_some.ensures c.in_ok-unset.ensures.tests
     (stamps-in-range c.in_ok-low.low c.in_ok-low.high (omega arith) (omega arith) (omega arith)) (two-stamps c.in_ok-low.low c.in_ok-low.high c.if-low-high-2.false))

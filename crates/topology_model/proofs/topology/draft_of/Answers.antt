@@ -15,6 +15,6 @@ loop-place-preserved c =
     let l = c.index-lines-place.result in
     let i = c.loop-place.place in
     let at = found c.args.lines.now i l c.loop-place-test.true c.index-lines-place.is in (
-      c.in-Ok.ensures.line ∙ ap (λ (t : Layout). with_line t l) c.loop-place.invariant.0 ∙ sym (layout_next c.args.lines.now i l at),
-      below_more _ _ c.loop-place.invariant.1 (fault_next c.args.lines.now i c.loop-place.draft l at c.loop-place.invariant.0 ∙ c.in-Ok.ensures.faultless),
+      c.in_default.ensures.line ∙ ap (λ (t : Layout). with_line t l) c.loop-place.invariant.0 ∙ sym (layout_next c.args.lines.now i l at),
+      below_more _ _ c.loop-place.invariant.1 (fault_next c.args.lines.now i c.loop-place.draft l at c.loop-place.invariant.0 ∙ c.in_default.ensures.faultless),
     )

@@ -11,23 +11,23 @@ use Rattle.topology_model.specs.Wired.{IsSound}
 use Rattle.topology_model.specs.declared.line.TopoLine.TheVariants.{Link}
 use Rattle.topology_model.proofs.Refused.{new_link}
 use Rattle.topology_model.proofs.Linking.{live, far, sound}
-use Rattle.topology_model.proofs.draft.Draft.with_link.Goals as goal
+use Rattle.topology_model.proofs.draft.Draft.add_link.Goals as goal
 
-pub invariant_of-result : goal.invariant_of-result
-invariant_of-result c =
+pub invariant_of-self-2 : goal.invariant_of-self-2
+invariant_of-self-2 c =
     let a = c.args.a in
     let b = c.args.b in
     let t = layout c.self.inside in
     let old = c.self.invariant in
     let n = new_link t a b (subst (λ (x : Layout). line_fault x (Link a b) ≡ None) (sym c.self.view_is) c.requires.faultless) in
-    let links : t.links ++ (place_of a, place_of b) ∷ (place_of b, place_of a) ∷ [] ≡ flat_map both_ways c.push.new.self.items =
-    sym (ap (flat_map both_ways) c.in_ok-push.ensures.items ∙ flat_map-append both_ways c.self.inside.links.items ((a, b) ∷ [])) in
-    let ends : (e : ℕ × ℕ) → entry c.insert-2.new.self e ≡ cond (same_end b e) (Some (Some a)) (cond (same_end a e) (Some (Some b)) (entry c.self.inside.far_ends e)) =
-    λ e. c.in_ok-insert-2.ensures.updates.0 e ∙ ap (λ o. cond (same_end b e) (Some (Some a)) o) (c.in_ok-insert.ensures.updates.0 e) in
+    let links : t.links ++ (place_of a, place_of b) ∷ (place_of b, place_of a) ∷ [] ≡ flat_map both_ways c.push_reserved.new.self.items =
+    sym (ap (flat_map both_ways) (c.push_reserved.ensures.items ∙ ap (λ (ls : List ((ℕ × ℕ) × (ℕ × ℕ))). ls ++ (a, b) ∷ []) c.in_ok-reserve.ensures.items) ∙ flat_map-append both_ways c.self.inside.links.items ((a, b) ∷ [])) in
+    let ends : (e : ℕ × ℕ) → entry c.join-2.new.far_ends e ≡ cond (same_end b e) (Some (Some a)) (cond (same_end a e) (Some (Some b)) (entry c.self.inside.far_ends e)) =
+    λ e. c.join-2.ensures e ∙ ap (λ o. cond (same_end b e) (Some (Some a)) o) (c.join.ensures e) in
     record {
       places = old.places;
-      live = live t.switches a b (entry c.self.inside.far_ends) (entry c.insert-2.new.self) n.from n.to old.live ends;
-      far = subst (λ (ls : List (Place × Place)). (e : ℕ × ℕ) → option_map place_of (option_flatten (entry c.insert-2.new.self e)) ≡ far_end ls (place_of e)) links
-          (far t a b (entry c.self.inside.far_ends) (entry c.insert-2.new.self) n old.far ends);
+      live = live t.switches a b (entry c.self.inside.far_ends) (entry c.join-2.new.far_ends) n.from n.to old.live ends;
+      far = subst (λ (ls : List (Place × Place)). (e : ℕ × ℕ) → option_map place_of (option_flatten (entry c.join-2.new.far_ends e)) ≡ far_end ls (place_of e)) links
+          (far t a b (entry c.self.inside.far_ends) (entry c.join-2.new.far_ends) n old.far ends);
       sound = subst (λ (ls : List (Place × Place)). IsSound (record { switches = t.switches; links = ls })) links (sound t a b old.sound n);
     }
