@@ -4,6 +4,8 @@
 #[cfg(test)]
 mod made;
 #[cfg(test)]
+mod names;
+#[cfg(test)]
 mod nodes;
 #[cfg(test)]
 mod operations;
