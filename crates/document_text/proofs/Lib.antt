@@ -1,7 +1,9 @@
+pub mod Feeding
 pub mod Holding
 pub mod Limits
 pub mod Named
 pub mod Numerals
+pub mod Openings
 pub mod Pieces
 pub mod Ranged
 pub mod Readings

@@ -1,17 +1,11 @@
 -- Lines and words, one after another.
-use Rattle.std.proofs.Common.{◌≡◌, ℕ, zero, suc, ◌+◌, ◌<◌, ◌≤◌, Bool, true, false, ◌==◌, ◌&&◌, cond, List, [], ◌∷◌, ◌++◌, length, take, drop, drop-cons, get_or, filter, refl, sym, ap, ◌∙◌, subst, arith, add-one, append_assoc, ◌-◌, length-drop}
+use Rattle.std.proofs.Common.{◌≡◌, ℕ, zero, suc, ◌+◌, ◌<◌, ◌≤◌, Bool, true, false, ◌==◌, ◌&&◌, cond, List, [], ◌∷◌, ◌++◌, length, take, drop, filter, refl, sym, ap, ◌∙◌, subst, arith, add-one, append_assoc, ◌-◌, length-drop}
 use Rattle.std.specs.List.{position_or_len, prefix_len, list_all}
 use Rattle.std.specs.Prelude.{codes}
 use Rattle.std.specs.Str.{bytes_eq}
-use Rattle.std.proofs.lemmas.Bool.Decides.{Decides-eqb}
 use Rattle.std.proofs.lemmas.List.Recursion.{is_position_or_len}
 use Rattle.document_text.specs.States.{is_empty}
-use Rattle.document_text.specs.Texts.{in_front, lines_of, is_over, content, is_blank, pieces, is_filled, words_of, is_end}
-
--- how many bytes the first line has
-abbrev pub first_len : List ℕ → ℕ
-first_len [] = 0
-first_len (x ∷ xs) = cond (x == 10) 1 (suc (first_len xs))
+use Rattle.document_text.specs.Texts.{in_front, first_len, lines_of, is_over, content, is_blank, pieces, is_filled, words_of, is_end}
 
 -- how many bytes of a line count
 abbrev pub content_len : List ℕ → ℕ
@@ -51,15 +45,6 @@ pub lines-cut : (text : List ℕ) → 0 < length text → lines_of text ≡ take
 lines-cut [] h = absurd (omega arith)
 lines-cut (x ∷ xs) h = lines-by x xs (x == 10) (lines-cut xs)
 
-pub lines-at : (text : List ℕ) (n : ℕ) → n ≡ first_len text → 0 < length text → lines_of text ≡ take n text ∷ lines_of (drop n text)
-lines-at text n e h = subst (λ k. lines_of text ≡ take k text ∷ lines_of (drop k text)) (sym e) (lines-cut text h)
-
--- where the first LF stands, or none does
-pub first-here : (text : List ℕ) (i d : ℕ) → i < length text → get_or text i d ≡ 10 → first_len text ≡ i + first_len (drop i text) → i + 1 ≡ first_len text
-first-here text i d h g e =
-    let one : first_len (drop i text) ≡ 1 = ap first_len (drop-cons text i d h) ∙ ap (λ b. cond b 1 (suc (first_len (drop (suc i) text)))) ((Decides-eqb (get_or text i d) 10).1 g) in
-    omega (arith, one, e)
-
 first-within : (text : List ℕ) → first_len text ≤ length text
 first-within [] = omega arith
 first-within (x ∷ xs) = split (x == 10) (first-within xs)
@@ -67,9 +52,6 @@ first-within (x ∷ xs) = split (x == 10) (first-within xs)
     split : (b : Bool) → first_len xs ≤ length xs → cond b 1 (suc (first_len xs)) ≤ length (x ∷ xs)
     split true h = omega arith
     split false h = omega (arith, h)
-
-pub first-end : (text : List ℕ) (i : ℕ) → length text ≤ i → first_len text ≡ i + first_len (drop i text) → length text ≡ first_len text
-first-end text i h e = omega (arith, first-within text, e, h)
 
 -- what counts of a line, by its length
 pub content-take : (line : List ℕ) → content line ≡ take (content_len line) line
@@ -171,11 +153,11 @@ lead (x ∷ xs) = split (is_blank x) refl (lead xs)
     split true e h = let k : 1 + prefix_len is_blank xs ≡ suc (prefix_len is_blank xs) = omega arith in ap (λ n. filter is_filled (pieces (drop n (x ∷ xs)))) k ∙ h
     split false e h = ap (λ c. filter is_filled (cond c ([] ∷ pieces xs) (in_front x (pieces xs)))) e
 
-abbrev Starts : List ℕ → Type 0
+abbrev pub Starts : List ℕ → Type 0
 Starts [] = Unit {0}
 Starts (x ∷ xs) = is_blank x ≡ false
 
-start-of : (c : List ℕ) → Starts (drop (prefix_len is_blank c) c)
+pub start-of : (c : List ℕ) → Starts (drop (prefix_len is_blank c) c)
 start-of [] = tt
 start-of (x ∷ xs) = split (is_blank x) refl (start-of xs)
   where
@@ -214,7 +196,7 @@ and-true : (b : Bool) → (b && true) ≡ b
 and-true true = refl
 and-true false = refl
 
-and-false : (b : Bool) → (b && false) ≡ false
+pub and-false : (b : Bool) → (b && false) ≡ false
 and-false true = refl
 and-false false = refl
 
@@ -225,7 +207,7 @@ one-word w (y ∷ ys) = sym (and-false (bytes_eq w (codes "end")))
 keeps : (w : List ℕ) (ps : Lines) → is_filled w ≡ true → is_end (filter is_filled (w ∷ ps)) ≡ (bytes_eq w (codes "end") && is_empty (filter is_filled ps))
 keeps w ps e = ap (λ b. is_end (cond b (w ∷ filter is_filled ps) (filter is_filled ps))) e ∙ one-word w (filter is_filled ps)
 
-at-word : (x : ℕ) (xs : List ℕ) → is_blank x ≡ false → is_end (filter is_filled (pieces (x ∷ xs)))
+pub at-word : (x : ℕ) (xs : List ℕ) → is_blank x ≡ false → is_end (filter is_filled (pieces (x ∷ xs)))
     ≡ (bytes_eq (take (piece_len (x ∷ xs)) (x ∷ xs)) (codes "end") && list_all is_blank (drop (piece_len (x ∷ xs)) (x ∷ xs)))
 at-word x xs e =
     let r = first-piece (x ∷ xs) in

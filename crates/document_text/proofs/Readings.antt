@@ -11,11 +11,7 @@ use Rattle.document_text.specs.States.{start}
 use Rattle.document_text.specs.Texts.{lines_of}
 use Rattle.document_text.specs.Grammar.{Lines, IsFrom, IsReading, most_bytes, line_behind, cut_off, within_limit, refused_at}
 use Rattle.document_text.specs.Answers.{Answers, IsAnswer, Cuts, limit_at, doc_of}
-use Rattle.document_text.proofs.Pieces.{take-all}
 use Rattle.document_text.proofs.Unique.{reading-one}
-
-lines-whole : (m : ℕ) (text : List ℕ) (o : Outcome) → length text ≤ m → IsFrom (Lines start) 1 (lines_of text) o → IsFrom (Lines start) 1 (lines_of (take (m + 1) text)) o
-lines-whole m text o h k = subst (λ t. IsFrom (Lines start) 1 (lines_of t) o) (sym (take-all (m + 1) text (omega (arith, h)))) k
 
 le-true : (m n : ℕ) → m ≤ n → nat_le m n ≡ true
 le-true m n h = grind (arith, nat_tests)
@@ -30,9 +26,9 @@ within-large : (text : List ℕ) (o : Outcome) → most_bytes < length text → 
 within-large text o h = rw (le-false (length text) most_bytes h) refl
 
 pub reading-small : (text : List ℕ) (r : Result Document DocumentError) → length text ≤ most_bytes
-    → Answers (IsFrom (Lines start) 1 (lines_of text)) r → Answers (IsReading text) r
-reading-small text (Ok d) h k = (Accepted (doc_of d), lines-whole most_bytes text (Accepted (doc_of d)) h k, within-small text (Accepted (doc_of d)) h)
-reading-small text (Err (Fault f)) h k = (Refused f, lines-whole most_bytes text (Refused f) h k, within-small text (Refused f) h)
+    → Answers (IsFrom (Lines start) 1 (lines_of (take (most_bytes + 1) text))) r → Answers (IsReading text) r
+reading-small text (Ok d) h k = (Accepted (doc_of d), k, within-small text (Accepted (doc_of d)) h)
+reading-small text (Err (Fault f)) h k = (Refused f, k, within-small text (Refused f) h)
 reading-small text (Err Memory) h k = tt
 
 by-line : (n : ℕ) (f : DocFault) (b : Bool) → Refused (cond b f (limit_at n)) ≡ cond b (Refused f) (refused_at n Limit)

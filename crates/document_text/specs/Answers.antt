@@ -1,13 +1,11 @@
 -- What the answers of the reader stand for.
-use Rattle.std.specs.Prelude.{◌≡◌, ◌+◌, ⊤, ℕ, Bool, true, false, nat_lt, if◌then◌else◌, List, map, Option, Some, None, Result, Ok, Err}
+use Rattle.std.specs.Prelude.{◌≡◌, ⊤, ℕ, Bool, true, false, nat_lt, if◌then◌else◌, List, map, Option, Some, None, Result, Ok, Err}
 use Rattle.std.specs.Borrow.{Bor}
 use Rattle.nk_values.specs.declared.fault.TextFault.{TextFault}
 use Rattle.nk_values.specs.declared.fault.TextFault.TheVariants.{BadLine, Limit, NoEdge, ValueRange}
 use Rattle.nk_values.specs.Packets.{IsWellShaped}
-use Rattle.nk_syntax.specs.Terms.{Term}
 use Rattle.nk_syntax.specs.Views.{term_of}
 use Rattle.topology_model.specs.Layouts.{Layout}
-use Rattle.document_text.specs.declared.block.Block.{Block}
 use Rattle.document_text.specs.declared.document.Document.{Document}
 use Rattle.document_text.specs.Schedules.{at_switch}
 use Rattle.document_text.specs.declared.document.Event.{Event}
@@ -23,14 +21,9 @@ use Rattle.document_text.specs.declared.reader.Reader.{Reader}
 use Rattle.document_text.specs.declared.reader.Taken.{Taken}
 use Rattle.document_text.specs.declared.reader.Taken.TheVariants.{Line, Opening}
 use Rattle.document_text.specs.Documents.{Doc, Outcome, Accepted, Refused}
-use Rattle.document_text.specs.States.{State, with_policy}
+use Rattle.document_text.specs.States.{State}
 use Rattle.document_text.specs.Steps.{Step, Next, Enters, Opens, Stops}
-use Rattle.document_text.specs.Grammar as grammar
-use Rattle.netkat_parser.specs.declared.fault.ParseFault.{ParseFault}
-use Rattle.netkat_parser.specs.Grammar.{IsText}
-use Rattle.netkat_parser.specs.Places.{HasFault}
-use Rattle.document_text.specs.Grammar.{LacksEnd, IsFrom, IsReading, line_start, refused_in}
-use Rattle.document_text.specs.Texts.{lines_of}
+use Rattle.document_text.specs.Grammar.{LacksEnd}
 
 -- the words that references point to
 abbrev pub texts : List (Bor (List ℕ)) → List (List ℕ)
@@ -133,14 +126,6 @@ Gives o g (Ok u) = o ≡ Some g
 Gives o g (Err (stop.Fault f)) = (o ≡ None) × (f ≡ BadLine)
 Gives o g (Err stop.Memory) = ⊤
 
--- what the lines of a policy's block leave to show: that its text closes, or lacks its `end`
-abbrev pub RemainsBehind : State → ℕ → Outcome → ℕ → List ℕ → Option (Bor (List ℕ)) → Type 0
-RemainsBehind s begin o lines text (Some rest) = grammar.Closes (λ m. IsFrom m (begin + lines + 1) (lines_of rest.now) o) o s begin text
-RemainsBehind s begin o lines text None = LacksEnd (begin + lines) begin text o
-
-abbrev pub Remains : State → ℕ → Outcome → Block → Type 0
-Remains s begin o b = RemainsBehind s begin o b.lines b.text.now b.rest
-
 abbrev pub doc_of : Document → Doc
 doc_of d = record {
   layout = d.topology;
@@ -162,28 +147,10 @@ IsAnswer o (Ok d) = o ≡ Accepted (doc_of d)
 IsAnswer o (Err (document.Fault f)) = o ≡ Refused f
 IsAnswer o (Err document.Memory) = ⊤
 
--- one turn of the reader: what comes of the lines behind comes of those from here on
-abbrev pub Turns : Reader → ℕ → List ℕ → Result (Reader × ℕ × Bor (List ℕ)) DocumentError → Type 0
-Turns r n text (Ok x) = (o : Outcome) → IsFrom (grammar.Lines (state_of x.0)) x.1 (lines_of x.2.now) o → IsFrom (grammar.Lines (state_of r)) n (lines_of text) o
-Turns r n text (Err (document.Fault f)) = IsFrom (grammar.Lines (state_of r)) n (lines_of text) (Refused f)
-Turns r n text (Err document.Memory) = ⊤
-
--- the policy of a text stands behind the others, or the text has a fault, unless memory ran out
-abbrev pub AddsPolicy : State → ℕ → List ℕ → Result Reader DocumentError → Type 0
-AddsPolicy s begin text (Ok r) = (p : Term) × IsText text p × (state_of r ≡ with_policy s p)
-AddsPolicy s begin text (Err (document.Fault f)) = (g : ParseFault) × HasFault (line_start begin) text g × (Refused f ≡ refused_in g)
-AddsPolicy s begin text (Err document.Memory) = ⊤
-
 -- the text lacks its end, or has this fault before, unless memory ran out
 abbrev pub LacksAnswer : ℕ → ℕ → List ℕ → DocumentError → Type 0
 LacksAnswer n begin text (document.Fault f) = LacksEnd n begin text (Refused f)
 LacksAnswer n begin text document.Memory = ⊤
-
--- a policy's text, and what comes of the lines behind it
-abbrev pub Closes : State → ℕ → Block → Result (Reader × ℕ × Bor (List ℕ)) DocumentError → Type 0
-Closes s begin b (Ok x) = (o : Outcome) → IsFrom (grammar.Lines (state_of x.0)) x.1 (lines_of x.2.now) o → Remains s begin o b
-Closes s begin b (Err (document.Fault f)) = Remains s begin (Refused f) b
-Closes s begin b (Err document.Memory) = ⊤
 
 -- the fault of a text that has too many bytes, at the line of the first of these
 abbrev pub limit_at : ℕ → DocFault

@@ -1,5 +1,6 @@
 pub mod Answers
 pub mod Documents
+pub mod Feeding
 pub mod Grammar
 pub mod Laws
 pub mod Lines

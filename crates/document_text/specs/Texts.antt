@@ -1,5 +1,5 @@
 -- From bytes to lines, words and numbers.
-use Rattle.std.specs.Prelude.{ℕ, Bool, true, false, ◌==◌, ◌||◌, List, [], ◌∷◌, filter, codes, Option, Some, if◌then◌else◌, option_map, option_and_then}
+use Rattle.std.specs.Prelude.{ℕ, suc, Bool, true, false, ◌==◌, ◌||◌, List, [], ◌∷◌, filter, codes, Option, Some, if◌then◌else◌, option_map, option_and_then}
 use Rattle.std.specs.List.{before_first, after_first}
 use Rattle.std.specs.Str.{bytes_eq}
 use Rattle.netkat_parser.specs.Numbers as parser
@@ -13,6 +13,11 @@ in_front x (piece ∷ pieces) = (x ∷ piece) ∷ pieces
 abbrev pub lines_of : List ℕ → List (List ℕ)
 lines_of [] = []
 lines_of (x ∷ xs) = if x == 10 then (x ∷ []) ∷ lines_of xs else in_front x (lines_of xs)
+
+-- how many bytes the first line has
+abbrev pub first_len : List ℕ → ℕ
+first_len [] = 0
+first_len (x ∷ xs) = if x == 10 then 1 else suc (first_len xs)
 
 -- nothing of a line counts from here on: a comment, or its end, LF or CR and LF
 abbrev pub is_over : List ℕ → Bool

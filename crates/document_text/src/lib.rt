@@ -1,9 +1,12 @@
 //! Documents from their text: a topology, settings, policies, packets and a schedule.
 #![tactic(auto)]
 
-mod block;
+mod doc_reader;
 mod document;
+mod ending;
 mod fault;
+mod feed;
+mod going;
 mod head;
 mod laws;
 mod packet;
@@ -14,9 +17,9 @@ mod setting;
 mod take;
 mod told;
 mod topology;
-mod turn;
 mod words;
 
+pub use doc_reader::DocReader;
 pub use document::{Document, Event, PacketLine, ScheduleLine, Settings};
 pub use fault::{DocFault, DocumentError};
 pub use laws::{one_outcome, says_its_parts, within};

@@ -1,6 +1,8 @@
 // From bytes to lines, words and numbers.
-ghost use Rattle.std.specs.Prelude.{◌≡◌, ◌≤◌, ◌<◌, [], ◌∷◌, ◌++◌, length, take, drop, filter, IfOk};
-ghost use Rattle.document_text.specs.Texts.{lines_of, is_over, content, is_blank, is_filled, words_of, is_end, numeral, numerals, end_of};
+ghost use Rattle.std.specs.Prelude.{◌≡◌, ◌≢◌, ◌≤◌, ◌<◌, ℕ, false, List, [], ◌∷◌, ◌++◌, length, filter, IfOk, IfSome, IfNone};
+ghost use Rattle.std.specs.Bool.{OnTrue};
+ghost use Rattle.document_text.specs.Texts.{first_len, is_over, content, is_blank, is_filled, words_of, is_end, numeral, numerals, end_of};
+ghost use Rattle.document_text.specs.Feeding.{IsPiece, differs, is_other};
 ghost use Rattle.std.specs.List.{position_or_len, prefix_len, list_all};
 ghost use Rattle.document_text.specs.Answers.{texts, Forms};
 
@@ -10,18 +12,17 @@ use netkat_parser::{GREATEST, cut, numeral as parsed};
 use nk_values::TextFault;
 use std::alloc::{AllocError, Global};
 
-/// How many bytes the first line has, with the LF that ends it.
-pub fn first_len(text: &[u8]) -> usize
-    ensures first { 0 < length text.now → lines_of text.now ≡ take result text.now ∷ lines_of (drop result text.now) }
-    ensures some { 0 < length text.now → 0 < result }
-    ensures within { result ≤ length text.now }
+/// How many bytes the first line has, with the LF that ends it, or none where there is no LF.
+pub fn line_end(text: &[u8]) -> Option<usize>
+    ensures some { IfSome result (λ n. (0 < n) × (n ≤ length text.now) × ((rest : List ℕ) → first_len (text.now ++ rest) ≡ n)) }
+    ensures none { IfNone result (IsPiece text.now) }
 {
     for (i, byte) in text.iter().enumerate() {
         if *byte == b'\n' {
-            return i + 1;
+            return Some(i + 1);
         }
     }
-    text.len()
+    None
 }
 
 /// The words of a line.
@@ -130,6 +131,27 @@ pub fn is_end_line(line: &[u8]) -> bool
     let rest = &content[blank_len(content)..];
     let end = piece_len(rest);
     is_text(&rest[..end], "end") && are_blank(&rest[end..])
+}
+
+/// Whether a line that begins so has another word than `end`, however it goes on.
+pub fn is_no_end(text: &[u8]) -> bool
+    ensures { OnTrue result ((text.now ≢ []) × ((rest : List ℕ) → is_end (words_of (text.now ++ rest)) ≡ false)) }
+{
+    is_other(&text[blank_len(text)..])
+}
+
+// Whether some of the first three bytes is none of `end`.
+fn is_other(word: &[u8]) -> bool
+    ensures { result ≡ is_other word.now }
+{
+    differs(word, 0, b'e') || differs(word, 1, b'n') || differs(word, 2, b'd')
+}
+
+// Whether another byte than this one stands there.
+fn differs(word: &[u8], place: usize, byte: u8) -> bool
+    ensures { result ≡ differs word.now place byte }
+{
+    place < word.len() && word[place] != byte
 }
 
 /// The number that 1 to 10 decimal digits write.

@@ -1,0 +1,45 @@
+// What a reader of documents keeps.
+ghost use Rattle.std.specs.Prelude.{◌≤◌, ◌+◌, length};
+
+use crate::fault::DocFault;
+use crate::reader::Reader;
+use bytes::BytesMut;
+use netkat_parser::{Place, PolicyReader};
+
+/// Where reading stands: at a line of the document; at a line of a policy's text, which began at a line; inside of
+/// a line of one, which is not its `end` line; behind its `end` line, where the policy is still to be made; or behind
+/// the first fault.
+#[derive(Clone, Copy, Debug)]
+pub enum Spot {
+    Line,
+    Text(u64),
+    Inside(u64),
+    Closing(u64),
+    Refused(DocFault),
+}
+
+/// Reads a document that comes in pieces of any size. It keeps what was read as terms and lines, the bytes of the
+/// line or token that may go on, and the first fault. It does not keep the text.
+#[derive(Drop)]
+pub struct DocReader {
+    pub(crate) reader: Reader,
+    pub(crate) spot: Spot,
+    // The number of the line at the spot, or of the one inside of which it is.
+    pub(crate) line: u64,
+    // Of the policy in whose text the spot is, and the place behind what it was fed.
+    pub(crate) policy: PolicyReader,
+    pub(crate) behind: Place,
+    pub(crate) pending: BytesMut,
+    // How many bytes that count were fed, at most one more than a document has, and the number of the line of the
+    // byte behind those that a document may have.
+    pub(crate) fed: usize,
+    pub(crate) row: u64,
+    // With so many bytes pending they are gone through.
+    pub(crate) look: usize,
+    ghost few: { fed ≤ 4194305 },
+    ghost held: { length pending.items ≤ fed },
+    ghost rows: { row ≤ fed + 1 },
+    ghost lines: { line + length pending.items ≤ fed + 1 },
+    ghost place_lines: { behind.line + length pending.items ≤ fed + 1 },
+    ghost place_columns: { behind.column + length pending.items ≤ fed + 1 },
+}
