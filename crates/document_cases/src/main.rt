@@ -1,10 +1,11 @@
 //! Reads documents from standard input, each behind a line `== ..`, and prints that line and what the document
 //! says in short, or the line and the column of its first fault with the fault's number and name.
 //!
-//! The lines of a document are joined by LF, so the last one has none. `\r` stands for CR.
+//! The lines of a document are joined by LF, so the last one has none. `\r` stands for CR. What is printed of a document that
+//! comes byte by byte, and of one that is cut in two, at each place, has to be the same.
 #![tactic(auto)]
 
-use document_text::{Document, DocumentError, PacketLine, read_document};
+use document_text::{DocReader, Document, DocumentError, PacketLine, read_document};
 use nk_values::Field;
 use std::alloc::{AllocError, Global};
 use std::io;
@@ -16,15 +17,48 @@ fn main(rt: HostRuntime) -> io::Result<()> {
         if let Some((name, document)) = block.split_once("\n") {
             let document = document.strip_suffix("\n").unwrap_or(document);
             let bytes = document.replace(alloc, "\\r", "\r")?;
-            println!(rt; "== {name}\n{}", answer(alloc, &bytes)?)?;
+            let answer = answer(alloc, read_document(alloc, bytes.as_bytes()))?;
+            println!(rt; "== {name}\n{answer}")?;
+            if let Some(other) = cut_otherwise(alloc, bytes.as_bytes(), &answer)? {
+                println!(rt; "{other}")?;
+            }
         }
     }
     Ok(())
 }
 
+// What is answered otherwise to the document in pieces.
+fn cut_otherwise(
+    alloc: Global,
+    document: &[u8],
+    answer: &str,
+) -> Result<Option<String>, AllocError> {
+    for cut in 0..=document.len() {
+        let pieces = in_pieces(alloc, document, cut)?;
+        if pieces.as_str() != answer {
+            return Ok(Some(format!(in alloc; "cut at {cut}: {pieces}")?));
+        }
+    }
+    Ok(None)
+}
+
+// The answer to a document that is cut in two at a place, or that comes byte by byte where the place is its end.
+fn in_pieces(alloc: Global, document: &[u8], cut: usize) -> Result<String, AllocError> {
+    let mut reader = DocReader::new(alloc);
+    if cut < document.len() {
+        reader.feed(alloc, &document[..cut])?;
+        reader.feed(alloc, &document[cut..])?;
+    } else {
+        for i in 0..document.len() {
+            reader.feed(alloc, &document[i..i + 1])?;
+        }
+    }
+    answer(alloc, reader.finish(alloc))
+}
+
 // What a document says, or the place of its fault, its number and its name.
-fn answer(alloc: Global, document: &str) -> Result<String, AllocError> {
-    match read_document(alloc, document.as_bytes()) {
+fn answer(alloc: Global, read: Result<Document, DocumentError>) -> Result<String, AllocError> {
+    match read {
         Ok(document) => told(alloc, &document),
         Err(DocumentError::Fault(it)) => format!(in alloc;
             "{}:{} {}",

@@ -53,9 +53,9 @@ reaches-trans end a b c h k = record {
   fed = k.fed ∙ h.fed;
   row = k.row ∙ h.row;
   goes = λ front x.
-    let y = h.goes front x in
-    let z = k.goes y.0 y.1 in
-    (z.0, z.1, λ rest o e w. y.2 rest o e (z.2 rest o e w));
+      let y = h.goes front x in
+      let z = k.goes y.0 y.1 in
+      (z.0, z.1, λ rest o e w. y.2 rest o e (z.2 rest o e w));
 }
 
 module _ (end : Bool) (old new : DocReader) (f : new.fed ≡ old.fed) (r : new.row ≡ old.row) where
@@ -71,13 +71,13 @@ module _ (end : Bool) (old new : DocReader) (f : new.fed ≡ old.fed) (r : new.r
     fed = f;
     row = r;
     goes = λ front k.
-      let z = h front (subst (λ u. HoldsAt u old.policy old.behind front) a k) in (
-        z.0,
-        subst (λ u. HoldsAt u new.policy new.behind z.0) (sym b) z.1,
-        λ rest o m w.
-          subst (λ u. ComesAt u (state_of old.reader) old.line front (old.pending.items ++ rest) o) (sym a)
-          (z.2 rest o m (subst (λ (u : At). ComesAt u.0 u.1.0 u.1.1.0 z.0 (u.1.1.1 ++ rest) o) (λ i. (b i, (c i, (d i, e i)))) w)),
-      );
+        let z = h front (subst (λ u. HoldsAt u old.policy old.behind front) a k) in (
+          z.0,
+          subst (λ u. HoldsAt u new.policy new.behind z.0) (sym b) z.1,
+          λ rest o m w.
+              subst (λ u. ComesAt u (state_of old.reader) old.line front (old.pending.items ++ rest) o) (sym a)
+              (z.2 rest o m (subst (λ (u : At). ComesAt u.0 u.1.0 u.1.1.0 z.0 (u.1.1.1 ++ rest) o) (λ i. (b i, (c i, (d i, e i)))) w)),
+        );
   }
 
   -- ---- a line of the document
@@ -98,9 +98,13 @@ module _ (end : Bool) (old new : DocReader) (f : new.fed ≡ old.fed) (r : new.r
         → IsStop (step (state_of old.reader) old.line (words_of (take len old.pending.items))) t → Reaches end old new
     stop-reaches t b h =
         reaches-by spot.Line (spot.Refused (record { fault = t; line = old.line; column = 1 })) (state_of new.reader) new.line (drop len old.pending.items) a b refl refl q
-        (λ front k. ([], tt, λ rest o e w.
-          subst (λ x. IsFrom (Lines (state_of old.reader)) old.line (lines_of (old.pending.items ++ rest)) x) (sym w)
-          (line-stop end old.pending.items len some within first (state_of old.reader) old.line rest e t h)))
+        (λ front k. (
+          [],
+          tt,
+          λ rest o e w.
+              subst (λ x. IsFrom (Lines (state_of old.reader)) old.line (lines_of (old.pending.items ++ rest)) x) (sym w)
+              (line-stop end old.pending.items len some within first (state_of old.reader) old.line rest e t h),
+        ))
 
   -- ---- a line of a policy's text
 
@@ -109,23 +113,35 @@ module _ (end : Bool) (old new : DocReader) (f : new.fed ≡ old.fed) (r : new.r
         → old.spot ≡ spot.Text begin → new.spot ≡ spot.Closing begin → new.line ≡ old.line + 1 → Reaches end old new
     end-reaches p some within first last a b d =
         reaches-by (spot.Text begin) (spot.Closing begin) (state_of old.reader) (old.line + 1) (drop len old.pending.items) a b c d q
-        (λ front k. (front, subst (λ z. policy.EndsFor (line_start begin) z front) (sym p) (ends-of (line_start begin) old.policy front k.0), λ rest o e w.
-          text-end (state_of old.reader) begin old.line front o end old.pending.items len some within first rest e last w))
+        (λ front k. (
+          front,
+          subst (λ z. policy.EndsFor (line_start begin) z front) (sym p) (ends-of (line_start begin) old.policy front k.0),
+          λ rest o e w.
+              text-end (state_of old.reader) begin old.line front o end old.pending.items len some within first rest e last w,
+        ))
 
     module _ (g : (front : List ℕ) → StandsIn begin old.policy old.behind front → StandsIn begin new.policy new.behind (front ++ take len old.pending.items)) where
       pub text-reaches : 0 < len → len ≤ length old.pending.items → IsLine end old.pending.items len → is_end (words_of (take len old.pending.items)) ≡ false
           → old.spot ≡ spot.Text begin → new.spot ≡ spot.Text begin → new.line ≡ old.line + 1 → Reaches end old new
       text-reaches some within first other a b d =
           reaches-by (spot.Text begin) (spot.Text begin) (state_of old.reader) (old.line + 1) (drop len old.pending.items) a b c d q
-          (λ front k. (front ++ take len old.pending.items, g front k, λ rest o e w.
-            text-line (state_of old.reader) begin old.line front o end old.pending.items len some within first rest e other w))
+          (λ front k. (
+            front ++ take len old.pending.items,
+            g front k,
+            λ rest o e w.
+                text-line (state_of old.reader) begin old.line front o end old.pending.items len some within first rest e other w,
+          ))
 
       pub inside-reaches : 0 < len → len ≤ length old.pending.items → IsLine end old.pending.items len
           → old.spot ≡ spot.Inside begin → new.spot ≡ spot.Text begin → new.line ≡ old.line + 1 → Reaches end old new
       inside-reaches some within first a b d =
           reaches-by (spot.Inside begin) (spot.Text begin) (state_of old.reader) (old.line + 1) (drop len old.pending.items) a b c d q
-          (λ front k. (front ++ take len old.pending.items, g front k, λ rest o e w.
-            inside-line (state_of old.reader) begin old.line front o end old.pending.items len some within first rest e w))
+          (λ front k. (
+            front ++ take len old.pending.items,
+            g front k,
+            λ rest o e w.
+                inside-line (state_of old.reader) begin old.line front o end old.pending.items len some within first rest e w,
+          ))
 
       -- all that is pending
       module _ (all : len ≡ length old.pending.items) (d : new.line ≡ old.line) (b : new.spot ≡ spot.Inside begin) where
@@ -141,14 +157,22 @@ module _ (end : Bool) (old new : DocReader) (f : new.fed ≡ old.fed) (r : new.r
         pub text-piece-reaches : IsPiece old.pending.items → old.pending.items ≢ [] → ((more : List ℕ) → is_end (words_of (old.pending.items ++ more)) ≡ false) → old.spot ≡ spot.Text begin → Reaches end old new
         text-piece-reaches piece some other a =
             reaches-by (spot.Text begin) (spot.Inside begin) (state_of old.reader) old.line [] a b c d none
-            (λ front k. (front ++ old.pending.items, held front k, λ rest o e w.
-              text-piece (state_of old.reader) begin old.line front o old.pending.items piece rest some other w))
+            (λ front k. (
+              front ++ old.pending.items,
+              held front k,
+              λ rest o e w.
+                  text-piece (state_of old.reader) begin old.line front o old.pending.items piece rest some other w,
+            ))
 
         pub inside-piece-reaches : IsPiece old.pending.items → old.spot ≡ spot.Inside begin → Reaches end old new
         inside-piece-reaches piece a =
             reaches-by (spot.Inside begin) (spot.Inside begin) (state_of old.reader) old.line [] a b c d none
-            (λ front k. (front ++ old.pending.items, held front k, λ rest o e w.
-              inside-piece (state_of old.reader) begin old.line front o old.pending.items piece rest w))
+            (λ front k. (
+              front ++ old.pending.items,
+              held front k,
+              λ rest o e w.
+                  inside-piece (state_of old.reader) begin old.line front o old.pending.items piece rest w,
+            ))
 
   -- ---- a policy behind its `end` line
 
@@ -338,10 +362,10 @@ held-on old new text piece few shown few_is shown_is a b c d p q f r h =
       front = h.front;
       holds = subst (λ (u : Spot × (PolicyReader × Place)). HoldsAt u.0 u.1.0 u.1.1 h.front) (λ i. (sym b i, (sym d i, sym p i))) h.holds;
       goes = λ rest o e k.
-        subst (λ t. IsFrom (Lines start) 1 (lines_of t) o) (sym (append_assoc (counted text) few rest) ∙ ap (λ t. t ++ rest) (sym both))
-        (h.goes (few ++ rest) o (λ z. let clash : false ≡ true = z in cc)
-        (subst (λ t. ComesAt old.spot (state_of old.reader) old.line h.front t o) (append_assoc old.pending.items few rest)
-        (subst (λ (u : At). ComesAt u.0 u.1.0 u.1.1.0 h.front (u.1.1.1 ++ rest) o) (λ i. (b i, (state_of (a i), (c i, q i)))) k)));
+          subst (λ t. IsFrom (Lines start) 1 (lines_of t) o) (sym (append_assoc (counted text) few rest) ∙ ap (λ t. t ++ rest) (sym both))
+          (h.goes (few ++ rest) o (λ z. let clash : false ≡ true = z in cc)
+          (subst (λ t. ComesAt old.spot (state_of old.reader) old.line h.front t o) (append_assoc old.pending.items few rest)
+          (subst (λ (u : At). ComesAt u.0 u.1.0 u.1.1.0 h.front (u.1.1.1 ++ rest) o) (λ i. (b i, (state_of (a i), (c i, q i)))) k)));
     }
 
 -- a reader that holds no more

@@ -1,5 +1,5 @@
 // Documents: the most policies, and the most bytes.
-use document_text::{Document, DocumentError, read_document};
+use document_text::{DocReader, Document, DocumentError, read_document};
 use nk_values::{MOST_DOCUMENT_BYTES, TextFault};
 use std::alloc::{AllocError, Global};
 use std::test::Fail;
@@ -33,7 +33,7 @@ fn at_most_64_policies(rt: HostRuntime) -> Result<(), Fail> {
 }
 
 // A document of so many bytes: a comment, and a document of four lines behind it.
-fn long(alloc: Global, len: usize) -> Result<Option<(TextFault, u64)>, AllocError> {
+fn long(alloc: Global, len: usize) -> Result<Vec<u8>, AllocError> {
     let end = b"\nswitch 1 ports 1\npolicy\nskip\nend\n";
     let mut text = Vec::new(alloc);
     for _ in end.len()..len {
@@ -42,14 +42,32 @@ fn long(alloc: Global, len: usize) -> Result<Option<(TextFault, u64)>, AllocErro
     for byte in end {
         text.push(*byte)?;
     }
-    Ok(refused(read_document(alloc, &text)))
+    Ok(text)
+}
+
+// The fault of a document that comes in pieces of so many bytes, and its line.
+fn in_pieces(
+    alloc: Global,
+    text: &[u8],
+    most: usize,
+) -> Result<Option<(TextFault, u64)>, AllocError> {
+    let mut reader = DocReader::new(alloc);
+    for piece in text.chunks(most.max(1)) {
+        reader.feed(alloc, piece)?;
+    }
+    Ok(refused(reader.finish(alloc)))
 }
 
 #[test]
 fn at_most_so_many_bytes(rt: HostRuntime) -> Result<(), Fail> {
     let whole = long(rt.alloc(), MOST_DOCUMENT_BYTES)?;
-    assert_eq!(rt; whole, None);
+    assert_eq!(rt; refused(read_document(rt.alloc(), &whole)), None);
+    assert_eq!(rt; in_pieces(rt.alloc(), &whole, 1)?, None);
+    assert_eq!(rt; in_pieces(rt.alloc(), &whole, 4096)?, None);
     let more = long(rt.alloc(), MOST_DOCUMENT_BYTES + 1)?;
-    assert_eq!(rt; more, Some((TextFault::Limit, 5)));
+    let limit = Some((TextFault::Limit, 5));
+    assert_eq!(rt; refused(read_document(rt.alloc(), &more)), limit);
+    assert_eq!(rt; in_pieces(rt.alloc(), &more, 1)?, limit);
+    assert_eq!(rt; in_pieces(rt.alloc(), &more, 4096)?, limit);
     Ok(())
 }

@@ -12,5 +12,5 @@ returns-in-Err-Memory-clause-reaches c = λ end.
     let memory = c.in-Err-Memory.is ∙ ap Err c.in-Err-Memory.field-0-is in
     stays end old _ refl refl refl (ap (λ ps. record (state_of old.reader) { policies = map term_of ps }) c.in_ok-reserve.ensures.items) refl refl
     (λ front h.
-      subst (λ z. HoldsAt z c.close.new.self old.behind front) (sym c.requires.1)
-      (c.close.ensures.again memory (line_start c.requires.0) front (subst (λ z. HoldsAt z old.policy old.behind front) c.requires.1 h)))
+    subst (λ z. HoldsAt z c.close.new.self old.behind front) (sym c.requires.1)
+    (c.close.ensures.again memory (line_start c.requires.0) front (subst (λ z. HoldsAt z old.policy old.behind front) c.requires.1 h)))
