@@ -13,9 +13,9 @@ use Rattle.netkat_parser.specs.Cuts.{EndsAt}
 use Rattle.netkat_parser.specs.Grammar.{IsText}
 use Rattle.netkat_parser.specs.declared.fault.Place.{Place}
 use Rattle.netkat_parser.specs.declared.feeding.PolicyReader.{PolicyReader}
-use Rattle.netkat_parser.specs.Places.{HasFault, next_place, place_behind}
+use Rattle.netkat_parser.specs.Places.{HasFault, place_behind}
 use Rattle.netkat_parser.specs.Readers as policy
-use Rattle.netkat_parser.proofs.Standing.{ends-of, place-near}
+use Rattle.netkat_parser.proofs.Standing.{ends-of, place-near, place-append}
 use Rattle.document_text.specs.declared.doc_reader.DocReader.{DocReader}
 use Rattle.document_text.specs.declared.doc_reader.Spot.{Spot}
 use Rattle.document_text.specs.declared.doc_reader.Spot.TheVariants as spot
@@ -222,10 +222,6 @@ given-place p q xs ys n fed within e f l k =
     let front = length-take-le n xs within in
     let behind = ap length f ∙ length-drop n xs in
     (omega (arith, near.0, front, behind, ap (λ (z : Place). z.line) e, l, within), omega (arith, near.1, front, behind, ap (λ (z : Place). z.column) e, k, within))
-
-place-append : (p : Place) (xs ys : List ℕ) → place_behind p (xs ++ ys) ≡ place_behind (place_behind p xs) ys
-place-append p [] ys = refl
-place-append p (x ∷ xs) ys = place-append (next_place p x) xs ys
 
 pub gives-on : (begin : ℕ) (p q : PolicyReader) (at behind : Place) (front line : List ℕ) → (policy.StandsFor (line_start begin) p front → policy.StandsFor (line_start begin) q (front ++ line))
     → behind ≡ place_behind at line → StandsIn begin p at front → StandsIn begin q behind (front ++ line)

@@ -17,7 +17,7 @@ use std::alloc::Global;
 
 impl DocReader {
     /// What comes of all lines.
-    pub fn ended(self, alloc: Global) -> Result<Document, DocumentError>
+    pub(crate) fn ended(self, alloc: Global) -> Result<Document, DocumentError>
         requires { IsThrough self }
         ensures { (front : List ℕ) → Holds self front → Answers (λ o. Comes self front [] o) result }
     {

@@ -73,11 +73,11 @@ impl DocReader {
         ensures ok { OnOk result ((text : List ℕ) → StandsFor self.old text → StandsFor self.new (text ++ piece.now)) }
         ensures err { OnErr result ((text : List ℕ) → StandsFor self.old text → StandsFor self.new text) }
     {
-        let few = first(piece, MOST_DOCUMENT_BYTES + 1 - self.fed);
-        let shown = first(piece, MOST_DOCUMENT_BYTES.saturating_sub(self.fed));
-        self.pending.extend_from_slice(few)?;
-        self.fed += few.len();
-        self.row = line_behind(self.row, shown);
+        let counted = first(piece, MOST_DOCUMENT_BYTES + 1 - self.fed);
+        let allowed = first(piece, MOST_DOCUMENT_BYTES.saturating_sub(self.fed));
+        self.pending.extend_from_slice(counted)?;
+        self.fed += counted.len();
+        self.row = line_behind(self.row, allowed);
         Ok(())
     }
 

@@ -19,7 +19,7 @@ use std::alloc::{AllocError, Global};
 
 impl DocReader {
     /// Reads what is whole of what is pending. At the end a last line without LF is whole too.
-    pub fn settle(&mut self, alloc: Global, end: bool) -> Result<(), AllocError>
+    pub(crate) fn settle(&mut self, alloc: Global, end: bool) -> Result<(), AllocError>
         ensures reaches { Reaches end self.old self.new }
         ensures through { OnOk result (end ≡ true → IsThrough self.new) }
     {

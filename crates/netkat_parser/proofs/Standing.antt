@@ -53,7 +53,7 @@ place-bound p q xs ys zs n room most e f g l k =
     let column = ap (λ (z : Place). z.column) e in
     (omega (arith, near.0, parts, whole, rest, line, l), omega (arith, near.1, parts, whole, rest, column, k))
 
-place-append : (p : Place) (xs ys : List ℕ) → place_behind p (xs ++ ys) ≡ place_behind (place_behind p xs) ys
+pub place-append : (p : Place) (xs ys : List ℕ) → place_behind p (xs ++ ys) ≡ place_behind (place_behind p xs) ys
 place-append p [] ys = refl
 place-append p (x ∷ xs) ys = place-append (next_place p x) xs ys
 

@@ -8,6 +8,6 @@ returns-in_err-extend_from_slice-clause-err c =
 
 pub returns-clause-ok : goal.returns-clause-ok
 returns-clause-ok c = λ text h.
-    held-on c.args.self.now _ text c.args.piece.now c.first-few.result.now c.first-shown.result.now c.first-few.ensures
-    (c.first-shown.ensures ∙ ap (λ n. take n c.args.piece.now) c.saturating_sub.ensures) refl refl refl refl refl
+    held-on c.args.self.now _ text c.args.piece.now c.first-counted.result.now c.first-allowed.result.now c.first-counted.ensures
+    (c.first-allowed.ensures ∙ ap (λ n. take n c.args.piece.now) c.saturating_sub.ensures) refl refl refl refl refl
     c.in_ok-extend_from_slice.ensures.ok refl c.line_behind-self.ensures h
