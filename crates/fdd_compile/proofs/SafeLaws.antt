@@ -1,27 +1,27 @@
 -- Searches for breaches in diagrams of a store.
-use Rattle.std.specs.Prelude.{IfOk, IsTrue, ◌↔◌}
-use Rattle.std.proofs.Common.{◌≡◌, ℕ, ◌≤◌, inl, inr, refl, sym, ◌∙◌, subst, arith, Bool, true, false, cond, List, [], ◌∷◌, ◌++◌, length, Option, Some, None, Result, Ok, Err}
+use Rattle.std.specs.Prelude.{IfOk}
+use Rattle.std.proofs.Common.{◌≡◌, ℕ, ◌≤◌, inl, inr, refl, sym, subst, arith, Bool, true, false, cond, List, [], ◌∷◌, ◌++◌, length, Option, Some, None, Result, Ok, Err}
 use Rattle.std.proofs.lemmas.Bool.{false≢true, eqb-true, or_cases}
 use Rattle.std.specs.List.{list_any}
 use Rattle.indexmap.specs.IndexSet.{insert_key}
-use Rattle.nk_values.specs.declared.field.Field.{Field}
 use Rattle.nk_values.specs.declared.packet.Packet.{Packet}
 use Rattle.nk_values.specs.declared.lit.Lit.{Lit}
-use Rattle.nk_values.specs.Lits.{lit_field, lit_value}
 use Rattle.nk_values.specs.Members.{IsIn}
 use Rattle.nk_syntax.specs.Terms.{Term}
 use Rattle.fdd_nodes.specs.Names.{literals, distinct}
-use Rattle.fdd_nodes.specs.Trees.{Tree}
+use Rattle.fdd_nodes.specs.Trees.{Tree, Node}
 use Rattle.fdd_nodes.proofs.NameLaws.{named}
 use Rattle.fdd_differ.specs.declared.frame.Frame.{Frame}
-use Rattle.fdd_differ.specs.Frames.{Leaves, frame_cell}
+use Rattle.fdd_differ.specs.Frames.{frame_cell}
 use Rattle.fdd_differ.specs.Unnamed.{AreFewNames, IsFreshOf}
 use Rattle.fdd_store.specs.contracts.id.IdPartialEq.TheImpl as id_impl
 use Rattle.fdd_store.proofs.StoreLaws.{all_more}
-use Rattle.fdd_compile.specs.Breaches.{IsSafe, Breaches, TellsBreach}
+use Rattle.fdd_compile.specs.declared.guarded.Sides.TheVariants.{Else}
+use Rattle.fdd_compile.specs.Breaches.{IsSafe, Breaches, LeadTo, TellsBreach}
 use Rattle.fdd_compile.specs.Gains.{Gains}
 use Rattle.fdd_compile.specs.Named.{AreFewNamed, TermNames}
 use Rattle.fdd_compile.specs.Results.{DiagramOf}
+use Rattle.fdd_compile.proofs.BreachLaws.{safe_barred, safe_no, breaches_else, breaches_no}
 use Rattle.fdd_compile.proofs.GainLaws.{list_of_few}
 use Rattle.fdd_compile.proofs.NamedLaws.{distinct_length}
 
@@ -50,11 +50,15 @@ told_on k a n b (Ok None) e h f g = subst (λ (x : Tree). IsSafe k (frame_cell k
 told_on k a n b (Ok (Some q)) e h f g = subst (λ (x : Tree). Breaches k (frame_cell k) x q) (sym e) (g q h)
 told_on k a n b (Err w) e h f g = tt
 
-pub leaves_it : (k : Frame) (l : Lit) (f : Field) (n : ℕ) (b : Bool) → f ≡ lit_field l → n ≡ lit_value l → IsTrue b ↔ Leaves k f n → b ≡ true → Leaves k (lit_field l) (lit_value l)
-leaves_it k l f n b ef en h e = subst (λ (g : Field). Leaves k g (lit_value l)) ef (subst (Leaves k f) en (h.0 e))
+-- where packets of the kind do not hold the literal
 
-pub leaves_none : (k : Frame) (l : Lit) (f : Field) (n : ℕ) (b : Bool) → f ≡ lit_field l → n ≡ lit_value l → IsTrue b ↔ Leaves k f n → b ≡ false → ¬ Leaves k (lit_field l) (lit_value l)
-leaves_none k l f n b ef en h e w = false≢true (sym e ∙ h.1 (subst (λ (g : Field). Leaves k g n) (sym ef) (subst (Leaves k (lit_field l)) (sym en) w)))
+pub safe_past : (k : Frame) (l : Lit) (t e : Tree) → LeadTo k l Else → IsSafe k (frame_cell k) e → IsSafe k (frame_cell k) (Node l t e)
+safe_past k l t e (inl b) h = safe_no k (frame_cell k) l t e b h
+safe_past k l t e (inr w) h = safe_barred k (frame_cell k) l t e w.1 h
+
+pub breaches_past : (k : Frame) (l : Lit) (t e : Tree) (q : Packet) → LeadTo k l Else → Breaches k (frame_cell k) e q → Breaches k (frame_cell k) (Node l t e) q
+breaches_past k l t e q (inl b) h = breaches_no k (frame_cell k) l t e q b h
+breaches_past k l t e q (inr w) h = breaches_else k (frame_cell k) l t e q w.0 h
 
 -- what a policy names
 

@@ -3,7 +3,7 @@ ghost use Rattle.std.specs.Prelude.{◌≡◌, ◌↔◌, IsTrue, IfOk, OnOk, Ma
 ghost use Rattle.nk_values.specs.declared.packet.Packet.{Packet};
 ghost use Rattle.nk_syntax.specs.Views.{term_of};
 ghost use Rattle.fdd_compile.specs.Guarded.{IsUnguardedAt, KeepsTypes};
-ghost use Rattle.fdd_compile.specs.Breaches.{SetsLacking, CopySetsLacking, AreSafe, TellsBreach, HasNoBreach, IsBreach};
+ghost use Rattle.fdd_compile.specs.Breaches.{SetsLacking, CopySetsLacking, AreSafe, LeadTo, TellsBreach, HasNoBreach, IsBreach};
 ghost use Rattle.fdd_compile.specs.Named.{AreFewNamed, TermNames};
 ghost use Rattle.fdd_compile.specs.Results.{DiagramOf};
 ghost use Rattle.fdd_store.specs.Stores.{Has, tree_at};
@@ -52,8 +52,7 @@ fn unguarded_in(
     requires diagram { DiagramOf (term_of pol.now) (tree_at store.now a) }
     ensures { IfOk result (λ o. MatchOption o (HasNoBreach frame (tree_at store.now a)) (IsBreach frame (tree_at store.now a))) }
 {
-    let mut safe = IndexSet::new(alloc);
-    match breach(store, frame, &mut safe, a)? {
+    match breach_in(alloc, store, frame, a)? {
         None => Ok(None),
         Some(cell) => {
             let names = names_of(alloc, pol)?;
@@ -62,8 +61,16 @@ fn unguarded_in(
     }
 }
 
-// A cell of a kind whose packets a diagram gives a field that the kind lacks. Diagrams that were found to have none are
-// kept, so a shared one is searched once.
+// A cell of a kind whose packets a diagram gives a field that the kind lacks.
+fn breach_in(alloc: Global, store: &Store, frame: Frame, a: Id) -> Result<Option<Cell>, AllocError>
+    requires { Has store.now a }
+    ensures { IfOk result (TellsBreach frame (tree_at store.now a)) }
+{
+    let mut safe = IndexSet::new(alloc);
+    breach(store, frame, &mut safe, a)
+}
+
+// The same, where diagrams that were found to have no such cell are kept, so that a shared one is searched once.
 #[cycle(breach)]
 fn breach(
     store: &Store,
@@ -108,19 +115,33 @@ fn breach_anew(
                 Ok(None)
             }
         }
-        Look::Fork(l, t, e) => match frame.cell().knows(&l) {
-            Known::Yes => breach(store, frame, safe, t),
-            Known::No => breach(store, frame, safe, e),
-            Known::Open => {
-                if !frame.leaves(l.field(), l.value()) {
-                    return breach(store, frame, safe, e);
-                }
-                match breach(store, frame, safe, t)? {
-                    Some(inner) => Ok(Some(inner.with(&l))),
-                    None => breach(store, frame, safe, e),
-                }
-            }
+        Look::Fork(l, t, e) => match sides_of(frame, &l) {
+            Sides::Then => breach(store, frame, safe, t),
+            Sides::Else => breach(store, frame, safe, e),
+            Sides::Both => match breach(store, frame, safe, t)? {
+                Some(inner) => Ok(Some(inner.with(&l))),
+                None => breach(store, frame, safe, e),
+            },
         },
+    }
+}
+
+// To which branches of a test the packets of a kind come.
+#[derive(Clone, Copy)]
+enum Sides {
+    Then,
+    Else,
+    Both,
+}
+
+fn sides_of(frame: Frame, l: &Lit) -> Sides
+    ensures { LeadTo frame l.now result }
+{
+    match frame.cell().knows(l) {
+        Known::Yes => Sides::Then,
+        Known::No => Sides::Else,
+        Known::Open if frame.leaves(l.field(), l.value()) => Sides::Both,
+        Known::Open => Sides::Else,
     }
 }
 

@@ -3,5 +3,6 @@
 
 mod ops;
 mod parts;
+mod within;
 
 pub use ops::{assign, choice, cofactor, negate, one, sequence, test, union, zero};

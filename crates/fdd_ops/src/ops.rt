@@ -8,6 +8,7 @@ ghost use Rattle.fdd_nodes.specs.Trees as trees;
 ghost use Rattle.fdd_store.specs.Operations.{IsPredicate, OneOf, ZeroOf, TestOf, AssignmentOf, UnionOf, ChoiceOf, SequenceOf, NegationOf, CofactorOf};
 
 use crate::parts::{is_field_from, part_of};
+use crate::within;
 use fdd_nodes::{Assignments, Fdd, Leaf, Node};
 use fdd_store::Store;
 use nk_values::Lit;
@@ -54,10 +55,7 @@ pub fn union(alloc: Global, a: &Fdd, b: &Fdd) -> Result<Fdd, AllocError>
     ensures { IfOk result (λ r. UnionOf (tree_of a.now) (tree_of b.now) (tree_of r)) }
 {
     let mut store = Store::new(alloc);
-    let x = store.intern(alloc, a)?;
-    let y = store.intern(alloc, b)?;
-    let r = store.union(alloc, x, y)?;
-    store.tree(alloc, r)
+    within::union(alloc, &mut store, a, b)
 }
 
 /// The diagram that tests a literal (ICFP 2015, section 3): the first diagram where it holds, and else the second.
@@ -69,10 +67,7 @@ pub fn choice(alloc: Global, l: Lit, a: &Fdd, b: Fdd) -> Result<Fdd, AllocError>
     ensures { IfOk result (λ r. ChoiceOf l (tree_of a.now) (tree_of b) (tree_of r)) }
 {
     let mut store = Store::new(alloc);
-    let x = store.intern(alloc, a)?;
-    let y = store.intern(alloc, &b)?;
-    let r = store.choice(alloc, l, x, y)?;
-    store.tree(alloc, r)
+    within::choice(alloc, &mut store, l, a, &b)
 }
 
 /// The sequence `a; b`.
@@ -81,10 +76,7 @@ pub fn sequence(alloc: Global, a: &Fdd, b: &Fdd) -> Result<Fdd, AllocError>
     ensures { IfOk result (λ r. SequenceOf (tree_of a.now) (tree_of b.now) (tree_of r)) }
 {
     let mut store = Store::new(alloc);
-    let x = store.intern(alloc, a)?;
-    let y = store.intern(alloc, b)?;
-    let r = store.sequence(alloc, x, y)?;
-    store.tree(alloc, r)
+    within::sequence(alloc, &mut store, a, b)
 }
 
 /// The negation `not a` of a diagram that keeps packets or drops them.
@@ -93,9 +85,7 @@ pub fn negate(alloc: Global, a: &Fdd) -> Result<Fdd, AllocError>
     ensures { IfOk result (λ r. NegationOf (tree_of a.now) (tree_of r)) }
 {
     let mut store = Store::new(alloc);
-    let x = store.intern(alloc, a)?;
-    let r = store.negate(alloc, x)?;
-    store.tree(alloc, r)
+    within::negate(alloc, &mut store, a)
 }
 
 /// The diagram where a literal holds.
@@ -107,7 +97,5 @@ pub fn cofactor(alloc: Global, a: &Fdd, l: Lit) -> Result<Fdd, AllocError>
         return Ok(Fdd::new(part));
     }
     let mut store = Store::new(alloc);
-    let x = store.intern(alloc, a)?;
-    let r = store.cofactor(alloc, x, l)?;
-    store.tree(alloc, r)
+    within::cofactor(alloc, &mut store, a, l)
 }

@@ -46,6 +46,27 @@ build-returns-in_ok-sequence_of_all-in-Seq t c = record {
   built = gives_as _ _ _ _ (λ x u. built_seq c.builds-in-Seq.new.store _ c.in-Seq.pols _ _ x c.in-Seq.is c.deref-in-Seq.ensures.value (flat_seq _ _ c.in-Seq.is c.requires.flat) c.in_ok-parts-in-Seq.ensures.built u) c.in_ok-sequence_of_all-in-Seq.ensures.place;
 }
 
+pub build-returns-in_err-filter-in-Filter-clause-grows : goal.build-returns-in_err-filter-in-Filter-clause-grows
+build-returns-in_err-filter-in-Filter-clause-grows t c = c.filter.ensures.grows
+
+pub build-returns-in_err-assign-in-Assign-clause-grows : goal.build-returns-in_err-assign-in-Assign-clause-grows
+build-returns-in_err-assign-in-Assign-clause-grows t c = c.assign.ensures.grows
+
+pub build-returns-in_err-parts-in-Sum-clause-grows : goal.build-returns-in_err-parts-in-Sum-clause-grows
+build-returns-in_err-parts-in-Sum-clause-grows t c = c.builds.ensures.grows
+
+pub build-returns-in_err-parts-in-Seq-clause-grows : goal.build-returns-in_err-parts-in-Seq-clause-grows
+build-returns-in_err-parts-in-Seq-clause-grows t c = c.builds-in-Seq.ensures.grows
+
+pub build-returns-in_err-union_of_all-in-Sum-clause-grows : goal.build-returns-in_err-union_of_all-in-Sum-clause-grows
+build-returns-in_err-union_of_all-in-Sum-clause-grows t c = grows_on _ _ _ c.builds.ensures.grows c.union_of_all.ensures.grows
+
+pub build-returns-in_err-sequence_of_all-in-Seq-clause-grows : goal.build-returns-in_err-sequence_of_all-in-Seq-clause-grows
+build-returns-in_err-sequence_of_all-in-Seq-clause-grows t c = grows_on _ _ _ c.builds-in-Seq.ensures.grows c.sequence_of_all.ensures.grows
+
+pub build-returns-in_err-part-in-Star-clause-grows : goal.build-returns-in_err-part-in-Star-clause-grows
+build-returns-in_err-part-in-Star-clause-grows t c = c.build.ensures.grows
+
 pub build-returns-in_ok-filter-in-Filter : goal.build-returns-in_ok-filter-in-Filter
 build-returns-in_ok-filter-in-Filter t c = record {
   grows = c.in_ok-filter-in-Filter.ensures.grows;
@@ -82,6 +103,12 @@ builds-build-requires t c = (
     item_named c.args.pols.now _ _ _ c.deref-pol-items.ensures.value c.loop-pol-test.true c.pol-item.is c.requires.few,
   ),
 )
+
+pub builds-returns-in_err-part-clause-grows : goal.builds-returns-in_err-part-clause-grows
+builds-returns-in_err-part-clause-grows t c = grows_on _ _ _ c.loop-pol.invariant.grows c.build.ensures.grows
+
+pub builds-returns-in-Err-clause-grows : goal.builds-returns-in-Err-clause-grows
+builds-returns-in-Err-clause-grows t c = grows_on _ _ _ c.loop-pol.invariant.grows c.build.ensures.grows
 
 pub builds-loop-pol-preserved : goal.builds-loop-pol-preserved
 builds-loop-pol-preserved t c =

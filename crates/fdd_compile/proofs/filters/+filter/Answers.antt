@@ -46,6 +46,15 @@ filter-returns-in_ok-parts-in-And t c = record {
       if_ok c.sequence_of_all.result _ _ c.sequence_of_all.ensures.place (λ r g. gives_as _ r _ _ (λ x u. is_and _ _ x c.in-And.is (filter_and _ _ x h u)) g);
 }
 
+pub filter-returns-in_err-parts-in-Or-clause-grows : goal.filter-returns-in_err-parts-in-Or-clause-grows
+filter-returns-in_err-parts-in-Or-clause-grows t c = c.filters.ensures.grows
+
+pub filter-returns-in_err-parts-in-And-clause-grows : goal.filter-returns-in_err-parts-in-And-clause-grows
+filter-returns-in_err-parts-in-And-clause-grows t c = c.filters-in-And.ensures.grows
+
+pub filter-returns-in_err-part-in-Not-clause-grows : goal.filter-returns-in_err-part-in-Not-clause-grows
+filter-returns-in_err-part-in-Not-clause-grows t c = c.filter.ensures.grows
+
 pub filter-negate-requires-clause-few : goal.filter-negate-requires-clause-few
 filter-negate-requires-clause-few t c =
     let h = subst (λ (a : Pred). FilterOf (guard_of a) (tree_at c.filter.new.store c.in_ok-part-in-Not.part)) c.deref-in-Not.ensures c.in_ok-part-in-Not.ensures.place.is in
@@ -64,6 +73,12 @@ filters-filter-requires t c = (
   omega (arith, item_weight c.args.preds.now _ _ _ c.deref-pred-items.ensures.value c.loop-pred-test.true c.pred-item.is),
   item_few c.args.preds.now _ _ _ c.deref-pred-items.ensures.value c.loop-pred-test.true c.pred-item.is c.requires,
 )
+
+pub filters-returns-in_err-filter-clause-grows : goal.filters-returns-in_err-filter-clause-grows
+filters-returns-in_err-filter-clause-grows t c = grows_on _ _ _ c.loop-pred.invariant.2 c.filter.ensures.grows
+
+pub filters-returns-in_err-push-clause-grows : goal.filters-returns-in_err-push-clause-grows
+filters-returns-in_err-push-clause-grows t c = grows_on _ _ _ c.loop-pred.invariant.2 c.filter.ensures.grows
 
 pub filters-loop-pred-preserved : goal.filters-loop-pred-preserved
 filters-loop-pred-preserved t c =

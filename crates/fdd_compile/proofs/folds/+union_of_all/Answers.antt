@@ -4,7 +4,7 @@ use Rattle.fdd_compile.specs.Folds.{AreSmall, UnionOfAll}
 use Rattle.fdd_compile.proofs.FoldLaws.{one_held, shorter, front_held, front_small, back_held, back_small, union_one, union_few, union_whole}
 use Rattle.fdd_store.specs.Stores.{tree_at}
 use Rattle.fdd_store.proofs.ForkLaws.{if_ok}
-use Rattle.fdd_store.proofs.StoreLaws.{gives_as}
+use Rattle.fdd_store.proofs.StoreLaws.{gives_as, grows_on}
 use Rattle.fdd_compile.proofs.folds.+union_of_all.Goals as goal
 
 pub each_is_made-requires : goal.each_is_made-requires
@@ -49,3 +49,12 @@ returns-in_ok-right-in_default-clause-place t c =
     if_ok c.union.result _ _ c.union.ensures.place (λ r g. gives_as _ r _ _ (λ x w.
     union_whole c.args.store.now _ _ _ _ c.split_at.ensures.front c.split_at.ensures.back c.requires.held c.requires.small _ c.in_ok-left-in_default.ensures.grows _ c.in_ok-right-in_default.ensures.grows _ _
     c.in_ok-left-in_default.ensures.place c.in_ok-right-in_default.ensures.place x w) g)
+
+pub returns-in_err-left-in_default-clause-grows : goal.returns-in_err-left-in_default-clause-grows
+returns-in_err-left-in_default-clause-grows t c = c.in_err-left-in_default.ensures.grows
+
+pub returns-in_err-right-in_default-clause-grows : goal.returns-in_err-right-in_default-clause-grows
+returns-in_err-right-in_default-clause-grows t c = grows_on _ _ _ c.in_ok-left-in_default.ensures.grows c.in_err-right-in_default.ensures.grows
+
+pub returns-in_ok-right-in_default-clause-grows : goal.returns-in_ok-right-in_default-clause-grows
+returns-in_ok-right-in_default-clause-grows t c = grows_on _ _ _ c.in_ok-left-in_default.ensures.grows (grows_on _ _ _ c.in_ok-right-in_default.ensures.grows c.union.ensures.grows)

@@ -3,16 +3,16 @@ use Rattle.fdd_nodes.specs.Fdds.{tree_of}
 use Rattle.fdd_nodes.proofs.MakesLaws.{if_ok}
 use Rattle.fdd_store.specs.Operations.{SequenceOf}
 use Rattle.fdd_ops.proofs.OperationLaws as laws
-use Rattle.fdd_ops.proofs.ops.sequence.Goals as goal
+use Rattle.fdd_ops.proofs.within.sequence.Goals as goal
 
 pub sequence-requires-clause-few : goal.sequence-requires-clause-few
-sequence-requires-clause-few c = laws.few_both _ _ _ _ _ _ c.in_ok-y.ensures.grows c.in_ok-x.ensures.place c.in_ok-y.ensures.place c.requires
+sequence-requires-clause-few c = laws.few_both _ _ _ _ c.in_ok-x.ensures.first.is c.in_ok-x.ensures.second.is c.requires
 
 pub tree-requires-clause-few : goal.tree-requires-clause-few
 tree-requires-clause-few c =
-    laws.sequence_few _ _ _ c.requires (laws.sequence _ _ _ _ _ _ c.in_ok-y.ensures.grows c.in_ok-x.ensures.place c.in_ok-y.ensures.place _ c.in_ok-r.ensures.place.is)
+    laws.sequence_few _ _ _ c.requires (laws.sequence _ _ _ _ c.in_ok-x.ensures.first.is c.in_ok-x.ensures.second.is _ c.in_ok-r.ensures.place.is)
 
 pub returns : goal.returns
 returns c =
-    let law = laws.sequence _ _ _ _ _ _ c.in_ok-y.ensures.grows c.in_ok-x.ensures.place c.in_ok-y.ensures.place _ c.in_ok-r.ensures.place.is in
+    let law = laws.sequence _ _ _ _ c.in_ok-x.ensures.first.is c.in_ok-x.ensures.second.is _ c.in_ok-r.ensures.place.is in
     if_ok c.tree.result _ _ c.tree.ensures (λ r e. subst (SequenceOf (tree_of c.args.a.now) (tree_of c.args.b.now)) (sym e) law)
