@@ -1,8 +1,7 @@
--- What is kept by packets.
+-- What is kept by keys.
 use Rattle.std.specs.Prelude.{List, [], ◌∷◌}
-use Rattle.nk_values.specs.declared.packet.Packet.{Packet}
 
--- what is kept for each packet is right for it
-abbrev pub EachIs : {V : Type 0} → (Packet → V → Type 0) → List (Packet × V) → Type 0
+-- what is kept for each key is right for it
+abbrev pub EachIs : {K V : Type 0} → (K → V → Type 0) → List (K × V) → Type 0
 EachIs P [] = Unit {0}
 EachIs P (e ∷ es) = P e.0 e.1 × EachIs P es

@@ -3,9 +3,10 @@
 
 mod fault;
 mod parts;
+mod passing;
 mod reach;
 mod repetition;
 mod visits;
 
 pub use fault::{StarError, StarFault};
-pub use repetition::star;
+pub use passing::star;

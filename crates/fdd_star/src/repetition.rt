@@ -8,7 +8,7 @@ ghost use Rattle.fdd_nodes.specs.Trees.{tree};
 ghost use Rattle.fdd_star.specs.Asks.{AreVisits, GoOn};
 ghost use Rattle.fdd_star.specs.Parts.{AreParts};
 ghost use Rattle.fdd_star.specs.Reaches.{StarBut};
-ghost use Rattle.fdd_star.specs.Stars.{StarOf, IsErrorOf, IsShallow};
+ghost use Rattle.fdd_star.specs.Stars.{StarOf, IsErrorOf};
 ghost use Rattle.fdd_store.specs.Stores.{Has, Grows, Gives, tree_at};
 
 use crate::fault::StarError;
@@ -19,18 +19,17 @@ use fdd_nodes::{Assignments, Cell, Fdd, Leaf};
 use fdd_store::{Id, Store};
 use std::alloc::{AllocError, Global};
 
-/// The star `p*` of a diagram of a store: what any number of turns give.
+/// The star of a diagram of a store, cell by cell.
 ///
 /// From the packet of a cell, which holds what is fixed and nothing that the diagram names elsewhere, the turns are made
 /// one by one, each on what the one before added. Each test that is asked of a field left open parts the cell; what any
 /// number of turns give where it holds is found once, also where other orders of tests lead to the same cell. 512 turns
 /// are made at most; where one more would add something, the fault has a packet and an output that show it.
-pub fn star(alloc: Global, store: &mut Store, p: Id) -> Result<Id, StarError>
+pub(crate) fn star_of_cells(alloc: Global, store: &mut Store, p: Id) -> Result<Id, StarError>
     requires has { Has store.old p }
     requires few { IsFew (tree_at store.old p) }
     ensures grows { Grows store.old store.new }
     ensures star { MatchResult result (λ r. Gives store.new r (StarOf (tree_at store.old p))) (λ e. IsErrorOf (tree_at store.old p) e) }
-    ensures never_deep { OnOk result (IsShallow (tree_at store.old p)) }
 {
     let body = store.tree(alloc, p)?;
     let mut visits = Visits::new(alloc, body.root());

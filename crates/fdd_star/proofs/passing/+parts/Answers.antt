@@ -1,0 +1,92 @@
+use Rattle.std.specs.Prelude.{IfSome}
+use Rattle.std.proofs.Common.{ℕ, Bor, Option, ap, arith, sym, subst}
+use Rattle.fdd_nodes.specs.Names.{IsFew}
+use Rattle.fdd_store.specs.Stores.{tree_at}
+use Rattle.fdd_store.proofs.ForkLaws.{level, fall_then, fall_else}
+use Rattle.fdd_store.proofs.StoreLaws.{gives_as, grows_on, has_grown, tree_grown}
+use Rattle.fdd_star.specs.Passing.{IsStar, AreStars}
+use Rattle.fdd_star.proofs.KeptLaws.{found_right, right_added}
+use Rattle.fdd_star.proofs.PassingLaws.{id_eq, same_id, few_then, few_else, few_passed, star_of_passed, star_kept, stars_grown, on_each, told_ok}
+use Rattle.fdd_star.proofs.passing.+parts.Goals as goal
+
+pub star_anew-star_at-requires : goal.star_anew-star_at-requires
+star_anew-star_at-requires t c =
+    let k = c.args.store.now in
+    let f = c.in-Fork.ensures.look in
+    let few = few_then c.in-Fork.test (tree_at k c.in-Fork.yes) (tree_at k c.in-Fork.no) (subst IsFew f.is c.requires.few) in (
+      let w = fall_then k c.in-Fork.test _ _ _ _ f c.in-Fork.ensures.made in omega (arith, w),
+      (f.has_then, (few, c.requires.stars)),
+    )
+
+pub star_anew-star_at-requires-in-Fork : goal.star_anew-star_at-requires-in-Fork
+star_anew-star_at-requires-in-Fork t c =
+    let k = c.args.store.now in
+    let f = c.in-Fork.ensures.look in
+    let g = c.in_ok-part-in-Fork.ensures.grows in
+    let e = tree_grown _ _ _ g f.has_else in
+    let few = few_else c.in-Fork.test (tree_at k c.in-Fork.yes) (tree_at k c.in-Fork.no) (subst IsFew f.is c.requires.few) in (
+      let w = fall_else k c.in-Fork.test _ _ _ _ f c.in-Fork.ensures.made in omega (arith, w, ap level e),
+      (has_grown _ _ _ g f.has_else, (subst IsFew (sym e) few, c.in_ok-part-in-Fork.ensures.stars)),
+    )
+
+pub star_anew-choice-requires-clause-has_a : goal.star_anew-choice-requires-clause-has_a
+star_anew-choice-requires-clause-has_a t c = has_grown _ _ _ c.in_ok-rest-in-Fork.ensures.grows c.in_ok-part-in-Fork.ensures.star.has
+
+pub star_anew-choice-requires-clause-has_b : goal.star_anew-choice-requires-clause-has_b
+star_anew-choice-requires-clause-has_b t c = c.in_ok-rest-in-Fork.ensures.star.has
+
+pub star_anew-choice-requires-clause-few : goal.star_anew-choice-requires-clause-few
+star_anew-choice-requires-clause-few t c =
+    few_passed _ _ _ c.args.p _ _ _ _ c.in-Fork.test c.in-Fork.ensures.look (c.passes.ensures.0 c.if-passes.true) c.in_ok-part-in-Fork.ensures.grows c.in_ok-rest-in-Fork.ensures.grows c.in_ok-part-in-Fork.ensures.star c.in_ok-rest-in-Fork.ensures.star c.requires.few
+
+pub star_anew-returns-in_err-part-in-Fork-clause-grows : goal.star_anew-returns-in_err-part-in-Fork-clause-grows
+star_anew-returns-in_err-part-in-Fork-clause-grows t c = c.in_err-part-in-Fork.ensures.grows
+
+pub star_anew-returns-in_err-rest-in-Fork-clause-grows : goal.star_anew-returns-in_err-rest-in-Fork-clause-grows
+star_anew-returns-in_err-rest-in-Fork-clause-grows t c = grows_on _ _ _ c.in_ok-part-in-Fork.ensures.grows c.in_err-rest-in-Fork.ensures.grows
+
+pub star_anew-returns-in_err-choice-in-Fork-clause-grows : goal.star_anew-returns-in_err-choice-in-Fork-clause-grows
+star_anew-returns-in_err-choice-in-Fork-clause-grows t c =
+    grows_on _ _ _ c.in_ok-part-in-Fork.ensures.grows (grows_on _ _ _ c.in_ok-rest-in-Fork.ensures.grows c.in_err-choice-in-Fork.ensures.grows)
+
+pub star_anew-returns-in_ok-choice-in-Fork : goal.star_anew-returns-in_ok-choice-in-Fork
+star_anew-returns-in_ok-choice-in-Fork t c = record {
+  grows = grows_on _ _ _ c.in_ok-part-in-Fork.ensures.grows (grows_on _ _ _ c.in_ok-rest-in-Fork.ensures.grows c.in_ok-choice-in-Fork.ensures.grows);
+  stars = stars_grown _ _ _ c.in_ok-choice-in-Fork.ensures.grows c.in_ok-rest-in-Fork.ensures.stars;
+  star = gives_as _ _ _ _ (λ r w. star_of_passed _ _ _ c.args.p _ _ _ _ c.in-Fork.test c.in-Fork.ensures.look (c.passes.ensures.0 c.if-passes.true) c.in_ok-part-in-Fork.ensures.grows c.in_ok-rest-in-Fork.ensures.grows c.in_ok-part-in-Fork.ensures.star c.in_ok-rest-in-Fork.ensures.star r w) c.in_ok-choice-in-Fork.ensures.place;
+}
+
+pub star_anew-returns-in_default-clause-grows : goal.star_anew-returns-in_default-clause-grows
+star_anew-returns-in_default-clause-grows t c = c.star_of_cells.ensures.grows
+
+pub star_anew-returns-in_default-clause-star : goal.star_anew-returns-in_default-clause-star
+star_anew-returns-in_default-clause-star t c = told_ok c.star_of_cells.result _ _ c.star_of_cells.ensures.star
+
+pub star_anew-returns-in_default-clause-stars : goal.star_anew-returns-in_default-clause-stars
+star_anew-returns-in_default-clause-stars t c = on_each c.star_of_cells.result _ (stars_grown _ _ _ c.star_of_cells.ensures.grows c.requires.stars)
+
+pub star_at-returns-in-Some-clause-star : goal.star_at-returns-in-Some-clause-star
+star_at-returns-in-Some-clause-star t c =
+    let k = c.args.store.now in
+    (subst (λ (o : Option (Bor ℕ)). IfSome o (λ v. IsStar k c.args.p v.now)) c.in-Some.is (found_right id_eq same_id (IsStar k) _ _ _ c.requires.stars c.get.ensures.value)).1
+
+pub star_at-star_anew-requires : goal.star_at-star_anew-requires
+star_at-star_anew-requires t c = (omega arith, (c.requires.has, (c.requires.few, c.requires.stars)))
+
+pub star_at-returns-in_err-all-clause-grows : goal.star_at-returns-in_err-all-clause-grows
+star_at-returns-in_err-all-clause-grows t c = c.in_err-all.ensures.grows
+
+pub star_at-returns-in-Err-clause-grows : goal.star_at-returns-in-Err-clause-grows
+star_at-returns-in-Err-clause-grows t c = c.in_ok-all.ensures.grows
+
+pub star_at-returns-clause-grows : goal.star_at-returns-clause-grows
+star_at-returns-clause-grows t c = c.in_ok-all.ensures.grows
+
+pub star_at-returns-clause-star : goal.star_at-returns-clause-star
+star_at-returns-clause-star t c = c.in_ok-all.ensures.star
+
+pub star_at-returns-clause-stars : goal.star_at-returns-clause-stars
+star_at-returns-clause-stars t c =
+    let k = c.star_anew.new.store in
+    subst (AreStars k) (sym c.in_default-insert.ensures.entries)
+    (right_added id_eq same_id (IsStar k) _ _ _ c.in_ok-all.ensures.stars (star_kept _ _ _ _ c.in_ok-all.ensures.grows c.requires.has c.in_ok-all.ensures.star))

@@ -1,0 +1,105 @@
+// The star of a diagram, part by part: no turn changes a field that the diagram never sets.
+ghost use Rattle.std.specs.Prelude.{◌↔◌, IsTrue, MatchResult, IfOk, OnOk};
+ghost use Rattle.fdd_nodes.specs.Names.{IsFew};
+ghost use Rattle.fdd_star.specs.Passing.{AreStars, Passes};
+ghost use Rattle.fdd_star.specs.Stars.{StarOf, IsErrorOf, IsShallow};
+ghost use Rattle.fdd_store.specs.Stores.{Has, Grows, Gives, tree_at};
+
+use crate::fault::StarError;
+use crate::repetition::star_of_cells;
+use fdd_store::{Id, Look, Store};
+use indexmap::IndexMap;
+use std::alloc::{AllocError, Global};
+
+/// The star `p*` of a diagram of a store: what any number of turns give.
+///
+/// Where the first test is of a field that the diagram never sets, it stays, over the stars of both branches. What else
+/// there is is taken cell by cell. 512 turns are made at most; where one more would add something, the fault has a packet
+/// and an output that show it.
+pub fn star(alloc: Global, store: &mut Store, p: Id) -> Result<Id, StarError>
+    requires has { Has store.old p }
+    requires few { IsFew (tree_at store.old p) }
+    ensures grows { Grows store.old store.new }
+    ensures star { MatchResult result (λ r. Gives store.new r (StarOf (tree_at store.old p))) (λ e. IsErrorOf (tree_at store.old p) e) }
+    ensures never_deep { OnOk result (IsShallow (tree_at store.old p)) }
+{
+    if !passes(store, p) {
+        return star_of_cells(alloc, store, p);
+    }
+    match star_of_parts(alloc, store, p) {
+        Ok(all) => Ok(all),
+        Err(StarError::Memory) => Err(StarError::Memory),
+        Err(StarError::Fault(_)) => star_of_cells(alloc, store, p),
+    }
+}
+
+// The star, where no part is deep. The fault of a part need not be one of the whole.
+fn star_of_parts(alloc: Global, store: &mut Store, p: Id) -> Result<Id, StarError>
+    requires has { Has store.old p }
+    requires few { IsFew (tree_at store.old p) }
+    ensures grows { Grows store.old store.new }
+    ensures star { IfOk result (λ r. Gives store.new r (StarOf (tree_at store.old p))) }
+{
+    let mut stars = IndexMap::new(alloc);
+    star_at(alloc, store, &mut stars, p)
+}
+
+// The star of a part, kept or found anew.
+#[cycle(parts)]
+fn star_at(
+    alloc: Global,
+    store: &mut Store,
+    stars: &mut IndexMap<Id, Id>,
+    p: Id,
+) -> Result<Id, StarError>
+    requires has { Has store.old p }
+    requires few { IsFew (tree_at store.old p) }
+    requires stars { AreStars store.old stars.old.entries }
+    ensures grows { Grows store.old store.new }
+    ensures stars { OnOk result (AreStars store.new stars.new.entries) }
+    ensures star { IfOk result (λ r. Gives store.new r (StarOf (tree_at store.old p))) }
+{
+    if let Some(known) = stars.get(&p) {
+        return Ok(*known);
+    }
+    let all = star_anew(alloc, store, stars, p)?;
+    if let Err(full) = stars.insert(p, all) {
+        return Err(AllocError::from(full).into());
+    }
+    Ok(all)
+}
+
+#[cycle(parts)]
+fn star_anew(
+    alloc: Global,
+    store: &mut Store,
+    stars: &mut IndexMap<Id, Id>,
+    p: Id,
+) -> Result<Id, StarError>
+    requires has { Has store.old p }
+    requires few { IsFew (tree_at store.old p) }
+    requires stars { AreStars store.old stars.old.entries }
+    ensures grows { Grows store.old store.new }
+    ensures stars { OnOk result (AreStars store.new stars.new.entries) }
+    ensures star { IfOk result (λ r. Gives store.new r (StarOf (tree_at store.old p))) }
+{
+    match store.look(p) {
+        Look::Fork(test, yes, no) if passes(store, p) => {
+            let part = star_at(alloc, store, stars, yes)?;
+            let rest = star_at(alloc, store, stars, no)?;
+            Ok(store.choice(alloc, test, part, rest)?)
+        }
+        _ => star_of_cells(alloc, store, p),
+    }
+}
+
+// Whether a diagram begins with a test of a field that it never sets.
+fn passes(store: &Store, p: Id) -> bool
+    requires { Has store.now p }
+    ensures { IsTrue result ↔ Passes (tree_at store.now p) }
+{
+    match store.look(p) {
+        Look::Leaf => false,
+        Look::Fork(test, _, _) => !store.sets(p, test.field()),
+    }
+}
