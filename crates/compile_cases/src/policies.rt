@@ -43,13 +43,13 @@ fn assigned(pol: &Pol, packet: &Packet) -> Packet {
     }
 }
 
-/// The text of the star of some steps.
-pub fn steps(alloc: Global, count: u64) -> Result<String, AllocError> {
+/// The text of the star of some steps, each behind a guard.
+pub fn steps(alloc: Global, count: u64, guard: &str) -> Result<String, AllocError> {
     let mut text = String::from_str(alloc, "(drop")?;
     for i in 0..count {
         let from = i.saturating_add(1);
         let to = i.saturating_add(2);
-        text.push_str(&format!(in alloc; " + ethDst={from}; ethDst:={to}")?)?;
+        text.push_str(&format!(in alloc; " + {guard}; ethDst={from}; ethDst:={to}")?)?;
     }
     text.push_str(")*")?;
     Ok(text)

@@ -69,6 +69,7 @@ fn star_at(
     Ok(all)
 }
 
+// It found anew: behind the first test, if that passes, and else cell by cell.
 #[cycle(parts)]
 fn star_anew(
     alloc: Global,
