@@ -57,12 +57,11 @@ fn star_in(
     ensures star { MatchResult result (λ r. Gives store.new r (StarBut (tree_of p.now) cell.now [])) (λ e. IsErrorOf (tree_of p.now) e) }
 {
     let Reach {
-        mut copies,
+        copies,
         mut asked,
         ..
     } = Reach::of(alloc, p, visits, cell)?;
-    copies.sort_unstable();
-    let leaf = gathered(alloc, &copies)?;
+    let leaf = gathered(alloc, copies)?;
     let mut all = store.put_leaf(alloc, leaf)?;
     while let Some(l) = asked.pop_last() {
         let part = part_in(alloc, store, p, visits, parts, cell, &cell.with(&l))?;
@@ -99,13 +98,14 @@ fn part_in(
     Ok(part)
 }
 
-// The leaf of some copies. It takes little time where they rise.
-fn gathered(alloc: Global, copies: &[Assignments]) -> Result<Leaf, AllocError>
-    ensures { IfOk result (λ r. SameMembers r copies.now) }
+// The leaf of some copies. They are sorted first, since it takes little time where they rise.
+fn gathered(alloc: Global, mut copies: Vec<Assignments>) -> Result<Leaf, AllocError>
+    ensures { IfOk result (λ r. SameMembers r copies.items) }
 {
+    copies.sort_unstable();
     let mut leaf = Leaf::empty(alloc);
     for copy in copies {
-        leaf.put(copy.copy(alloc)?)?;
+        leaf.put(copy)?;
     }
     Ok(leaf)
 }

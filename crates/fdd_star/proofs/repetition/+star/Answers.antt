@@ -1,31 +1,24 @@
-use Rattle.std.proofs.Common.{◌≡◌, List, [], sym, ap, subst, arith, ◌∙◌}
+use Rattle.std.proofs.Common.{List, [], sym, ap, subst, arith, ◌∙◌}
 use Rattle.std.proofs.lemmas.Bool.{false≢true}
-use Rattle.std.specs.List.Sorted.{IsPermutation}
 use Rattle.nk_values.specs.declared.packet.Packet.{Packet}
 use Rattle.nk_values.specs.declared.lit.Lit.{Lit}
 use Rattle.nk_values.specs.Lits.{lit_field}
-use Rattle.nk_values.specs.Members.{SameMembers}
 use Rattle.fdd_nodes.specs.Cells.{IsValid, IsOpen}
 use Rattle.fdd_nodes.specs.Fdds.{tree_of}
-use Rattle.fdd_nodes.specs.Trees.{Tree, Leaf, Tests}
+use Rattle.fdd_nodes.specs.Trees.{Tests}
 use Rattle.fdd_nodes.proofs.CellLaws.{valid_with}
 use Rattle.fdd_nodes.proofs.OpenLaws.{open_fields, fewer_open}
-use Rattle.fdd_star.specs.declared.reach.Reach.{Reach}
-use Rattle.fdd_star.specs.Reaches.{copies_of, asked_of, IsClosed, StarBut}
-use Rattle.fdd_star.proofs.StarLaws.{star_leaf, star_more, choice_few, same_sorted, fewer_left, last_of, none_left}
+use Rattle.fdd_star.specs.Reaches.{StarBut}
+use Rattle.fdd_star.proofs.StarLaws.{star_leaf, star_more, choice_few, fewer_left, last_of, none_left}
 use Rattle.fdd_star.proofs.PartLaws.{parts_grown}
 use Rattle.fdd_store.specs.Stores.{Gives, tree_at}
 use Rattle.fdd_store.proofs.StoreLaws.{gives_as, gives_grown, grows_on}
 use Rattle.fdd_star.proofs.repetition.+star.Goals as goal
 
--- the leaf of the sorted copies
-leaf_of : (p : Tree) (c : Packet) (r : Reach) (ys zs : List (List Lit)) (leaf : List (List Lit)) → IsClosed p c r → IsPermutation (copies_of r) ys → zs ≡ ys → SameMembers leaf zs → StarBut p c (asked_of r) (Leaf leaf)
-leaf_of p c r ys zs leaf h perm e s = star_leaf p c r leaf h (same_sorted _ _ _ perm (subst (SameMembers leaf) e s))
-
 pub star_in-loop-l-init : goal.star_in-loop-l-init
 star_in-loop-l-init t c = (
   gives_as _ _ _ _ (λ x e. subst (StarBut (tree_of c.args.p.now) c.args.cell.now c.in_ok-copies.field-0.asked.keys) (sym e)
-      (leaf_of _ _ _ _ _ _ c.in_ok-copies.ensures.reach c.sort_unstable.ensures.permutation c.deref.ensures.value c.in_ok-leaf.ensures)) c.in_ok-all.ensures.place,
+      (star_leaf _ _ _ _ c.in_ok-copies.ensures.reach c.in_ok-leaf.ensures)) c.in_ok-all.ensures.place,
   c.in_ok-copies.ensures.reach.is_open,
   c.in_ok-copies.ensures.reach.tests,
   c.in_ok-copies.ensures.visits,

@@ -1,6 +1,5 @@
-use Rattle.std.proofs.Common.{take}
 use Rattle.nk_values.specs.Members.{SameMembers}
 use Rattle.fdd_star.proofs.repetition.gathered.Given as goal
 
 abbrev pub invariant-loop-copy : goal.invariant-loop-copy
-invariant-loop-copy l = SameMembers l.leaf (take l.copy-index l.copies)
+invariant-loop-copy l = SameMembers l.leaf l.yielded
