@@ -4,16 +4,16 @@
 //! A line that begins with `==` is a heading, and drops the packets that were asked. A line that begins with `>` asks for
 //! one packet more: at port 1 of switch 1, of type 2054, with zeros elsewhere, but for the assignments in the line. A line
 //! `steps N` stands for the star of the sum of `ethDst=i; ethDst:=i+1` for i from 1 to N, `steps N in TEST` for that with
-//! `TEST;` before each, and `rectangle N` for the packets of TCP with one of N numbers in each of four fields, whose diagram
-//! shares its parts: its tests are not counted, since each path has its own. What is made of a packet is told as a policy:
-//! the assignments that make each of its packets, `skip` for the packet itself and `drop` for none, or, where they are more
-//! than nine, how many they are.
+//! `TEST;` before each, and `rectangle N` for the packets of TCP with one of N numbers in each of four fields, which go to port
+//! 2; `steps N in rectangle M` is for such packets. The diagrams of rectangles share their parts: their tests are not counted,
+//! since each path has its own. What is made of a packet is told as a policy: the assignments that make each of its packets,
+//! `skip` for the packet itself and `drop` for none, or, where they are more than nine, how many they are.
 #![tactic(auto)]
 
 mod policies;
 mod told;
 
-use crate::policies::{packet_of, rectangle, steps};
+use crate::policies::{packet_of, rectangle, rectangle_tests, steps};
 use crate::told::{Tests, answer};
 use nk_values::Packet;
 use std::alloc::{AllocError, Global};
@@ -40,8 +40,7 @@ fn main(rt: HostRuntime) -> io::Result<()> {
 fn of_line(alloc: Global, line: &str, asked: &[Packet]) -> Result<String, AllocError> {
     if let Some(rest) = line.strip_prefix("steps ") {
         let (count, guard) = rest.split_once(" in ").unwrap_or((rest, "skip"));
-        let policy = steps(alloc, count.parse().unwrap_or(0), guard)?;
-        return answer(alloc, &policy, asked, Tests::Counted);
+        return of_steps(alloc, count.parse().unwrap_or(0), guard, asked);
     }
     match line.strip_prefix("rectangle ") {
         Some(count) => {
@@ -49,5 +48,21 @@ fn of_line(alloc: Global, line: &str, asked: &[Packet]) -> Result<String, AllocE
             answer(alloc, &policy, asked, Tests::Uncounted)
         }
         None => answer(alloc, line, asked, Tests::Counted),
+    }
+}
+
+fn of_steps(
+    alloc: Global,
+    count: u64,
+    guard: &str,
+    asked: &[Packet],
+) -> Result<String, AllocError> {
+    match guard.strip_prefix("rectangle ") {
+        Some(numbers) => {
+            let tests = rectangle_tests(alloc, numbers.parse().unwrap_or(0))?;
+            let policy = steps(alloc, count, &tests)?;
+            answer(alloc, &policy, asked, Tests::Uncounted)
+        }
+        None => answer(alloc, &steps(alloc, count, guard)?, asked, Tests::Counted),
     }
 }

@@ -57,13 +57,19 @@ pub fn steps(alloc: Global, count: u64, guard: &str) -> Result<String, AllocErro
 
 /// The text of a rectangle: packets of TCP with one of some numbers in each of four fields go to port 2.
 pub fn rectangle(alloc: Global, count: u64) -> Result<String, AllocError> {
+    let mut text = rectangle_tests(alloc, count)?;
+    text.push_str("; pt:=2")?;
+    Ok(text)
+}
+
+/// The text of the tests of a rectangle.
+pub fn rectangle_tests(alloc: Global, count: u64) -> Result<String, AllocError> {
     let mut text = String::from_str(alloc, "ipProto=6")?;
     for field in ["ip4Src", "ip4Dst", "tcpSrcPort", "tcpDstPort"] {
         text.push_str("; (drop")?;
         add_tests(alloc, &mut text, field, count)?;
         text.push_str(")")?;
     }
-    text.push_str("; pt:=2")?;
     Ok(text)
 }
 

@@ -9,21 +9,28 @@ use Rattle.std.specs.FinMap.{nat_cmp-IsAntisymmetric}
 use Rattle.std.specs.Ordering.{match_ordering}
 use Rattle.nk_values.specs.declared.packet.Packet.{Packet}
 use Rattle.nk_values.specs.declared.lit.Lit.{Lit}
+use Rattle.nk_values.specs.Held.{Holds}
+use Rattle.nk_values.specs.Lits.{lit_field}
 use Rattle.nk_values.specs.Members.{IsIn}
 use Rattle.nk_values.specs.Ranks.{rank, lit_cmp}
 use Rattle.nk_values.proofs.LitLaws.{same_rank}
 use Rattle.nk_values.proofs.MemberLaws.{in-left, in-right, in-either}
-use Rattle.fdd_nodes.specs.Trees.{Tree, Node, leaf_at, apply, outcomes, answers}
+use Rattle.fdd_nodes.specs.Cells.{IsOpen}
+use Rattle.fdd_nodes.specs.Known.{Bars}
+use Rattle.fdd_nodes.specs.Roots.{IsLeaf}
+use Rattle.fdd_nodes.specs.Trees.{Tree, Leaf, Node, leaf_at, apply, outcomes, answers}
 use Rattle.fdd_nodes.specs.Copies.{after, IsCopy}
-use Rattle.fdd_nodes.proofs.CellLaws.{lit_not_free}
+use Rattle.fdd_nodes.proofs.CellLaws.{holds_fixed, lit_not_free}
+use Rattle.fdd_nodes.proofs.SplitLaws.{leaf_at-then, leaf_at-else}
 use Rattle.fdd_nodes.proofs.AfterLaws.{after_apply, after_among}
 use Rattle.fdd_nodes.proofs.MakesLaws.{source, outcome, among_lists}
 use Rattle.fdd_star.specs.declared.reach.Reach.{Reach}
 use Rattle.fdd_star.specs.declared.visits.Visit.{Visit}
-use Rattle.fdd_star.specs.Asks.{IsVisitOf, Asks, AsksMore, IsOpenPart}
+use Rattle.fdd_star.specs.Asks.{ComesTo, IsVisitOf, Asks, AsksMore}
 use Rattle.fdd_star.specs.Reaches.{copies_of, asked_of, AsksAll, IsTold, Notes, Grows}
 use Rattle.fdd_star.proofs.FillLaws.{leaf_assigns}
 use Rattle.fdd_star.proofs.TurnLaws.{in_same, outcome_left, outcome_in}
+use Rattle.fdd_store.specs.Stores.{Kept, Has, tree_at}
 
 pub on_ok : {X E : Type 0} (r : Result X E) (P Q : Type 0) → OnOk r P → (P → Q) → OnOk r Q
 on_ok (Ok x) P Q h f = f h
@@ -60,22 +67,54 @@ insert_only (x ∷ xs) l m h = by (lit_cmp l x) (insert_only xs l m) h
 
 -- what a path asks
 
+pub asks_leaf : (t : Tree) (q : Packet) (ls : List Lit) → IsLeaf t → AsksMore t q ls ls
+asks_leaf (Leaf cs) q ls h = record { kept = λ m k. k; has = λ m k. absurd k; only = λ m k. inl k }
+asks_leaf (Node l t e) q ls h = absurd h
+
+-- at a test that the cell tells, what its branch asks
+
+pub asks_then : (q : Packet) (l : Lit) (t e : Tree) (old new : List Lit) → Holds q l → AsksMore t q old new → AsksMore (Node l t e) q old new
+asks_then q l t e old new h s = record {
+  kept = s.kept;
+  has = λ m k. elim k [ inl o ↦ absurd (holds_fixed q l h o.0) | inr v ↦ elim v [ inl y ↦ s.has m y.1 | inr n ↦ absurd (n.0 h) ] ];
+  only = λ m k. elim (s.only m k) [ inl w ↦ inl w | inr w ↦ inr (inr (inl (h, w))) ];
+}
+
+pub asks_else : (q : Packet) (l : Lit) (t e : Tree) (old new : List Lit) → Bars q l → AsksMore e q old new → AsksMore (Node l t e) q old new
+asks_else q l t e old new b s = record {
+  kept = s.kept;
+  has = λ m k. elim k [ inl o ↦ absurd (b.fixed o.0) | inr v ↦ elim v [ inl y ↦ absurd (b.other y.0) | inr n ↦ s.has m n.1 ] ];
+  only = λ m k. elim (s.only m k) [ inl w ↦ inl w | inr w ↦ inr (inr (inr (b.other, w))) ];
+}
+
 -- at an open test it is asked, and what the false branch asks
-pub asks_open : (q : Packet) (a : Tree) (l : Lit) (t e : Tree) (old mid new : List Lit) → IsOpenPart q a (Node l t e) → mid ≡ old ++ l ∷ [] → AsksMore e q mid new → AsksMore a q old new
-asks_open q a l t e old mid new p i s = record {
+pub asks_open : (q : Packet) (l : Lit) (t e : Tree) (old mid new : List Lit) → IsOpen q (lit_field l) → mid ≡ old ++ l ∷ [] → AsksMore e q mid new → AsksMore (Node l t e) q old new
+asks_open q l t e old mid new o i s = record {
   kept = λ m k. s.kept m (in_same _ _ m (sym i) (in-left old (l ∷ []) m k));
-  has = λ m k. elim (p.front m k) [
+  has = λ m k. elim k [
     | inl w ↦ s.kept m (in_same _ _ m (sym i) (in-right old (l ∷ []) m (inl w.1)))
-    | inr w ↦ elim w [ inl v ↦ absurd (lit_not_free l (sym v.0 ∙ p.first)) | inr v ↦ s.has m v.1 ]
+    | inr w ↦ elim w [ inl v ↦ absurd (lit_not_free l (sym v.0 ∙ o)) | inr v ↦ s.has m v.1 ]
   ];
   only = λ m k. elim (s.only m k) [
     | inl w ↦ elim (in-either old (l ∷ []) m (in_same _ _ m i w)) [
       | inl v ↦ inl v
-      | inr v ↦ elim v [ inl x ↦ inr (p.back m (inl (p.first, x))) | inr n ↦ absurd n ]
+      | inr v ↦ elim v [ inl x ↦ inr (inl (o, x)) | inr n ↦ absurd n ]
     ]
-    | inr w ↦ inr (p.back m (inr (inr ((λ z. lit_not_free l (sym z ∙ p.first)), w))))
+    | inr w ↦ inr (inr (inr ((λ z. lit_not_free l (sym z ∙ o)), w)))
   ];
 }
+
+-- where a path leads
+
+pub comes_leaf : (k : Kept) (t : Tree) (q : Packet) (r : ℕ) → Has k r → tree_at k r ≡ t → IsLeaf t → ComesTo k t q r
+comes_leaf k (Leaf cs) q r w e h = record { has = w; is = e }
+comes_leaf k (Node l t e') q r w e h = absurd h
+
+pub comes_then : (k : Kept) (l : Lit) (t e : Tree) (q : Packet) (r : ℕ) → Holds q l → ComesTo k t q r → ComesTo k (Node l t e) q r
+comes_then k l t e q r h c = record { has = c.has; is = c.is ∙ ap Leaf (sym (leaf_at-then l t e q h)) }
+
+pub comes_else : (k : Kept) (l : Lit) (t e : Tree) (q : Packet) (r : ℕ) → (¬ Holds q l) → ComesTo k e q r → ComesTo k (Node l t e) q r
+comes_else k l t e q r h c = record { has = c.has; is = c.is ∙ ap Leaf (sym (leaf_at-else l t e q h)) }
 
 -- tests noted one by one
 
@@ -103,11 +142,11 @@ asks_kept ls r s s' a e = record {
 }
 
 -- what a visit asks is what its packet's path asks
-pub asks_visit : (t : Tree) (q : Packet) (v : Visit) (r s : Reach) → IsVisitOf t q v → AsksAll v.asked.items r s → AsksMore t q (asked_of r) (asked_of s)
-asks_visit t q v r s h a = record {
+pub asks_visit : (k : Kept) (t : Tree) (q : Packet) (v : Visit) (r s : Reach) → IsVisitOf k t q v → AsksAll v.asked.items r s → AsksMore t q (asked_of r) (asked_of s)
+asks_visit k t q v r s h a = record {
   kept = a.kept;
-  has = λ m k. a.has m (h.asked.has m k);
-  only = λ m k. elim (a.only m k) [
+  has = λ m w. a.has m (h.asked.has m w);
+  only = λ m i. elim (a.only m i) [
     | inl w ↦ inl w
     | inr w ↦ elim (h.asked.only m w) [ inl n ↦ absurd n | inr x ↦ inr x ]
   ];

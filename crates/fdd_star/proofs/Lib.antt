@@ -1,8 +1,11 @@
 pub mod EqualLaws
+pub mod FaultLaws
+pub mod FieldLaws
 pub mod FillLaws
 pub mod GrowLaws
 pub mod KeptLaws
-pub mod PartLaws
+pub mod KnownLaws
+pub mod NamedLaws
 pub mod PassingLaws
 pub mod StarLaws
 pub mod TurnLaws

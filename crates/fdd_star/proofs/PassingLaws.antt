@@ -1,28 +1,32 @@
 -- Turns leave a field alone that the diagram never sets, so a first test of it stays.
-use Rattle.std.specs.Prelude.{MatchResult, IfOk, OnOk}
-use Rattle.std.proofs.Common.{◌≡◌, ℕ, zero, suc, inl, inr, refl, sym, ap, ◌∙◌, subst, Bool, true, List, Result, Ok, Err}
+use Rattle.std.specs.Prelude.{MatchResult, OnOk}
+use Rattle.std.proofs.Common.{◌≡◌, ℕ, zero, suc, inl, inr, refl, sym, ap, ◌∙◌, subst, Bool, true, List, [], Result, Ok, Err}
 use Rattle.std.proofs.lemmas.Bool.{eqb-true}
 use Rattle.std.proofs.lemmas.Bool.Decides.{eqb_tells}
 use Rattle.nk_values.specs.declared.field.Field.{Field}
 use Rattle.nk_values.specs.declared.packet.Packet.{Packet}
 use Rattle.nk_values.specs.declared.lit.Lit.{Lit}
-use Rattle.nk_values.specs.Held.{Holds}
+use Rattle.nk_values.specs.Held.{Holds, put}
 use Rattle.nk_values.specs.Lits.{lit_field, lit_value}
 use Rattle.nk_values.specs.Members.{IsIn}
 use Rattle.nk_values.specs.Packets.{get}
+use Rattle.nk_values.proofs.PacketLaws.{get-with_same, get-with_other, field_cases}
+use Rattle.fdd_nodes.specs.Cells.{Agrees, IsOpen}
 use Rattle.fdd_nodes.specs.Names.{IsFew}
-use Rattle.fdd_nodes.specs.Trees.{Tree, Node, leaf_at, answers, outcomes}
+use Rattle.fdd_nodes.specs.Trees.{Tree, Node, leaf_at, answers, SameAnswers}
+use Rattle.fdd_nodes.proofs.CellLaws.{lit_not_free}
 use Rattle.fdd_nodes.proofs.MakesLaws.{source, at_field}
-use Rattle.fdd_nodes.proofs.SplitLaws.{leaf_at-then, leaf_at-else}
 use Rattle.fdd_star.specs.Passing.{Passes, IsStar, AreStars}
-use Rattle.fdd_star.specs.Stars.{Turns, StarOf, IsShallow}
+use Rattle.fdd_star.specs.Reaches.{StarBut}
+use Rattle.fdd_star.specs.Stars.{Turns, StarOf, IsDeep, IsShallow}
 use Rattle.fdd_star.proofs.KeptLaws.{each_on}
 use Rattle.fdd_star.proofs.StarLaws.{choice_few, few_within, star_shallow}
 use Rattle.fdd_store.specs.Entries.{SetsField}
 use Rattle.fdd_store.specs.Looks.{Forked}
-use Rattle.fdd_store.specs.Operations.{ChoiceOf}
+use Rattle.fdd_store.specs.Operations.{ChoiceOf, CofactorOf}
 use Rattle.fdd_store.specs.Stores.{Kept, Has, Gives, Grows, tree_at}
 use Rattle.fdd_store.specs.contracts.id.IdPartialEq.TheImpl as id_impl
+use Rattle.fdd_store.proofs.ForkLaws.{node_then_as, node_else_as}
 use Rattle.fdd_store.proofs.MoveLaws.{leaf_assigns}
 use Rattle.fdd_store.proofs.StoreLaws.{gives_grown, has_grown, tree_grown}
 
@@ -34,11 +38,26 @@ id_eq = id_impl.eq-value.it
 pub same_id : (x y : ℕ) → id_eq x y ≡ true → x ≡ y
 same_id x y h = eqb-true _ _ h
 
--- two diagrams that answer alike where a property holds, which no turn ends, make the same turns there
-turns_on : (p p' : Tree) (K : Packet → Type 0) → ((pk : Packet) → K pk → answers p pk ≡ answers p' pk) → ((pk q : Packet) → K pk → IsIn (answers p pk) q → K q)
+-- Two diagrams that answer alike where a property holds, which no turn ends, make the same turns there.
+
+turns_on : (p p' : Tree) (K : Packet → Type 0) → ((pk q : Packet) → K pk → IsIn (answers p pk) q → IsIn (answers p' pk) q) → ((pk q : Packet) → K pk → IsIn (answers p pk) q → K q)
     → (n : ℕ) (pk out : Packet) → K pk → Turns p n pk out → Turns p' n pk out
 turns_on p p' K same goes zero pk out k w = w
-turns_on p p' K same goes (suc n) pk out k w = (w.0, subst (λ (xs : List Packet). IsIn xs w.0) (same pk k) w.1, turns_on p p' K same goes n w.0 out (goes pk w.0 k w.1) w.2)
+turns_on p p' K same goes (suc n) pk out k w = (w.0, same pk w.0 k w.1, turns_on p p' K same goes n w.0 out (goes pk w.0 k w.1) w.2)
+
+module _ (p p' : Tree) (K : Packet → Type 0) (same : (pk : Packet) → K pk → SameAnswers (answers p' pk) (answers p pk)) (goes : (pk q : Packet) → K pk → IsIn (answers p pk) q → K q) where
+  pub turns_to : (n : ℕ) (pk out : Packet) → K pk → Turns p n pk out → Turns p' n pk out
+  turns_to = turns_on p p' K (λ pk q k w. (same pk k).back q w) goes
+
+  pub turns_from : (n : ℕ) (pk out : Packet) → K pk → Turns p' n pk out → Turns p n pk out
+  turns_from = turns_on p' p K (λ pk q k w. (same pk k).front q w) (λ pk q k w. goes pk q k ((same pk k).front q w))
+
+  pub deep_from : (pk out : Packet) → K pk → IsDeep p' pk out → IsDeep p pk out
+  deep_from pk out k d = record {
+    in_range = d.in_range;
+    made = (d.made.0, d.made.1, turns_from d.made.0 pk out k d.made.2);
+    late = λ w. d.late (w.0, w.1, turns_to w.0 pk out k w.2);
+  }
 
 keeps_field : (t : Tree) (f : Field) → ¬ SetsField t f → (pk q : Packet) → IsIn (answers t pk) q → get q f ≡ get pk f
 keeps_field t f n pk q h =
@@ -48,45 +67,58 @@ keeps_field t f n pk q h =
       | inr s ↦ sym (ap (λ z. get z f) o.makes) ∙ s.0
     ]
 
+-- so it is with a literal whose field is never set
+
+pub holds_on : (p : Tree) (l : Lit) → ¬ SetsField p (lit_field l) → (pk q : Packet) → Holds pk l → IsIn (answers p pk) q → Holds q l
+holds_on p l n pk q h k = keeps_field p (lit_field l) n pk q k ∙ h
+
+pub lacks_on : (p : Tree) (l : Lit) → ¬ SetsField p (lit_field l) → (pk q : Packet) → (¬ Holds pk l) → IsIn (answers p pk) q → ¬ Holds q l
+lacks_on p l n pk q h k = λ z. h (sym (keeps_field p (lit_field l) n pk q k) ∙ z)
+
+abbrev pub Held : Lit → Packet → Type 0
+Held l pk = Holds pk l
+
+abbrev pub Lacked : Lit → Packet → Type 0
+Lacked l pk = ¬ Holds pk l
+
 module _ (l : Lit) (t e : Tree) (n : ¬ SetsField (Node l t e) (lit_field l)) where
-  yes_same : (pk : Packet) → Holds pk l → answers (Node l t e) pk ≡ answers t pk
-  yes_same pk h = ap (λ cs. outcomes cs pk) (leaf_at-then l t e pk h)
-
-  no_same : (pk : Packet) → (¬ Holds pk l) → answers (Node l t e) pk ≡ answers e pk
-  no_same pk h = ap (λ cs. outcomes cs pk) (leaf_at-else l t e pk h)
-
-  yes_goes : (pk q : Packet) → Holds pk l → IsIn (answers (Node l t e) pk) q → Holds q l
-  yes_goes pk q h k = keeps_field (Node l t e) (lit_field l) n pk q k ∙ h
-
-  no_goes : (pk q : Packet) → (¬ Holds pk l) → IsIn (answers (Node l t e) pk) q → ¬ Holds q l
-  no_goes pk q h k = λ z. h (sym (keeps_field (Node l t e) (lit_field l) n pk q k) ∙ z)
-
-  yes_to : (j : ℕ) (pk out : Packet) → Holds pk l → Turns (Node l t e) j pk out → Turns t j pk out
-  yes_to = turns_on (Node l t e) t (λ pk. Holds pk l) yes_same yes_goes
-
-  no_to : (j : ℕ) (pk out : Packet) → (¬ Holds pk l) → Turns (Node l t e) j pk out → Turns e j pk out
-  no_to = turns_on (Node l t e) e (λ pk. ¬ Holds pk l) no_same no_goes
-
-  yes_from : (j : ℕ) (pk out : Packet) → Holds pk l → Turns t j pk out → Turns (Node l t e) j pk out
-  yes_from = turns_on t (Node l t e) (λ pk. Holds pk l) (λ pk h. sym (yes_same pk h)) (λ pk q h k. yes_goes pk q h (subst (λ (xs : List Packet). IsIn xs q) (sym (yes_same pk h)) k))
-
-  no_from : (j : ℕ) (pk out : Packet) → (¬ Holds pk l) → Turns e j pk out → Turns (Node l t e) j pk out
-  no_from = turns_on e (Node l t e) (λ pk. ¬ Holds pk l) (λ pk h. sym (no_same pk h)) (λ pk q h k. no_goes pk q h (subst (λ (xs : List Packet). IsIn xs q) (sym (no_same pk h)) k))
-
   star_passed : (a b r : Tree) → StarOf t a → StarOf e b → ChoiceOf l a b r → StarOf (Node l t e) r
   star_passed a b r ha hb c = record {
     made = λ pk out k. elim (eqb_tells (get pk (lit_field l)) (lit_value l)) [
-      | inl y ↦ let w = ha.made pk out ((c.yes pk y.1).front out k) in (w.0, w.1, yes_from w.0 pk out y.1 w.2)
-      | inr y ↦ let w = hb.made pk out ((c.no pk y.1).front out k) in (w.0, w.1, no_from w.0 pk out y.1 w.2)
+      | inl y ↦ let w = ha.made pk out ((c.yes pk y.1).front out k) in (w.0, w.1, turns_from (Node l t e) t (Held l) (node_then_as l t e) (holds_on _ l n) w.0 pk out y.1 w.2)
+      | inr y ↦ let w = hb.made pk out ((c.no pk y.1).front out k) in (w.0, w.1, turns_from (Node l t e) e (Lacked l) (node_else_as l t e) (lacks_on _ l n) w.0 pk out y.1 w.2)
     ];
     all = λ j pk out g w. elim (eqb_tells (get pk (lit_field l)) (lit_value l)) [
-      | inl y ↦ (c.yes pk y.1).back out (ha.all j pk out g (yes_to j pk out y.1 w))
-      | inr y ↦ (c.no pk y.1).back out (hb.all j pk out g (no_to j pk out y.1 w))
+      | inl y ↦ (c.yes pk y.1).back out (ha.all j pk out g (turns_to (Node l t e) t (Held l) (node_then_as l t e) (holds_on _ l n) j pk out y.1 w))
+      | inr y ↦ (c.no pk y.1).back out (hb.all j pk out g (turns_to (Node l t e) e (Lacked l) (node_else_as l t e) (lacks_on _ l n) j pk out y.1 w))
     ];
     normal = c.normal;
     tests = λ m k. elim (c.tests m k) [ inl v ↦ inl v | inr v ↦ elim v [ inl w ↦ inr (inl (ha.tests m w)) | inr w ↦ inr (inr (hb.tests m w)) ] ];
     assigns = λ m k. elim (c.assigns m k) [ inl w ↦ inl (ha.assigns m w) | inr w ↦ inr (hb.assigns m w) ];
   }
+
+-- where a literal of a cell's open field holds that is never set, the cofactor's star is the star
+
+agrees_out : (c pk : Packet) (l : Lit) → IsOpen c (lit_field l) → Agrees (put l c) pk → Agrees c pk
+agrees_out c pk l o a = record {
+  at = λ f n. elim (field_cases (lit_field l) f) [
+    | inl e ↦ absurd (n (subst (IsOpen c) e o))
+    | inr d ↦ let s = get-with_other c (lit_field l) f (lit_value l) d in a.at f (λ z. n (sym s ∙ z)) ∙ s
+  ];
+}
+
+agrees_holds : (c pk : Packet) (l : Lit) → Agrees (put l c) pk → Holds pk l
+agrees_holds c pk l a = let s = get-with_same c (lit_field l) (lit_value l) in a.at (lit_field l) (λ z. lit_not_free l (sym s ∙ z)) ∙ s
+
+pub star_where : (p p' : Tree) (l : Lit) (c : Packet) (r : Tree) → (¬ SetsField p (lit_field l)) → CofactorOf l p p' → IsOpen c (lit_field l) → StarBut p' c [] r → StarBut p (put l c) [] r
+star_where p p' l c r n f o h = record {
+  made = λ pk out g miss k.
+      let w = h.made pk out (agrees_out c pk l o g) miss k in
+      (w.0, w.1, turns_from p p' (Held l) f.answer (holds_on p l n) w.0 pk out (agrees_holds c pk l g) w.2);
+  all = λ j pk out g miss k. h.all j pk out (agrees_out c pk l o g) miss (turns_to p p' (Held l) f.answer (holds_on p l n) j pk out (agrees_holds c pk l g) k);
+  normal = h.normal;
+  names = record { tests = λ m k. f.tests m (h.names.tests m k); assigns = λ m k. f.assigns m (h.names.assigns m k) };
+}
 
 -- the branches, and the test over their stars, name few values
 
@@ -119,9 +151,9 @@ pub on_each : {X E : Type 0} (r : Result X E) (P : Type 0) → P → OnOk r P
 on_each (Ok x) P h = h
 on_each (Err e) P h = tt
 
-pub told_ok : {X E : Type 0} (r : Result X E) (P : X → Type 0) (Q : E → Type 0) → MatchResult r P Q → IfOk r P
-told_ok (Ok x) P Q h = h
-told_ok (Err e) P Q h = tt
+pub match_on : {X E : Type 0} (r : Result X E) (P P' : X → Type 0) (Q Q' : E → Type 0) → ((x : X) → P x → P' x) → ((e : E) → Q e → Q' e) → MatchResult r P Q → MatchResult r P' Q'
+match_on (Ok x) P P' Q Q' f g h = f x h
+match_on (Err e) P P' Q Q' f g h = g e h
 
 -- what has a star is not deep
 pub shallow_by : {E : Type 0} (r : Result ℕ E) (k : Kept) (p : Tree) (Q : E → Type 0) → MatchResult r (λ i. Gives k i (StarOf p)) Q → OnOk r (IsShallow p)

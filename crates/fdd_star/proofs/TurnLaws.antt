@@ -12,10 +12,7 @@ use Rattle.fdd_star.specs.declared.reach.Reach.{Reach}
 use Rattle.nk_values.specs.Lits.{lit_field}
 use Rattle.nk_values.specs.Packets.{IsInRange}
 use Rattle.fdd_nodes.specs.Cells.{IsFresh, IsValid, fill}
-use Rattle.fdd_nodes.specs.Names.{literals}
 use Rattle.fdd_nodes.proofs.CellLaws.{fill_in_range}
-use Rattle.fdd_nodes.proofs.NameLaws.{tests_literal, assigns_literal}
-use Rattle.fdd_differ.specs.Unnamed.{IsFreshOf}
 use Rattle.fdd_star.specs.Reaches.{copies_of, Starts, Grows, Fewer, Turned, IsClosed}
 use Rattle.fdd_star.specs.Stars.{Turns, IsDeep}
 use Rattle.fdd_star.proofs.FillLaws.{asks_free, asks_tests, turns_free, turns_filled, filled_turns, filled_once, fresh_escapes}
@@ -156,13 +153,9 @@ in_drop n [] x h e = absurd (omega (arith, h))
 in_drop zero (y ∷ ys) x h e = inl (sym e)
 in_drop (suc n) (y ∷ ys) x h e = in_drop n ys x (omega (arith, h)) e
 
-fresh_of : (p t : Tree) (g : Packet) → t ≡ p → IsFreshOf (literals t) g → IsFresh g p
-fresh_of p t g e f = subst (IsFresh g) e (record { tested = λ m k. f.missing m (tests_literal t m k); assigned = λ m k. f.missing m (assigns_literal t m k) })
-
-pub deep_named : (p t : Tree) (c q : Packet) (n place : ℕ) (r : Reach) (x : List Lit) (g pk out : Packet) → t ≡ p → pk ≡ fill c g → out ≡ fill q g → q ≡ apply x c → IsValid c → IsFreshOf (literals t) g
+pub deep_named : (p : Tree) (c q : Packet) (n place : ℕ) (r : Reach) (x : List Lit) (g pk out : Packet) → pk ≡ fill c g → out ≡ fill q g → q ≡ apply x c → IsValid c → IsInRange g → IsFresh g p
     → n ≡ 513 → Turned p c n place r → place < length (copies_of r) → x ≡ get_or (copies_of r) place x → IsDeep p pk out
-deep_named p t c q n place r x g pk out et epk eout eq v f en turned b at =
+deep_named p c q n place r x g pk out epk eout eq v range fresh en turned b at =
     let out' = eout ∙ ap (λ (z : Packet). fill z g) eq in
     let turned' = subst (λ (k : ℕ). Turned p c k place r) en turned in
-    subst (λ (z : Packet). IsDeep p z out) (sym epk)
-    (subst (IsDeep p (fill c g)) (sym out') (deep_of p c place r x g v f.shaped.in_range (fresh_of p t g et f) turned' (in_drop place (copies_of r) x b at)))
+    subst (λ (z : Packet). IsDeep p z out) (sym epk) (subst (IsDeep p (fill c g)) (sym out') (deep_of p c place r x g v range fresh turned' (in_drop place (copies_of r) x b at)))

@@ -1,5 +1,8 @@
 pub mod Asks
+pub mod Faults
 pub mod Kept
+pub mod Known
+pub mod Named
 pub mod Parts
 pub mod Passing
 pub mod Reaches

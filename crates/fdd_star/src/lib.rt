@@ -2,6 +2,8 @@
 #![tactic(auto)]
 
 mod fault;
+mod keys;
+mod names;
 mod parts;
 mod passing;
 mod reach;

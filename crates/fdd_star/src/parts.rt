@@ -1,19 +1,18 @@
 // Stars on the packets of cells, which are kept.
 ghost use Rattle.std.specs.Prelude.{IfSome, OnOk};
-ghost use Rattle.fdd_nodes.specs.Trees.{Tree};
-ghost use Rattle.fdd_store.specs.Stores.{Kept};
+ghost use Rattle.fdd_store.specs.Stores.{Has, Kept, tree_at};
 
+use crate::keys::Key;
 use fdd_nodes::Cell;
 use fdd_store::Id;
 use indexmap::IndexMap;
-use nk_values::Packet;
 use std::alloc::{AllocError, Global};
 
-/// The star of a diagram on the packets of cells, each kept by its cell's packet: so a cell that is met in several orders
-/// of its literals is found once.
+/// The stars of a store's diagrams on the packets of cells: so one that is asked for again, in another order of a cell's
+/// literals or by another literal that leads to the same diagram, is found once.
 #[derive(Drop)]
 pub(crate) struct Parts {
-    known: IndexMap<Packet, Id>,
+    known: IndexMap<Key, Id>,
 }
 
 impl Parts {
@@ -21,31 +20,36 @@ impl Parts {
 
     /// No star yet.
     pub(crate) fn new(alloc: Global) -> Parts
-        ensures { (k : Kept) (p : Tree) → AreParts k p result }
+        ensures { (k : Kept) → AreParts k result }
     {
         Parts {
             known: IndexMap::new(alloc),
         }
     }
 
-    /// The star on the packets of a cell, if it was kept.
-    pub(crate) fn get(&self, cell: &Cell) -> Option<Id>
-        ensures { (k : Kept) (p : Tree) → AreParts k p self.now → IfSome result (IsPart k p cell.now) }
+    /// The star of a diagram on the packets of a cell, if it was kept.
+    pub(crate) fn get(&self, diagram: Id, cell: &Cell) -> Option<Id>
+        ensures { (k : Kept) → AreParts k self.now → IfSome result (IsPart k (tree_at k diagram) cell.now) }
     {
-        match self.known.get(cell.generic()) {
+        let key = Key {
+            diagram,
+            packet: *cell.generic(),
+        };
+        match self.known.get(&key) {
             None => None,
             Some(part) => Some(*part),
         }
     }
 
-    /// Keeps the star on the packets of a cell that was come to from another one. From the cell that fixes nothing there
-    /// is one way to it, so it is not met again, and nothing is kept.
-    pub(crate) fn keep(&mut self, outer: &Cell, cell: &Cell, part: Id) -> Result<(), AllocError>
-        ensures { (k : Kept) (p : Tree) → AreParts k p self.old → IsPart k p cell.now part → OnOk result (AreParts k p self.new) }
+    /// Keeps the star of a diagram on the packets of a cell.
+    pub(crate) fn keep(&mut self, diagram: Id, cell: &Cell, part: Id) -> Result<(), AllocError>
+        ensures { (k : Kept) → AreParts k self.old → Has k diagram → IsPart k (tree_at k diagram) cell.now part → OnOk result (AreParts k self.new) }
     {
-        if *outer.generic() != *Cell::open().generic() {
-            self.known.insert(*cell.generic(), part)?;
-        }
+        let key = Key {
+            diagram,
+            packet: *cell.generic(),
+        };
+        self.known.insert(key, part)?;
         Ok(())
     }
 }

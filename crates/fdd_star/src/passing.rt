@@ -1,14 +1,20 @@
 // The star of a diagram, part by part: no turn changes a field that the diagram never sets.
-ghost use Rattle.std.specs.Prelude.{◌↔◌, IsTrue, MatchResult, IfOk, OnOk};
+ghost use Rattle.std.specs.Prelude.{◌↔◌, IsTrue, MatchResult, OnOk};
+ghost use Rattle.nk_values.specs.Packets.{IsInRange};
+ghost use Rattle.fdd_nodes.specs.Cells.{IsFresh, open_cell};
 ghost use Rattle.fdd_nodes.specs.Names.{IsFew};
+ghost use Rattle.fdd_star.specs.Faults.{IsErrorIn};
+ghost use Rattle.fdd_star.specs.Known.{AreKnown};
 ghost use Rattle.fdd_star.specs.Passing.{AreStars, Passes};
 ghost use Rattle.fdd_star.specs.Stars.{StarOf, IsErrorOf, IsShallow};
 ghost use Rattle.fdd_store.specs.Stores.{Has, Grows, Gives, tree_at};
 
 use crate::fault::StarError;
-use crate::repetition::star_of_cells;
+use crate::names::other_packet;
+use crate::repetition::{Known, star_of_cells};
 use fdd_store::{Id, Look, Store};
 use indexmap::IndexMap;
+use nk_values::Packet;
 use std::alloc::{AllocError, Global};
 
 /// The star `p*` of a diagram of a store: what any number of turns give.
@@ -23,25 +29,10 @@ pub fn star(alloc: Global, store: &mut Store, p: Id) -> Result<Id, StarError>
     ensures star { MatchResult result (λ r. Gives store.new r (StarOf (tree_at store.old p))) (λ e. IsErrorOf (tree_at store.old p) e) }
     ensures never_deep { OnOk result (IsShallow (tree_at store.old p)) }
 {
-    if !passes(store, p) {
-        return star_of_cells(alloc, store, p);
-    }
-    match star_of_parts(alloc, store, p) {
-        Ok(all) => Ok(all),
-        Err(StarError::Memory) => Err(StarError::Memory),
-        Err(StarError::Fault(_)) => star_of_cells(alloc, store, p),
-    }
-}
-
-// The star, where no part is deep. The fault of a part need not be one of the whole.
-fn star_of_parts(alloc: Global, store: &mut Store, p: Id) -> Result<Id, StarError>
-    requires has { Has store.old p }
-    requires few { IsFew (tree_at store.old p) }
-    ensures grows { Grows store.old store.new }
-    ensures star { IfOk result (λ r. Gives store.new r (StarOf (tree_at store.old p))) }
-{
+    let other = other_packet(alloc, store, p)?;
+    let mut known = Known::new(alloc);
     let mut stars = IndexMap::new(alloc);
-    star_at(alloc, store, &mut stars, p)
+    star_at(alloc, store, &mut known, &mut stars, &other, p)
 }
 
 // The star of a part, kept or found anew.
@@ -49,24 +40,30 @@ fn star_of_parts(alloc: Global, store: &mut Store, p: Id) -> Result<Id, StarErro
 fn star_at(
     alloc: Global,
     store: &mut Store,
+    known: &mut Known,
     stars: &mut IndexMap<Id, Id>,
+    other: &Packet,
     p: Id,
 ) -> Result<Id, StarError>
     requires has { Has store.old p }
     requires few { IsFew (tree_at store.old p) }
+    requires known { AreKnown store.old known.old }
     requires stars { AreStars store.old stars.old.entries }
+    requires range { IsInRange other.now }
+    requires fresh { IsFresh other.now (tree_at store.old p) }
     ensures grows { Grows store.old store.new }
+    ensures known { OnOk result (AreKnown store.new known.new) }
     ensures stars { OnOk result (AreStars store.new stars.new.entries) }
-    ensures star { IfOk result (λ r. Gives store.new r (StarOf (tree_at store.old p))) }
+    ensures star { MatchResult result (λ r. Gives store.new r (StarOf (tree_at store.old p))) (λ e. IsErrorIn (tree_at store.old p) open_cell other.now e) }
 {
-    if let Some(known) = stars.get(&p) {
-        return Ok(*known);
+    if let Some(star) = stars.get(&p) {
+        return Ok(*star);
     }
-    let all = star_anew(alloc, store, stars, p)?;
-    if let Err(full) = stars.insert(p, all) {
+    let star = star_anew(alloc, store, known, stars, other, p)?;
+    if let Err(full) = stars.insert(p, star) {
         return Err(AllocError::from(full).into());
     }
-    Ok(all)
+    Ok(star)
 }
 
 // It found anew: behind the first test, if that passes, and else cell by cell.
@@ -74,23 +71,29 @@ fn star_at(
 fn star_anew(
     alloc: Global,
     store: &mut Store,
+    known: &mut Known,
     stars: &mut IndexMap<Id, Id>,
+    other: &Packet,
     p: Id,
 ) -> Result<Id, StarError>
     requires has { Has store.old p }
     requires few { IsFew (tree_at store.old p) }
+    requires known { AreKnown store.old known.old }
     requires stars { AreStars store.old stars.old.entries }
+    requires range { IsInRange other.now }
+    requires fresh { IsFresh other.now (tree_at store.old p) }
     ensures grows { Grows store.old store.new }
+    ensures known { OnOk result (AreKnown store.new known.new) }
     ensures stars { OnOk result (AreStars store.new stars.new.entries) }
-    ensures star { IfOk result (λ r. Gives store.new r (StarOf (tree_at store.old p))) }
+    ensures star { MatchResult result (λ r. Gives store.new r (StarOf (tree_at store.old p))) (λ e. IsErrorIn (tree_at store.old p) open_cell other.now e) }
 {
     match store.look(p) {
         Look::Fork(test, yes, no) if passes(store, p) => {
-            let part = star_at(alloc, store, stars, yes)?;
-            let rest = star_at(alloc, store, stars, no)?;
+            let part = star_at(alloc, store, known, stars, &test.put(other), yes)?;
+            let rest = star_at(alloc, store, known, stars, other, no)?;
             Ok(store.choice(alloc, test, part, rest)?)
         }
-        _ => star_of_cells(alloc, store, p),
+        _ => star_of_cells(alloc, store, known, other, p),
     }
 }
 

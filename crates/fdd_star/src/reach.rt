@@ -1,8 +1,8 @@
 // What the repetition of a diagram reaches from the packet of a cell.
 use crate::fault::{StarError, StarFault};
-use crate::visits::{Visit, Visits};
-use fdd_differ::unnamed;
-use fdd_nodes::{Assignments, Cell, Fdd};
+use crate::visits::{Visit, Visits, visit_of};
+use fdd_nodes::{Assignments, Cell};
+use fdd_store::{Id, Store};
 use indexmap::IndexSet;
 use nk_values::{Lit, Packet};
 use std::alloc::{AllocError, Global};
@@ -19,26 +19,33 @@ pub(crate) struct Reach {
 
 impl Reach {
     ghost use Rattle.std.specs.Prelude.{◌≡◌, ◌≤◌, [], ◌∷◌, length, drop, MatchResult, IfOk, OnOk};
-    ghost use Rattle.fdd_nodes.specs.Cells.{IsValid};
+    ghost use Rattle.nk_values.specs.Packets.{IsInRange};
+    ghost use Rattle.fdd_nodes.specs.Cells.{IsValid, IsFresh};
     ghost use Rattle.fdd_nodes.specs.Copies.{after};
-    ghost use Rattle.fdd_nodes.specs.Fdds.{tree_of};
-    ghost use Rattle.fdd_nodes.specs.Trees.{Tree, tree, apply};
-    ghost use Rattle.fdd_star.specs.Asks.{AreVisits, GoOn, IsVisitOf};
+    ghost use Rattle.fdd_nodes.specs.Roots.{IsLeaf};
+    ghost use Rattle.fdd_nodes.specs.Trees.{Tree, apply};
+    ghost use Rattle.fdd_star.specs.Asks.{AreVisits, IsVisitOf};
+    ghost use Rattle.fdd_star.specs.Faults.{IsErrorIn};
     ghost use Rattle.fdd_star.specs.Reaches.{copies_of, Starts, IsTold, Notes, AsksAll, Grows, IsClosed};
-    ghost use Rattle.fdd_star.specs.Stars.{IsErrorOf};
+    ghost use Rattle.fdd_store.specs.Stores.{Has, tree_at};
 
-    /// What any number of turns reach, or an output that takes 513 turns.
+    /// What any number of turns reach, or an output that takes 513 turns. The fault fills the cell with another packet, which
+    /// has nothing that the diagram names.
     pub(crate) fn of(
         alloc: Global,
-        p: &Fdd,
+        store: &Store,
         visits: &mut Visits,
+        other: &Packet,
+        p: Id,
         cell: &Cell,
     ) -> Result<Reach, StarError>
+        requires has { Has store.now p }
         requires valid { IsValid cell.now }
-        requires visits { AreVisits visits.old }
-        requires root { tree visits.old.root.now ≡ tree_of p.now }
-        ensures visits { OnOk result (GoOn visits.old visits.new) }
-        ensures reach { MatchResult result (λ r. IsClosed (tree_of p.now) cell.now r) (λ e. IsErrorOf (tree_of p.now) e) }
+        requires visits { AreVisits store.now visits.old }
+        requires range { IsInRange other.now }
+        requires fresh { IsFresh other.now (tree_at store.now p) }
+        ensures visits { OnOk result (AreVisits store.now visits.new) }
+        ensures reach { MatchResult result (λ r. IsClosed (tree_at store.now p) cell.now r) (λ e. IsErrorIn (tree_at store.now p) cell.now other.now e) }
     {
         let mut all = Reach::start(alloc, cell)?;
         let mut from = 0;
@@ -47,15 +54,14 @@ impl Reach {
             if from == until {
                 return Ok(all);
             }
-            all.turn(alloc, visits, cell, from)?;
+            all.turn(alloc, store, visits, p, cell, from)?;
             from = until;
         }
         match all.copies.get(from) {
             None => Ok(all),
             Some(late) => {
-                let other = unnamed(p.root());
-                let packet = cell.filled(&other);
-                let output = cell.after(late).filled(&other);
+                let packet = cell.filled(other);
+                let output = cell.after(late).filled(other);
                 Err(StarError::Fault(StarFault { packet, output }))
             }
         }
@@ -80,19 +86,22 @@ impl Reach {
     fn turn(
         &mut self,
         alloc: Global,
+        store: &Store,
         visits: &mut Visits,
+        p: Id,
         cell: &Cell,
         from: usize,
     ) -> Result<(), AllocError>
-        requires visits { AreVisits visits.old }
+        requires has { Has store.now p }
+        requires visits { AreVisits store.now visits.old }
         requires place { from ≤ length (copies_of self.old) }
         requires told { IsTold cell.now self.old }
-        ensures visits { OnOk result (GoOn visits.old visits.new) }
-        ensures grown { OnOk result (Grows (tree visits.old.root.now) cell.now (drop from (copies_of self.old)) self.old self.new) }
+        ensures visits { OnOk result (AreVisits store.now visits.new) }
+        ensures grown { OnOk result (Grows (tree_at store.now p) cell.now (drop from (copies_of self.old)) self.old self.new) }
     {
         for i in from..self.copies.len() {
             let copy = self.copies[i].copy(alloc)?;
-            self.step(alloc, visits, cell, &copy)?;
+            self.step(alloc, store, visits, p, cell, &copy)?;
         }
         Ok(())
     }
@@ -101,38 +110,44 @@ impl Reach {
     fn step(
         &mut self,
         alloc: Global,
+        store: &Store,
         visits: &mut Visits,
+        p: Id,
         cell: &Cell,
         copy: &Assignments,
     ) -> Result<(), AllocError>
-        requires visits { AreVisits visits.old }
+        requires has { Has store.now p }
+        requires visits { AreVisits store.now visits.old }
         requires told { IsTold cell.now self.old }
-        ensures visits { OnOk result (GoOn visits.old visits.new) }
-        ensures grown { OnOk result (Grows (tree visits.old.root.now) cell.now (copy.now ∷ []) self.old self.new) }
+        ensures visits { OnOk result (AreVisits store.now visits.new) }
+        ensures grown { OnOk result (Grows (tree_at store.now p) cell.now (copy.now ∷ []) self.old self.new) }
     {
         let here = cell.after(copy);
-        if let Some(known) = visits.get(&here) {
-            return self.follow(alloc, cell, copy, known);
+        if let Some(known) = visits.get(p, &here) {
+            return self.follow(alloc, store, cell, copy, known);
         }
-        let made = visits.make(alloc, &here)?;
-        self.follow(alloc, cell, copy, &made)?;
-        visits.keep(&here, made)
+        let made = visit_of(alloc, store, p, &here)?;
+        self.follow(alloc, store, cell, copy, &made)?;
+        visits.keep(p, &here, made)
     }
 
     // Adds what a visit's leaf makes of a copy's packet, and notes what was asked.
     fn follow(
         &mut self,
         alloc: Global,
+        store: &Store,
         cell: &Cell,
         copy: &Assignments,
         visit: &Visit,
     ) -> Result<(), AllocError>
         requires told { IsTold cell.now self.old }
-        ensures { (t : Tree) → IsVisitOf t (apply copy.now cell.now) visit.now → OnOk result (Grows t cell.now (copy.now ∷ []) self.old self.new) }
+        requires has { Has store.now visit.now.leaf }
+        requires leaf { IsLeaf (tree_at store.now visit.now.leaf) }
+        ensures { (t : Tree) → IsVisitOf store.now t (apply copy.now cell.now) visit.now → OnOk result (Grows t cell.now (copy.now ∷ []) self.old self.new) }
     {
         let here = cell.after(copy);
         self.note(&visit.asked)?;
-        for next in visit.leaf.copies() {
+        for next in store.leaf(visit.leaf).copies() {
             self.add(alloc, *here.after(next).generic(), copy, next)?;
         }
         Ok(())

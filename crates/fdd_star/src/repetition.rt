@@ -1,101 +1,163 @@
 // The star of a diagram, cell by cell.
-ghost use Rattle.std.specs.Prelude.{◌≡◌, [], MatchResult, IfOk, OnOk};
-ghost use Rattle.nk_values.specs.Members.{IsIn, SameMembers};
-ghost use Rattle.fdd_nodes.specs.Cells.{IsValid};
-ghost use Rattle.fdd_nodes.specs.Fdds.{tree_of};
+ghost use Rattle.std.specs.Prelude.{[], MatchResult, IfOk, OnOk};
+ghost use Rattle.nk_values.specs.Held.{put};
+ghost use Rattle.nk_values.specs.Lits.{lit_field};
+ghost use Rattle.nk_values.specs.Members.{SameMembers};
+ghost use Rattle.nk_values.specs.Packets.{IsInRange};
+ghost use Rattle.fdd_nodes.specs.Cells.{IsFresh, IsOpen, IsValid, open_cell};
 ghost use Rattle.fdd_nodes.specs.Names.{IsFew};
-ghost use Rattle.fdd_nodes.specs.Trees.{tree};
-ghost use Rattle.fdd_star.specs.Asks.{AreVisits, GoOn};
-ghost use Rattle.fdd_star.specs.Parts.{AreParts};
+ghost use Rattle.fdd_nodes.specs.Trees.{Tests};
+ghost use Rattle.fdd_star.specs.Faults.{IsErrorIn};
+ghost use Rattle.fdd_star.specs.Known.{AreKnown};
 ghost use Rattle.fdd_star.specs.Reaches.{StarBut};
-ghost use Rattle.fdd_star.specs.Stars.{StarOf, IsErrorOf};
-ghost use Rattle.fdd_store.specs.Stores.{Has, Grows, Gives, tree_at};
+ghost use Rattle.fdd_star.specs.Stars.{StarOf};
+ghost use Rattle.fdd_store.specs.Stores.{Has, Kept, Grows, Gives, tree_at};
 
 use crate::fault::StarError;
 use crate::parts::Parts;
 use crate::reach::Reach;
 use crate::visits::Visits;
-use fdd_nodes::{Assignments, Cell, Fdd, Leaf};
+use fdd_nodes::{Assignments, Cell, Leaf};
 use fdd_store::{Id, Store};
+use nk_values::{Lit, Packet};
 use std::alloc::{AllocError, Global};
+
+/// What is known of the stars of a store's diagrams: where packets come to, and the stars on the packets of cells.
+#[derive(Drop)]
+pub(crate) struct Known {
+    pub(crate) visits: Visits,
+    pub(crate) parts: Parts,
+}
+
+impl Known {
+    /// Nothing yet.
+    pub(crate) fn new(alloc: Global) -> Known
+        ensures { (k : Kept) → AreKnown k result }
+    {
+        Known {
+            visits: Visits::new(alloc),
+            parts: Parts::new(alloc),
+        }
+    }
+}
 
 /// The star of a diagram of a store, cell by cell.
 ///
 /// From the packet of a cell, which holds what is fixed and nothing that the diagram names elsewhere, the turns are made
 /// one by one, each on what the one before added. Each test that is asked of a field left open parts the cell; what any
-/// number of turns give where it holds is found once, also where other orders of tests lead to the same cell. 512 turns
-/// are made at most; where one more would add something, the fault has a packet and an output that show it.
-pub(crate) fn star_of_cells(alloc: Global, store: &mut Store, p: Id) -> Result<Id, StarError>
+/// number of turns give where it holds is found once, also where other orders of tests lead to the same cell. No turn
+/// changes a field that the diagram never sets: where a test of it holds, the star is that of the diagram's cofactor, and
+/// is found once for all tests that have the same one. 512 turns are made at most; where one more would add something, the
+/// fault has a packet and an output that show it.
+pub(crate) fn star_of_cells(
+    alloc: Global,
+    store: &mut Store,
+    known: &mut Known,
+    other: &Packet,
+    p: Id,
+) -> Result<Id, StarError>
     requires has { Has store.old p }
     requires few { IsFew (tree_at store.old p) }
+    requires known { AreKnown store.old known.old }
+    requires range { IsInRange other.now }
+    requires fresh { IsFresh other.now (tree_at store.old p) }
     ensures grows { Grows store.old store.new }
-    ensures star { MatchResult result (λ r. Gives store.new r (StarOf (tree_at store.old p))) (λ e. IsErrorOf (tree_at store.old p) e) }
+    ensures known { OnOk result (AreKnown store.new known.new) }
+    ensures star { MatchResult result (λ r. Gives store.new r (StarOf (tree_at store.old p))) (λ e. IsErrorIn (tree_at store.old p) open_cell other.now e) }
 {
-    let body = store.tree(alloc, p)?;
-    let mut visits = Visits::new(alloc, body.root());
-    let mut parts = Parts::new(alloc);
-    star_in(alloc, store, &body, &mut visits, &mut parts, &Cell::open())
+    part_in(alloc, store, known, other, p, &Cell::open())
 }
 
-// The star on the packets of a cell.
+// The star on the packets of a cell, kept or found anew.
+#[cycle(star)]
+fn part_in(
+    alloc: Global,
+    store: &mut Store,
+    known: &mut Known,
+    other: &Packet,
+    p: Id,
+    cell: &Cell,
+) -> Result<Id, StarError>
+    requires has { Has store.old p }
+    requires few { IsFew (tree_at store.old p) }
+    requires valid { IsValid cell.now }
+    requires known { AreKnown store.old known.old }
+    requires range { IsInRange other.now }
+    requires fresh { IsFresh other.now (tree_at store.old p) }
+    ensures grows { Grows store.old store.new }
+    ensures known { OnOk result (AreKnown store.new known.new) }
+    ensures star { MatchResult result (λ r. Gives store.new r (StarBut (tree_at store.old p) cell.now [])) (λ e. IsErrorIn (tree_at store.old p) cell.now other.now e) }
+{
+    if let Some(part) = known.parts.get(p, cell) {
+        return Ok(part);
+    }
+    let part = star_in(alloc, store, known, other, p, cell)?;
+    known.parts.keep(p, cell, part)?;
+    Ok(part)
+}
+
+// It found anew.
 #[cycle(star)]
 fn star_in(
     alloc: Global,
     store: &mut Store,
-    p: &Fdd,
-    visits: &mut Visits,
-    parts: &mut Parts,
+    known: &mut Known,
+    other: &Packet,
+    p: Id,
     cell: &Cell,
 ) -> Result<Id, StarError>
+    requires has { Has store.old p }
+    requires few { IsFew (tree_at store.old p) }
     requires valid { IsValid cell.now }
-    requires visits { AreVisits visits.old }
-    requires root { tree visits.old.root.now ≡ tree_of p.now }
-    requires parts { AreParts store.old (tree_of p.now) parts.old }
+    requires known { AreKnown store.old known.old }
+    requires range { IsInRange other.now }
+    requires fresh { IsFresh other.now (tree_at store.old p) }
     ensures grows { Grows store.old store.new }
-    ensures visits { OnOk result (GoOn visits.old visits.new) }
-    ensures parts { OnOk result (AreParts store.new (tree_of p.now) parts.new) }
-    ensures star { MatchResult result (λ r. Gives store.new r (StarBut (tree_of p.now) cell.now [])) (λ e. IsErrorOf (tree_of p.now) e) }
+    ensures known { OnOk result (AreKnown store.new known.new) }
+    ensures star { MatchResult result (λ r. Gives store.new r (StarBut (tree_at store.old p) cell.now [])) (λ e. IsErrorIn (tree_at store.old p) cell.now other.now e) }
 {
     let Reach {
         copies,
         mut asked,
         ..
-    } = Reach::of(alloc, p, visits, cell)?;
+    } = Reach::of(alloc, store, &mut known.visits, other, p, cell)?;
     let leaf = gathered(alloc, copies)?;
     let mut all = store.put_leaf(alloc, leaf)?;
     while let Some(l) = asked.pop_last() {
-        let part = part_in(alloc, store, p, visits, parts, cell, &cell.with(&l))?;
+        let part = part_of(alloc, store, known, other, p, cell, &l)?;
         all = store.choice(alloc, l, part, all)?;
     }
     Ok(all)
 }
 
-// The star on the packets of a cell within another one, kept or found anew.
+// The star where a literal holds of a field that the cell leaves open: that of the cofactor, if the field is never set.
 #[cycle(star)]
-fn part_in(
+fn part_of(
     alloc: Global,
     store: &mut Store,
-    p: &Fdd,
-    visits: &mut Visits,
-    parts: &mut Parts,
-    outer: &Cell,
+    known: &mut Known,
+    other: &Packet,
+    p: Id,
     cell: &Cell,
+    l: &Lit,
 ) -> Result<Id, StarError>
+    requires has { Has store.old p }
+    requires few { IsFew (tree_at store.old p) }
     requires valid { IsValid cell.now }
-    requires visits { AreVisits visits.old }
-    requires root { tree visits.old.root.now ≡ tree_of p.now }
-    requires parts { AreParts store.old (tree_of p.now) parts.old }
+    requires known { AreKnown store.old known.old }
+    requires range { IsInRange other.now }
+    requires fresh { IsFresh other.now (tree_at store.old p) }
+    requires tested { Tests (tree_at store.old p) l.now }
+    requires is_open { IsOpen cell.now (lit_field l.now) }
     ensures grows { Grows store.old store.new }
-    ensures visits { OnOk result (GoOn visits.old visits.new) }
-    ensures parts { OnOk result (AreParts store.new (tree_of p.now) parts.new) }
-    ensures star { MatchResult result (λ r. Gives store.new r (StarBut (tree_of p.now) cell.now [])) (λ e. IsErrorOf (tree_of p.now) e) }
+    ensures known { OnOk result (AreKnown store.new known.new) }
+    ensures star { MatchResult result (λ r. Gives store.new r (StarBut (tree_at store.old p) (put l.now cell.now) [])) (λ e. IsErrorIn (tree_at store.old p) cell.now other.now e) }
 {
-    if let Some(part) = parts.get(cell) {
-        return Ok(part);
+    if store.sets(p, l.field()) {
+        return part_in(alloc, store, known, other, p, &cell.with(l));
     }
-    let part = star_in(alloc, store, p, visits, parts, cell)?;
-    parts.keep(outer, cell, part)?;
-    Ok(part)
+    let part = store.cofactor(alloc, p, *l)?;
+    part_in(alloc, store, known, &l.put(other), part, cell)
 }
 
 // The leaf of some copies. They are sorted first, since it takes little time where they rise.

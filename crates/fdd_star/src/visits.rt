@@ -1,95 +1,95 @@
 // Where packets come to in a diagram.
-ghost use Rattle.std.specs.Prelude.{◌≡◌, ◌≤◌, IfOk, IfSome, OnOk};
-ghost use Rattle.fdd_nodes.specs.Trees.{tree, leaf_at};
-ghost use Rattle.fdd_nodes.specs.declared.node.Node.{size-Node};
-ghost use Rattle.fdd_star.specs.Asks.{AsksMore, IsOpenPart};
+ghost use Rattle.std.specs.Prelude.{◌≡◌, IfOk, OnOk};
+ghost use Rattle.fdd_nodes.specs.Trees.{Leaf, leaf_at};
+ghost use Rattle.fdd_star.specs.Asks.{AsksMore, ComesTo, IsVisitOf};
+ghost use Rattle.fdd_store.specs.Stores.{Has, Kept, tree_at};
 
-use fdd_nodes::{Cell, Known, Leaf, Node};
+use crate::keys::Key;
+use fdd_nodes::{Cell, Known};
+use fdd_store::{Id, Look, Store};
 use indexmap::IndexMap;
-use nk_values::{Lit, Packet};
+use nk_values::Lit;
 use std::alloc::{AllocError, Global};
 
 /// The leaf on a packet's path, and the tests that were asked on the way at fields which nothing fixes.
 #[derive(Drop)]
-pub(crate) struct Visit<'a> {
-    pub(crate) leaf: &'a Leaf,
+pub(crate) struct Visit {
+    pub(crate) leaf: Id,
     pub(crate) asked: Vec<Lit>,
 }
 
-/// Visits of a diagram, one for each packet: so a packet that is reached from many cells walks the diagram once.
+/// Visits of a store's diagrams, one for each packet: so a packet that is reached from many cells walks a diagram once.
 #[derive(Drop)]
-pub(crate) struct Visits<'a> {
-    pub(crate) root: &'a Node,
-    known: IndexMap<Packet, Visit<'a>>,
+pub(crate) struct Visits {
+    known: IndexMap<Key, Visit>,
 }
 
-impl<'a> Visits<'a> {
-    ghost use Rattle.fdd_star.specs.Asks.{IsVisitOf, AreVisits, GoOn};
+impl Visits {
+    ghost use Rattle.std.specs.Prelude.{IfSome};
+    ghost use Rattle.fdd_star.specs.Asks.{AreVisits, IsVisitOf};
 
     /// No visit yet.
-    pub(crate) fn new(alloc: Global, root: &'a Node) -> Visits<'a>
-        ensures root { tree result.root.now ≡ tree root.now }
-        ensures right { AreVisits result }
+    pub(crate) fn new(alloc: Global) -> Visits
+        ensures { (k : Kept) → AreVisits k result }
     {
         Visits {
-            root,
             known: IndexMap::new(alloc),
         }
     }
 
     /// The visit of a cell's packet, if it was kept.
-    pub(crate) fn get(&self, here: &Cell) -> Option<&Visit<'a>>
-        requires { AreVisits self.now }
-        ensures { IfSome result (λ v. IsVisitOf (tree self.now.root.now) here.now v.now) }
+    pub(crate) fn get(&self, diagram: Id, here: &Cell) -> Option<&Visit>
+        ensures { (k : Kept) → AreVisits k self.now → IfSome result (λ v. IsVisitOf k (tree_at k diagram) here.now v.now) }
     {
-        self.known.get(here.generic())
-    }
-
-    /// A visit of a cell's packet.
-    pub(crate) fn make(&self, alloc: Global, here: &Cell) -> Result<Visit<'a>, AllocError>
-        ensures { IfOk result (λ v. IsVisitOf (tree self.now.root.now) here.now v) }
-    {
-        let mut asked = Vec::new(alloc);
-        let leaf = walk(self.root, here, &mut asked)?;
-        Ok(Visit { leaf, asked })
+        self.known.get(&Key {
+            diagram,
+            packet: *here.generic(),
+        })
     }
 
     /// Keeps a visit.
-    pub(crate) fn keep(&mut self, here: &Cell, visit: Visit<'a>) -> Result<(), AllocError>
-        requires visits { AreVisits self.old }
-        requires right { IsVisitOf (tree self.old.root.now) here.now visit }
-        ensures { OnOk result (GoOn self.old self.new) }
+    pub(crate) fn keep(&mut self, diagram: Id, here: &Cell, visit: Visit) -> Result<(), AllocError>
+        ensures { (k : Kept) → AreVisits k self.old → Has k diagram → IsVisitOf k (tree_at k diagram) here.now visit → OnOk result (AreVisits k self.new) }
     {
-        self.known.insert(*here.generic(), visit)?;
+        let key = Key {
+            diagram,
+            packet: *here.generic(),
+        };
+        self.known.insert(key, visit)?;
         Ok(())
     }
 }
 
-// The leaf on the path of a cell's packet. Notes the tests of fields that the cell leaves open.
-fn walk<'a>(node: &'a Node, here: &Cell, asked: &mut Vec<Lit>) -> Result<&'a Leaf, AllocError>
-    ensures leaf { IfOk result (λ r. r.now ≡ leaf_at (tree node.now) here.now) }
-    ensures asked { OnOk result (AsksMore (tree node.now) here.now asked.old.items asked.new.items) }
+/// A visit of a cell's packet.
+pub(crate) fn visit_of(
+    alloc: Global,
+    store: &Store,
+    diagram: Id,
+    here: &Cell,
+) -> Result<Visit, AllocError>
+    requires { Has store.now diagram }
+    ensures { IfOk result (λ v. IsVisitOf store.now (tree_at store.now diagram) here.now v) }
 {
-    match open_part(node, here) {
-        Node::Leaf(leaf) => Ok(leaf),
-        Node::Test(l, _, e) => {
-            asked.push(*l)?;
-            walk(e, here, asked)
-        }
-    }
+    let mut asked = Vec::new(alloc);
+    let leaf = walk(store, diagram, here, &mut asked)?;
+    Ok(Visit { leaf, asked })
 }
 
-// What is left of a diagram from the first test on that the cell leaves open, or its leaf.
-fn open_part<'a>(node: &'a Node, here: &Cell) -> &'a Node
-    ensures part { IsOpenPart here.now (tree node.now) (tree result.now) }
-    ensures within { size-Node result.now ≤ size-Node node.now }
+// The leaf on the path of a cell's packet. Notes the tests of fields that the cell leaves open.
+fn walk(store: &Store, a: Id, here: &Cell, asked: &mut Vec<Lit>) -> Result<Id, AllocError>
+    requires has { Has store.now a }
+    ensures leaf { IfOk result (ComesTo store.now (tree_at store.now a) here.now) }
+    ensures asked { OnOk result (AsksMore (tree_at store.now a) here.now asked.old.items asked.new.items) }
 {
-    match node {
-        Node::Leaf(_) => node,
-        Node::Test(l, t, e) => match here.knows(l) {
-            Known::Open => node,
-            Known::Yes => open_part(t, here),
-            Known::No => open_part(e, here),
+    match store.look(a) {
+        Look::Leaf => Ok(a),
+        Look::Fork(l, t, e) => match here.knows(&l) {
+            Known::Yes => walk(store, t, here, asked),
+            Known::No => walk(store, e, here, asked),
+            Known::Open => {
+                asked.push(l)?;
+                walk(store, e, here, asked)
+            }
         },
     }
 }

@@ -1,9 +1,10 @@
 // The operations of a store. Each result is normal, and where memory runs out the store is as it was.
 ghost use Rattle.std.specs.Prelude.{◌≡◌, IfOk, OnErr};
+ghost use Rattle.nk_values.specs.Lits.{lit_field};
 ghost use Rattle.fdd_nodes.specs.Fdds.{tree_of};
 ghost use Rattle.fdd_nodes.specs.Names.{IsFew, AreFew};
 ghost use Rattle.fdd_nodes.specs.Trees as trees;
-ghost use Rattle.fdd_store.specs.Operations.{IsPredicate, OneOf, ZeroOf, TestOf, AssignmentOf, UnionOf, SequenceOf, NegationOf, ChoiceOf, CofactorOf, ReductionOf};
+ghost use Rattle.fdd_store.specs.Operations.{IsPredicate, OneOf, ZeroOf, TestOf, AssignmentOf, UnionOf, SequenceOf, NegationOf, ChoiceOf, CofactorOf, LeavesOut, ReductionOf};
 ghost use Rattle.fdd_store.specs.Stores.{Has, Grows, Gives, tree_at};
 
 use crate::id::Id;
@@ -140,6 +141,7 @@ impl Store {
         requires few { IsFew (tree_at self.old a) }
         ensures grows { Grows self.old self.new }
         ensures place { IfOk result (λ r. Gives self.new r (CofactorOf l (tree_at self.old a))) }
+        ensures past { IfOk result (λ r. LeavesOut (lit_field l) (tree_at self.new r)) }
         ensures err { OnErr result (self.new ≡ self.old) }
     {
         let size = self.size();

@@ -1,69 +1,160 @@
-use Rattle.std.proofs.Common.{List, [], sym, ap, subst, arith, ◌∙◌}
+use Rattle.std.proofs.Common.{rules, List, [], sym, ap, subst, arith, ◌∙◌}
 use Rattle.std.proofs.lemmas.Bool.{false≢true}
 use Rattle.nk_values.specs.declared.packet.Packet.{Packet}
 use Rattle.nk_values.specs.declared.lit.Lit.{Lit}
+use Rattle.nk_values.specs.Held.{put}
 use Rattle.nk_values.specs.Lits.{lit_field}
-use Rattle.fdd_nodes.specs.Cells.{IsValid, IsOpen}
-use Rattle.fdd_nodes.specs.Fdds.{tree_of}
+use Rattle.nk_values.specs.Packets.{IsInRange}
+use Rattle.fdd_nodes.specs.Cells.{IsFresh, IsValid, IsOpen}
+use Rattle.fdd_nodes.specs.Names.{IsFew}
 use Rattle.fdd_nodes.specs.Trees.{Tests}
 use Rattle.fdd_nodes.proofs.CellLaws.{valid_with}
 use Rattle.fdd_nodes.proofs.OpenLaws.{open_fields, fewer_open}
-use Rattle.fdd_star.specs.Reaches.{StarBut}
-use Rattle.fdd_star.proofs.StarLaws.{star_leaf, star_more, choice_few, fewer_left, last_of, none_left}
-use Rattle.fdd_star.proofs.PartLaws.{parts_grown}
+use Rattle.fdd_star.specs.Faults.{IsErrorIn}
+use Rattle.fdd_star.specs.Reaches.{IsNamedBy, StarBut}
+use Rattle.fdd_star.proofs.FaultLaws.{put_in_range, fresh_where, fault_where, fault_within}
+use Rattle.fdd_star.proofs.FieldLaws.{tested_fields, fewer_tested}
+use Rattle.fdd_star.proofs.KnownLaws.{known_grown, parts_grown, visits_grown, stays, stayed}
+use Rattle.fdd_star.proofs.PassingLaws.{match_on, star_where}
+use Rattle.fdd_star.proofs.StarLaws.{star_leaf, star_more, choice_few, few_within, fewer_left, last_of, none_left}
+use Rattle.fdd_store.specs.Entries.{SetsField}
 use Rattle.fdd_store.specs.Stores.{Gives, tree_at}
-use Rattle.fdd_store.proofs.StoreLaws.{gives_as, gives_grown, grows_on}
+use Rattle.fdd_store.proofs.StoreLaws.{gives_as, gives_grown, grows_on, has_grown, tree_grown}
 use Rattle.fdd_star.proofs.repetition.+star.Goals as goal
+
+pub part_in-returns-clause-known : goal.part_in-returns-clause-known
+part_in-returns-clause-known t c =
+    let k = c.star_in.new.store in
+    let g = c.in_ok-part.ensures.grows in
+    record {
+      visits = c.in_ok-part.ensures.known.visits;
+      parts = c.in_ok-keep.ensures k c.in_ok-part.ensures.known.parts (has_grown _ _ _ g c.requires.has) (stays (λ x. Gives k c.in_ok-part.part (StarBut x c.args.cell.now [])) _ _ _ g c.requires.has c.in_ok-part.ensures.star);
+    }
+
+pub part_of-part_in-requires : goal.part_of-part_in-requires
+part_of-part_in-requires t c =
+    let less = fewer_open c.args.cell.now c.args.l.now c.requires.is_open in
+    let e = ap open_fields c.with.ensures in (
+      omega (arith, less, e),
+      (c.requires.has, (c.requires.few, (subst IsValid (sym c.with.ensures) (valid_with c.args.cell.now c.args.l.now c.requires.valid), (c.requires.known, (c.requires.range, c.requires.fresh))))),
+    )
+
+pub part_of-returns-then-sets-clause-star : goal.part_of-returns-then-sets-clause-star
+part_of-returns-then-sets-clause-star t c =
+    let p = tree_at c.args.store.now c.args.p in
+    match_on c.part_in.result _ _ _ _
+    (λ r g. subst (λ (q : Packet). Gives c.part_in.new.store r (StarBut p q [])) c.with.ensures g)
+    (λ e h. fault_within p c.args.l.now c.args.cell.now c.args.other.now e c.requires.tested (subst (λ (q : Packet). IsErrorIn p q c.args.other.now e) c.with.ensures h))
+    c.part_in.ensures.star
+
+pub part_of-part_in-requires-2 : goal.part_of-part_in-requires-2
+part_of-part_in-requires-2 t c =
+    let p = tree_at c.args.store.now c.args.p in
+    let p' = tree_at c.cofactor.new.self c.in_ok-part.part in
+    let l = c.args.l.now in
+    let f = c.in_ok-part.ensures.place.is in
+    let unset : ¬ SetsField p (lit_field l) = λ w. false≢true (sym c.if-sets.false ∙ c.sets.ensures.1 (subst (SetsField p) (sym c.field.ensures) w)) in
+    let names : IsNamedBy p p' = record { tests = f.tests; assigns = f.assigns } in
+    let less = fewer_tested p' p f.tests l c.requires.tested c.in_ok-part.ensures.past in
+    let fresh = fresh_where p p' l c.args.cell.now c.args.other.now f.answer unset names c.requires.tested c.in_ok-part.ensures.past c.requires.fresh in (
+      omega (arith, less),
+      (
+        c.in_ok-part.ensures.place.has,
+        (
+          few_within p p' c.requires.few names,
+          (
+            c.requires.valid,
+            (
+              known_grown _ _ _ c.in_ok-part.ensures.grows c.requires.known,
+              (subst IsInRange (sym c.put.ensures) (put_in_range l c.args.other.now c.requires.range), subst (λ (g : Packet). IsFresh g p') (sym c.put.ensures) fresh),
+            ),
+          ),
+        ),
+      ),
+    )
+
+pub part_of-returns-clause-star : goal.part_of-returns-clause-star
+part_of-returns-clause-star t c =
+    let p = tree_at c.args.store.now c.args.p in
+    let p' = tree_at c.cofactor.new.self c.in_ok-part.part in
+    let l = c.args.l.now in
+    let cell = c.args.cell.now in
+    let f = c.in_ok-part.ensures.place.is in
+    let unset : ¬ SetsField p (lit_field l) = λ w. false≢true (sym c.if-sets.false ∙ c.sets.ensures.1 (subst (SetsField p) (sym c.field.ensures) w)) in
+    let names : IsNamedBy p p' = record { tests = f.tests; assigns = f.assigns } in
+    match_on c.part_in-2.result _ _ _ _
+    (λ r g. gives_as _ r _ _ (λ x w. star_where p p' l cell x unset f c.requires.is_open w) g)
+    (λ e h. fault_where p p' l cell c.args.other.now f.answer unset names c.requires.tested c.in_ok-part.ensures.past e c.requires.is_open
+    (subst (λ (g : Packet). IsErrorIn p' cell g e) c.put.ensures h))
+    c.part_in-2.ensures.star
 
 pub star_in-loop-l-init : goal.star_in-loop-l-init
 star_in-loop-l-init t c = (
-  gives_as _ _ _ _ (λ x e. subst (StarBut (tree_of c.args.p.now) c.args.cell.now c.in_ok-copies.field-0.asked.keys) (sym e)
+  gives_as _ _ _ _ (λ x e. subst (StarBut (tree_at c.args.store.now c.args.p) c.args.cell.now c.in_ok-copies.field-0.asked.keys) (sym e)
       (star_leaf _ _ _ _ c.in_ok-copies.ensures.reach c.in_ok-leaf.ensures)) c.in_ok-all.ensures.place,
   c.in_ok-copies.ensures.reach.is_open,
   c.in_ok-copies.ensures.reach.tests,
-  c.in_ok-copies.ensures.visits,
-  parts_grown _ _ _ _ c.in_ok-all.ensures.grows c.requires.parts,
+  record { visits = visits_grown _ _ _ c.in_ok-all.ensures.grows c.in_ok-copies.ensures.visits; parts = parts_grown _ _ _ c.in_ok-all.ensures.grows c.requires.known.parts },
   c.in_ok-all.ensures.grows,
 )
 
-pub star_in-part_in-requires : goal.star_in-part_in-requires
-star_in-part_in-requires t c =
-    let open_here = c.loop-l.invariant.1 c.in-Some.l (last_of _ _ _ c.in-Some.ensures.removal) in
-    let less = fewer_open c.args.cell.now c.in-Some.l open_here in
-    let e = ap open_fields c.with.ensures in (
-      omega (arith, less, e),
+pub star_in-part_of-requires : goal.star_in-part_of-requires
+star_in-part_of-requires t c =
+    let g = c.loop-l.invariant.4 in
+    let l = c.in-Some.l in
+    let among = last_of _ _ _ c.in-Some.ensures.removal in
+    let e = ap tested_fields (tree_grown _ _ _ g c.requires.has) in (
+      omega (arith, e),
       (
-        subst IsValid (sym c.with.ensures) (valid_with c.args.cell.now c.in-Some.l c.requires.valid),
-        (c.loop-l.invariant.3.right, (c.loop-l.invariant.3.root ∙ c.requires.root, c.loop-l.invariant.4)),
+        has_grown _ _ _ g c.requires.has,
+        (
+          stays IsFew _ _ _ g c.requires.has c.requires.few,
+          (
+            c.requires.valid,
+            (
+              c.loop-l.invariant.3,
+              (
+                c.requires.range,
+                (stays (IsFresh c.args.other.now) _ _ _ g c.requires.has c.requires.fresh, (stays (λ x. Tests x l) _ _ _ g c.requires.has (c.loop-l.invariant.2 l among), c.loop-l.invariant.1 l among)),
+              ),
+            ),
+          ),
+        ),
       ),
     )
 
 pub star_in-returns-in_err-part-clause-grows : goal.star_in-returns-in_err-part-clause-grows
-star_in-returns-in_err-part-clause-grows t c = grows_on _ _ _ c.loop-l.invariant.5 c.in_err-part.ensures.grows
+star_in-returns-in_err-part-clause-grows t c = grows_on _ _ _ c.loop-l.invariant.4 c.in_err-part.ensures.grows
+
+pub star_in-returns-in_err-part-clause-star : goal.star_in-returns-in_err-part-clause-star
+star_in-returns-in_err-part-clause-star t c =
+    let w = stayed (λ x. IsErrorIn x c.args.cell.now c.args.other.now c.in_err-part.field-0.0) _ _ _ c.loop-l.invariant.4 c.requires.has c.in_err-part.ensures.star in
+    search (rules, w)
 
 pub star_in-choice-requires-clause-few : goal.star_in-choice-requires-clause-few
 star_in-choice-requires-clause-few t c =
+    let p = tree_at c.args.store.now c.args.p in
+    let part = stayed (λ x. IsNamedBy x (tree_at c.part_of.new.store c.in_ok-part.part)) _ _ _ c.loop-l.invariant.4 c.requires.has c.in_ok-part.ensures.star.is.names in
     let rest = gives_grown _ _ _ _ c.in_ok-part.ensures.grows c.loop-l.invariant.0 in
-    choice_few _ _ _ _ c.args.p.now.few (c.loop-l.invariant.2 c.in-Some.l (last_of _ _ _ c.in-Some.ensures.removal)) c.in_ok-part.ensures.star.is.names rest.is.names
+    choice_few p _ _ _ c.requires.few (c.loop-l.invariant.2 c.in-Some.l (last_of _ _ _ c.in-Some.ensures.removal)) part rest.is.names
 
 pub star_in-returns-in_err-all-2-clause-grows : goal.star_in-returns-in_err-all-2-clause-grows
-star_in-returns-in_err-all-2-clause-grows t c = grows_on _ _ _ c.loop-l.invariant.5 (grows_on _ _ _ c.in_ok-part.ensures.grows c.in_err-all-2.ensures.grows)
+star_in-returns-in_err-all-2-clause-grows t c = grows_on _ _ _ c.loop-l.invariant.4 (grows_on _ _ _ c.in_ok-part.ensures.grows c.in_err-all-2.ensures.grows)
 
 pub star_in-loop-l-preserved : goal.star_in-loop-l-preserved
 star_in-loop-l-preserved t c =
     let removal = c.in-Some.ensures.removal in
-    let p = tree_of c.args.p.now in
-    let part = subst (λ (q : Packet). StarBut p q [] (tree_at c.part_in.new.store c.in_ok-part.part)) c.with.ensures c.in_ok-part.ensures.star.is in
+    let p = tree_at c.args.store.now c.args.p in
+    let part = stayed (λ x. StarBut x (put c.in-Some.l c.args.cell.now) [] (tree_at c.part_of.new.store c.in_ok-part.part)) _ _ _ c.loop-l.invariant.4 c.requires.has c.in_ok-part.ensures.star.is in
     let rest = gives_grown _ _ _ _ c.in_ok-part.ensures.grows c.loop-l.invariant.0 in (
       gives_as _ _ _ _ (λ x w. star_more p _ _ _ c.in-Some.l _ _ x (c.loop-l.invariant.2 c.in-Some.l (last_of _ _ _ removal)) removal part rest.is w) c.in_ok-all-2.ensures.place,
       fewer_left (λ (m : Lit). IsOpen c.args.cell.now (lit_field m)) _ _ _ removal c.loop-l.invariant.1,
       fewer_left (Tests p) _ _ _ removal c.loop-l.invariant.2,
-      record { root = c.in_ok-part.ensures.visits.root ∙ c.loop-l.invariant.3.root; right = c.in_ok-part.ensures.visits.right },
-      parts_grown _ _ _ _ c.in_ok-all-2.ensures.grows c.in_ok-part.ensures.parts,
-      grows_on _ _ _ c.loop-l.invariant.5 (grows_on _ _ _ c.in_ok-part.ensures.grows c.in_ok-all-2.ensures.grows),
+      known_grown _ _ _ c.in_ok-all-2.ensures.grows c.in_ok-part.ensures.known,
+      grows_on _ _ _ c.loop-l.invariant.4 (grows_on _ _ _ c.in_ok-part.ensures.grows c.in_ok-all-2.ensures.grows),
     )
 
 pub star_in-returns-clause-star : goal.star_in-returns-clause-star
 star_in-returns-clause-star t c =
     let none = none_left c.loop-l.asked.keys (λ b. false≢true (c.in_default.ensures.variant.1 b)) in
-    subst (λ (ls : List Lit). Gives c.loop-l.store c.loop-l.all (StarBut (tree_of c.args.p.now) c.args.cell.now ls)) none c.loop-l.invariant.0
+    subst (λ (ls : List Lit). Gives c.loop-l.store c.loop-l.all (StarBut (tree_at c.args.store.now c.args.p) c.args.cell.now ls)) none c.loop-l.invariant.0

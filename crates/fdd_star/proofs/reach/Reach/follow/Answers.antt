@@ -1,7 +1,7 @@
 use Rattle.std.proofs.Common.{sym, ◌∙◌, subst, ap, List, [], ◌∷◌, ◌++◌, take}
 use Rattle.std.proofs.lemmas.List.{take_more, take_all}
 use Rattle.nk_values.specs.declared.lit.Lit.{Lit}
-use Rattle.fdd_nodes.specs.Trees.{apply}
+use Rattle.fdd_nodes.specs.Trees.{Tree, leaf_at, apply}
 use Rattle.fdd_star.proofs.GrowLaws.{Adds, adds_more, asks_kept, asks_visit, grows_one}
 use Rattle.fdd_star.proofs.reach.Reach.follow.Goals as goal
 
@@ -17,6 +17,7 @@ loop-next-preserved c =
 
 pub returns : goal.returns
 returns c = λ t v.
-    let all = take_all c.loop-next.next-index c.copies-next-items.result.now c.loop-next-test.false ∙ c.copies-next-items.ensures.list ∙ v.leaf in
+    let whole = ap (λ (x : Tree). leaf_at x c.args.cell.now) (sym c.leaf.ensures ∙ v.leaf.is) in
+    let all = take_all c.loop-next.next-index c.copies-next-items.result.now c.loop-next-test.false ∙ c.copies-next-items.ensures.list ∙ whole in
     let adds = subst (λ (ds : List (List Lit)). Adds c.args.cell.now c.args.copy.now ds c.args.self.now c.loop-next.self) all c.loop-next.invariant.0 in
-    grows_one _ _ _ _ _ c.after-here.ensures.copy adds (asks_visit _ _ _ _ _ v c.loop-next.invariant.1)
+    grows_one _ _ _ _ _ c.after-here.ensures.copy adds (asks_visit _ _ _ _ _ _ v c.loop-next.invariant.1)

@@ -1,15 +1,11 @@
-use Rattle.std.proofs.Common.{ap, ◌∙◌, arith, length, List, get_or, refl, subst, drop}
+use Rattle.std.proofs.Common.{ap, ◌∙◌, arith, length, List, get_or}
 use Rattle.nk_values.specs.declared.lit.Lit.{Lit}
-use Rattle.fdd_nodes.specs.Trees.{Tree}
-use Rattle.fdd_star.specs.Reaches.{copies_of, Grows}
+use Rattle.fdd_star.proofs.FaultLaws.{fault_filled}
 use Rattle.fdd_star.proofs.TurnLaws.{turned_start, turned_next, closed_of, deep_named}
 use Rattle.fdd_star.proofs.reach.Reach.of.Goals as goal
 
 pub loop-turn-init : goal.loop-turn-init
-loop-turn-init c = (turned_start _ _ _ c.in_ok-all.ensures, record { root = refl; right = c.requires.visits })
-
-pub turn-requires-clause-visits : goal.turn-requires-clause-visits
-turn-requires-clause-visits c = c.loop-turn.invariant.1.right
+loop-turn-init c = (turned_start _ _ _ c.in_ok-all.ensures, c.requires.visits)
 
 pub returns-then-from-until : goal.returns-then-from-until
 returns-then-from-until c =
@@ -23,10 +19,7 @@ pub loop-turn-preserved : goal.loop-turn-preserved
 loop-turn-preserved c =
     let f = c.len-until.ensures in
     let k = c.loop-turn.all.copies.ok in
-    let here = c.loop-turn.invariant.1 in
-    let on = c.in_ok-turn.ensures.visits in
-    let grown = subst (λ (t : Tree). Grows t c.args.cell.now (drop c.loop-turn.from (copies_of c.loop-turn.all)) c.loop-turn.all c.turn.new.self) (here.root ∙ c.requires.root) c.in_ok-turn.ensures.grown in
-    (turned_next _ _ _ _ _ _ _ (omega (arith, f, k)) c.loop-turn.invariant.0 grown, record { root = on.root ∙ here.root; right = on.right })
+    (turned_next _ _ _ _ _ _ _ (omega (arith, f, k)) c.loop-turn.invariant.0 c.in_ok-turn.ensures.grown, c.in_ok-turn.ensures.visits)
 
 pub returns-in-None : goal.returns-in-None
 returns-in-None c =
@@ -45,5 +38,6 @@ returns-in-Some c =
     let at = c.in-Some.ensures.lookup.1 ∙ ap (λ (xs : List (List Lit)). get_or xs c.loop-turn.from c.in-Some.late.now) c.deref.ensures.value in
     record {
       visits = tt;
-      reach = deep_named _ _ _ _ c.loop-turn.turn c.loop-turn.from c.loop-turn.all _ _ _ _ c.root.ensures c.filled-packet.ensures c.filled-output.ensures c.after.ensures.made c.requires.valid c.unnamed-other.ensures (omega (arith, n, m)) c.loop-turn.invariant.0 (omega (arith, b, e)) at;
+      reach = fault_filled _ _ _ _ _ c.filled-packet.ensures
+          (deep_named _ _ _ c.loop-turn.turn c.loop-turn.from c.loop-turn.all _ _ _ _ c.filled-packet.ensures c.filled-output.ensures c.after.ensures.made c.requires.valid c.requires.range c.requires.fresh (omega (arith, n, m)) c.loop-turn.invariant.0 (omega (arith, b, e)) at);
     }

@@ -1,11 +1,12 @@
 use Rattle.std.proofs.Common.{ap, ◌∙◌}
 use Rattle.std.specs.Map.{lookup}
 use Rattle.nk_values.specs.declared.packet.Packet.{Packet}
-use Rattle.fdd_nodes.specs.Trees.{tree}
-use Rattle.fdd_star.specs.Asks.{IsVisitOf}
-use Rattle.fdd_star.proofs.EqualLaws.{packet_eq, same_of_equal}
+use Rattle.fdd_star.specs.Asks.{IsVisitAt}
 use Rattle.fdd_star.proofs.KeptLaws.{found_right}
+use Rattle.fdd_star.proofs.KnownLaws.{key_eq, same_key, key_of, in_key}
 use Rattle.fdd_star.proofs.visits.Visits.get.Goals as goal
 
 pub returns : goal.returns
-returns c = found_right packet_eq same_of_equal (IsVisitOf (tree c.args.self.now.root.now)) _ _ _ c.requires.right (c.get.ensures.value ∙ ap (λ (q : Packet). lookup (packet_eq q) c.args.self.now.known.entries) c.generic.ensures)
+returns c = λ k h.
+    let there = c.get.ensures.value ∙ ap (λ (q : Packet). lookup (key_eq (key_of c.args.diagram q)) c.args.self.now.known.entries) c.generic.ensures in
+    in_key k c.args.diagram c.args.here.now c.get.result (found_right key_eq same_key (IsVisitAt k) _ _ _ h.right there)

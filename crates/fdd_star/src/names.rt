@@ -1,0 +1,92 @@
+// What a diagram of a store names.
+ghost use Rattle.std.specs.Prelude.{IfOk, OnOk};
+ghost use Rattle.nk_values.specs.Members.{IsIn};
+ghost use Rattle.nk_values.specs.Packets.{IsInRange};
+ghost use Rattle.fdd_nodes.specs.Cells.{IsFresh};
+ghost use Rattle.fdd_nodes.specs.Names.{IsFew};
+ghost use Rattle.fdd_nodes.specs.Trees.{IsSetBy};
+ghost use Rattle.fdd_star.specs.Named.{AreNamed, Gains, NamesLit};
+ghost use Rattle.fdd_store.specs.Stores.{Has, tree_at};
+
+use fdd_differ::{Listed, unnamed};
+use fdd_nodes::Assignments;
+use fdd_store::{Id, Look, Store};
+use indexmap::IndexSet;
+use nk_values::{Lit, Packet};
+use std::alloc::{AllocError, Global};
+
+/// A packet in range that has nothing which a diagram names.
+pub(crate) fn other_packet(alloc: Global, store: &Store, p: Id) -> Result<Packet, AllocError>
+    requires has { Has store.now p }
+    requires few { IsFew (tree_at store.now p) }
+    ensures range { IfOk result IsInRange }
+    ensures fresh { IfOk result (λ g. IsFresh g (tree_at store.now p)) }
+{
+    let mut names = IndexSet::new(alloc);
+    let mut done = IndexSet::new(alloc);
+    add_names(store, &mut names, &mut done, p)?;
+    Ok(unnamed(&Listed {
+        lits: names.as_slice(),
+    }))
+}
+
+// Adds what a diagram names. A shared one is gone through once.
+#[cycle(names)]
+fn add_names(
+    store: &Store,
+    names: &mut IndexSet<Lit>,
+    done: &mut IndexSet<Id>,
+    a: Id,
+) -> Result<(), AllocError>
+    requires has { Has store.now a }
+    requires done { AreNamed store.now done.old.keys names.old.keys }
+    ensures done { OnOk result (AreNamed store.now done.new.keys names.new.keys) }
+    ensures names { OnOk result (Gains (NamesLit (tree_at store.now a)) names.old.keys names.new.keys) }
+{
+    if done.contains(&a) {
+        return Ok(());
+    }
+    add_names_anew(store, names, done, a)?;
+    done.insert(a)?;
+    Ok(())
+}
+
+#[cycle(names)]
+fn add_names_anew(
+    store: &Store,
+    names: &mut IndexSet<Lit>,
+    done: &mut IndexSet<Id>,
+    a: Id,
+) -> Result<(), AllocError>
+    requires has { Has store.now a }
+    requires done { AreNamed store.now done.old.keys names.old.keys }
+    ensures done { OnOk result (AreNamed store.now done.new.keys names.new.keys) }
+    ensures names { OnOk result (Gains (NamesLit (tree_at store.now a)) names.old.keys names.new.keys) }
+{
+    match store.look(a) {
+        Look::Leaf => add_copies(names, store.leaf(a).copies()),
+        Look::Fork(l, t, e) => {
+            names.insert(l)?;
+            add_names(store, names, done, t)?;
+            add_names(store, names, done, e)
+        }
+    }
+}
+
+fn add_copies(names: &mut IndexSet<Lit>, copies: &[Assignments]) -> Result<(), AllocError>
+    ensures { OnOk result (Gains (IsSetBy copies.now) names.old.keys names.new.keys) }
+{
+    for copy in copies {
+        add_lits(names, copy.lits())?;
+    }
+    Ok(())
+}
+
+fn add_lits(names: &mut IndexSet<Lit>, lits: &[Lit]) -> Result<(), AllocError>
+    ensures { OnOk result (Gains (IsIn lits.now) names.old.keys names.new.keys) }
+{
+    for l in lits {
+        names.insert(*l)?;
+    }
+    Ok(())
+}
