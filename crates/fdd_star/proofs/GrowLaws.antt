@@ -1,12 +1,15 @@
 -- How what is reached grows.
-use Rattle.std.proofs.Common.{◌≡◌, ◌⊎◌, ℕ, ◌+◌, ◌-◌, ◌<◌, ◌≤◌, inl, inr, refl, ap, sym, ◌∙◌, subst, arith, List, [], ◌∷◌, ◌++◌, length, take, drop, get_or}
+use Rattle.std.proofs.Common.{◌≡◌, ◌⊎◌, ℕ, ◌+◌, ◌-◌, ◌<◌, ◌≤◌, inl, inr, refl, ap, sym, ◌∙◌, subst, arith, true, List, [], ◌∷◌, ◌++◌, length, take, drop, get_or}
+use Rattle.std.proofs.lemmas.Bool.{false≢true, or_cases}
 use Rattle.std.proofs.lemmas.List.{append_assoc, append-nil, take_more, take_all, length-drop, get_or-drop, get_or_append_left}
 use Rattle.std.specs.declared.cmp.Ordering.{Ordering}
 use Rattle.std.specs.declared.cmp.Ordering.TheVariants.{Less, Equal, Greater}
 use Rattle.std.specs.Prelude.{Result, Ok, Err, OnOk}
+use Rattle.std.specs.BTreeMap.{is_at}
 use Rattle.std.specs.BTreeSet.{insert_key}
 use Rattle.std.specs.FinMap.{nat_cmp-IsAntisymmetric}
-use Rattle.std.specs.Ordering.{match_ordering}
+use Rattle.std.specs.List.{list_any}
+use Rattle.std.specs.Ordering.{is_eq, match_ordering}
 use Rattle.nk_values.specs.declared.packet.Packet.{Packet}
 use Rattle.nk_values.specs.declared.lit.Lit.{Lit}
 use Rattle.nk_values.specs.Held.{Holds}
@@ -46,6 +49,18 @@ insert_has (x ∷ xs) l = by (lit_cmp l x) refl (insert_has xs l)
     by Less e h = inl refl
     by Equal e h = inl (sym (same_rank l x (nat_cmp-IsAntisymmetric (rank l) (rank x) e)))
     by Greater e h = inr h
+
+equal : (r : Ordering) → is_eq r ≡ true → r ≡ Equal
+equal Less h = absurd (false≢true h)
+equal Equal h = refl
+equal Greater h = absurd (false≢true h)
+
+pub found_asked : (ls : List Lit) (l : Lit) → list_any (is_at (lit_cmp l)) ls ≡ true → IsIn ls l
+found_asked [] l h = absurd (false≢true h)
+found_asked (x ∷ xs) l h = elim (or_cases (is_at (lit_cmp l) x) (list_any (is_at (lit_cmp l)) xs) h) [
+  | inl e ↦ inl (sym (same_rank l x (nat_cmp-IsAntisymmetric (rank l) (rank x) (equal (lit_cmp l x) e))))
+  | inr n ↦ inr (found_asked xs l n)
+]
 
 insert_kept : (ls : List Lit) (l m : Lit) → IsIn ls m → IsIn (insert_key lit_cmp ls l) m
 insert_kept [] l m h = absurd h

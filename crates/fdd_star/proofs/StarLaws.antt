@@ -17,11 +17,12 @@ use Rattle.std.proofs.lemmas.List.Sorted.{Contains-permutation, IsPermutation-sy
 use Rattle.fdd_nodes.specs.Names.{literals, IsFew}
 use Rattle.fdd_nodes.proofs.CellLaws.{lit_not_free, agrees_with, open_agrees, get-open}
 use Rattle.fdd_nodes.proofs.MakesLaws.{source, outcome}
+use Rattle.fdd_nodes.proofs.SplitLaws.{leaf_at-else}
 use Rattle.fdd_nodes.proofs.NameLaws.{count_within, named, tests_literal, assigns_literal}
 use Rattle.fdd_store.specs.Operations.{ChoiceOf}
 use Rattle.fdd_star.specs.declared.reach.Reach.{Reach}
 use Rattle.fdd_star.specs.Asks.{Asks}
-use Rattle.fdd_star.specs.Reaches.{copies_of, asked_of, IsClosed, IsNamedBy, Misses, StarBut}
+use Rattle.fdd_star.specs.Reaches.{copies_of, asked_of, IsBehind, IsClosed, IsNamedBy, Misses, StarBut}
 use Rattle.fdd_star.specs.Stars.{Turns, StarOf, IsShallow}
 use Rattle.fdd_star.proofs.FillLaws.{EscapesAll, fill_agrees, apply_fill, turns_filled, filled_turns}
 
@@ -65,32 +66,50 @@ star_leaf p c r cs h s = record {
         let o = source (copies_of r) c q (h.all n q w) in
         miss m (h.asks o.copy m o.among (subst (λ (z : Packet). Asks p z m) (sym o.makes) k))
 
+-- a diagram names what what is left of it names
+pub named_on : (p a r : Tree) → IsNamedBy p a → IsNamedBy a r → IsNamedBy p r
+named_on p a r h k = record { tests = λ m w. h.tests m (k.tests m w); assigns = λ m w. h.assigns m (k.assigns m w) }
+
 -- one literal more may be held
-pub star_more : (p : Tree) (c : Packet) (ls ms : List Lit) (l : Lit) (a b r : Tree) → Tests p l → ls ≡ ms ++ l ∷ [] → StarBut p (put l c) [] a → StarBut p c ls b → ChoiceOf l a b r → StarBut p c ms r
-star_more p c ls ms l a b r tested e ha hb choice = record {
+pub star_more : (p : Tree) (c : Packet) (ls ms : List Lit) (l : Lit) (w a b r : Tree) → Tests p l → ls ≡ ms ++ l ∷ [] → StarBut p (put l c) [] w → IsBehind ms w a → StarBut p c ls b → ChoiceOf l a b r → StarBut p c ms r
+star_more p c ls ms l w a b r tested e hw behind hb choice = record {
   made = λ pk out g miss k. elim (eqb_tells (get pk (lit_field l)) (lit_value l)) [
-    | inl y ↦ ha.made pk out (agrees_with c pk l y.1 g) (λ m n. absurd n) ((choice.yes pk y.1).front out k)
+    | inl y ↦ hw.made pk out (agrees_with c pk l y.1 g) (λ m n. absurd n) (subst (λ (xs : List Packet). IsIn xs out) (behind.same pk miss) ((choice.yes pk y.1).front out k))
     | inr y ↦ hb.made pk out g (misses pk miss y.1) ((choice.no pk y.1).front out k)
   ];
   all = λ n pk out g miss k. elim (eqb_tells (get pk (lit_field l)) (lit_value l)) [
-    | inl y ↦ (choice.yes pk y.1).back out (ha.all n pk out (agrees_with c pk l y.1 g) (λ m n'. absurd n') k)
+    | inl y ↦ (choice.yes pk y.1).back out (subst (λ (xs : List Packet). IsIn xs out) (sym (behind.same pk miss)) (hw.all n pk out (agrees_with c pk l y.1 g) (λ m n'. absurd n') k))
     | inr y ↦ (choice.no pk y.1).back out (hb.all n pk out g (misses pk miss y.1) k)
   ];
   normal = choice.normal;
   names = record {
     tests = λ m k. elim (choice.tests m k) [
       | inl v ↦ subst (Tests p) v tested
-      | inr v ↦ elim v [ inl w ↦ ha.names.tests m w | inr w ↦ hb.names.tests m w ]
+      | inr v ↦ elim v [ inl u ↦ part.tests m u | inr u ↦ hb.names.tests m u ]
     ];
-    assigns = λ m k. elim (choice.assigns m k) [ inl w ↦ ha.names.assigns m w | inr w ↦ hb.names.assigns m w ];
+    assigns = λ m k. elim (choice.assigns m k) [ inl u ↦ part.assigns m u | inr u ↦ hb.names.assigns m u ];
   };
 }
   where
+    part : IsNamedBy p a
+    part = named_on p w a hw.names behind.names
+
     misses : (pk : Packet) → Misses ms pk → ¬ Holds pk l → Misses ls pk
     misses pk miss n m k = elim (in-either ms (l ∷ []) m (subst (λ (xs : List Lit). IsIn xs m) e k)) [
       | inl i ↦ miss m i
-      | inr i ↦ elim i [ inl w ↦ subst (λ (x : Lit). ¬ Holds pk x) w n | inr o ↦ absurd o ]
+      | inr i ↦ elim i [ inl s ↦ subst (λ (x : Lit). ¬ Holds pk x) s n | inr o ↦ absurd o ]
     ]
+
+-- past a test that does not hold
+
+pub behind_none : (ls : List Lit) (a : Tree) → IsBehind ls a a
+behind_none ls a = record { same = λ pk h. refl; names = record { tests = λ m k. k; assigns = λ m k. k } }
+
+pub behind_else : (ls : List Lit) (l : Lit) (t e r : Tree) → IsIn ls l → IsBehind ls e r → IsBehind ls (Node l t e) r
+behind_else ls l t e r i h = record {
+  same = λ pk miss. h.same pk miss ∙ sym (ap (λ cs. outcomes cs pk) (leaf_at-else l t e pk (miss l i)));
+  names = record { tests = λ m k. inr (inr (h.names.tests m k)); assigns = λ m k. inr (h.names.assigns m k) };
+}
 
 -- the test and both parts name few values
 pub choice_few : (p : Tree) (l : Lit) (a b : Tree) → IsFew p → Tests p l → IsNamedBy p a → IsNamedBy p b → IsFew (Node l a b)

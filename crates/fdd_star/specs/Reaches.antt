@@ -94,6 +94,11 @@ pub record IsNamedBy (p a : Tree) : Type 0 where
 abbrev pub Misses : List Lit → Packet → Type 0
 Misses ls pk = (m : Lit) → IsIn ls m → ¬ Holds pk m
 
+-- on each packet that holds none of some literals, r answers as a, and it names only what a names
+pub record IsBehind (ls : List Lit) (a r : Tree) : Type 0 where
+  pub same : (pk : Packet) → Misses ls pk → answers r pk ≡ answers a pk
+  pub names : IsNamedBy a r
+
 -- on each packet of the cell that holds none of some literals, r answers as the star of p
 pub record StarBut (p : Tree) (c : Packet) (ls : List Lit) (r : Tree) : Type 0 where
   pub made : (pk out : Packet) → Agrees c pk → Misses ls pk → IsIn (answers r pk) out → AtMost p 512 pk out

@@ -9,7 +9,7 @@ ghost use Rattle.fdd_nodes.specs.Names.{IsFew};
 ghost use Rattle.fdd_nodes.specs.Trees.{Tests};
 ghost use Rattle.fdd_star.specs.Faults.{IsErrorIn};
 ghost use Rattle.fdd_star.specs.Known.{AreKnown};
-ghost use Rattle.fdd_star.specs.Reaches.{StarBut};
+ghost use Rattle.fdd_star.specs.Reaches.{IsBehind, StarBut};
 ghost use Rattle.fdd_star.specs.Stars.{StarOf};
 ghost use Rattle.fdd_store.specs.Stores.{Has, Kept, Grows, Gives, tree_at};
 
@@ -18,9 +18,10 @@ use crate::parts::Parts;
 use crate::reach::Reach;
 use crate::visits::Visits;
 use fdd_nodes::{Assignments, Cell, Leaf};
-use fdd_store::{Id, Store};
+use fdd_store::{Id, Look, Store};
 use nk_values::{Lit, Packet};
 use std::alloc::{AllocError, Global};
+use std::collections::BTreeSet;
 
 /// What is known of the stars of a store's diagrams: where packets come to, and the stars on the packets of cells.
 #[derive(Drop)]
@@ -124,10 +125,30 @@ fn star_in(
     let leaf = gathered(alloc, copies)?;
     let mut all = store.put_leaf(alloc, leaf)?;
     while let Some(l) = asked.pop_last() {
-        let part = part_of(alloc, store, known, other, p, cell, &l)?;
+        let whole = part_of(alloc, store, known, other, p, cell, &l)?;
+        let part = behind(store, &asked, whole);
         all = store.choice(alloc, l, part, all)?;
     }
     Ok(all)
+}
+
+// What is left of a diagram where none of some literals holds, past its first tests of them. What it answers where one of
+// them holds is not made again, only to go when that literal takes its turn.
+fn behind(store: &Store, asked: &BTreeSet<Lit>, a: Id) -> Id
+    requires { Has store.now a }
+    ensures has { Has store.now result }
+    ensures behind { IsBehind asked.now.keys (tree_at store.now a) (tree_at store.now result) }
+{
+    match store.look(a) {
+        Look::Leaf => a,
+        Look::Fork(l, _, no) => {
+            if asked.contains(&l) {
+                behind(store, asked, no)
+            } else {
+                a
+            }
+        }
+    }
 }
 
 // The star where a literal holds of a field that the cell leaves open: that of the cofactor, if the field is never set.

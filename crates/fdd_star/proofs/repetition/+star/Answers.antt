@@ -16,7 +16,7 @@ use Rattle.fdd_star.proofs.FaultLaws.{put_in_range, fresh_where, fault_where, fa
 use Rattle.fdd_star.proofs.FieldLaws.{tested_fields, fewer_tested}
 use Rattle.fdd_star.proofs.KnownLaws.{known_grown, parts_grown, visits_grown, stays, stayed}
 use Rattle.fdd_star.proofs.PassingLaws.{match_on, star_where}
-use Rattle.fdd_star.proofs.StarLaws.{star_leaf, star_more, choice_few, few_within, fewer_left, last_of, none_left}
+use Rattle.fdd_star.proofs.StarLaws.{star_leaf, star_more, choice_few, few_within, fewer_left, last_of, named_on, none_left}
 use Rattle.fdd_store.specs.Entries.{SetsField}
 use Rattle.fdd_store.specs.Stores.{Gives, tree_at}
 use Rattle.fdd_store.proofs.StoreLaws.{gives_as, gives_grown, grows_on, has_grown, tree_grown}
@@ -123,35 +123,35 @@ star_in-part_of-requires t c =
       ),
     )
 
-pub star_in-returns-in_err-part-clause-grows : goal.star_in-returns-in_err-part-clause-grows
-star_in-returns-in_err-part-clause-grows t c = grows_on _ _ _ c.loop-l.invariant.4 c.in_err-part.ensures.grows
+pub star_in-returns-in_err-whole-clause-grows : goal.star_in-returns-in_err-whole-clause-grows
+star_in-returns-in_err-whole-clause-grows t c = grows_on _ _ _ c.loop-l.invariant.4 c.in_err-whole.ensures.grows
 
-pub star_in-returns-in_err-part-clause-star : goal.star_in-returns-in_err-part-clause-star
-star_in-returns-in_err-part-clause-star t c =
-    let w = stayed (λ x. IsErrorIn x c.args.cell.now c.args.other.now c.in_err-part.field-0.0) _ _ _ c.loop-l.invariant.4 c.requires.has c.in_err-part.ensures.star in
+pub star_in-returns-in_err-whole-clause-star : goal.star_in-returns-in_err-whole-clause-star
+star_in-returns-in_err-whole-clause-star t c =
+    let w = stayed (λ x. IsErrorIn x c.args.cell.now c.args.other.now c.in_err-whole.field-0.0) _ _ _ c.loop-l.invariant.4 c.requires.has c.in_err-whole.ensures.star in
     search (rules, w)
 
 pub star_in-choice-requires-clause-few : goal.star_in-choice-requires-clause-few
 star_in-choice-requires-clause-few t c =
     let p = tree_at c.args.store.now c.args.p in
-    let part = stayed (λ x. IsNamedBy x (tree_at c.part_of.new.store c.in_ok-part.part)) _ _ _ c.loop-l.invariant.4 c.requires.has c.in_ok-part.ensures.star.is.names in
-    let rest = gives_grown _ _ _ _ c.in_ok-part.ensures.grows c.loop-l.invariant.0 in
-    choice_few p _ _ _ c.requires.few (c.loop-l.invariant.2 c.in-Some.l (last_of _ _ _ c.in-Some.ensures.removal)) part rest.is.names
+    let whole = stayed (λ x. IsNamedBy x (tree_at c.part_of.new.store c.in_ok-whole.whole)) _ _ _ c.loop-l.invariant.4 c.requires.has c.in_ok-whole.ensures.star.is.names in
+    let rest = gives_grown _ _ _ _ c.in_ok-whole.ensures.grows c.loop-l.invariant.0 in
+    choice_few p _ _ _ c.requires.few (c.loop-l.invariant.2 c.in-Some.l (last_of _ _ _ c.in-Some.ensures.removal)) (named_on p _ _ whole c.behind-part.ensures.behind.names) rest.is.names
 
 pub star_in-returns-in_err-all-2-clause-grows : goal.star_in-returns-in_err-all-2-clause-grows
-star_in-returns-in_err-all-2-clause-grows t c = grows_on _ _ _ c.loop-l.invariant.4 (grows_on _ _ _ c.in_ok-part.ensures.grows c.in_err-all-2.ensures.grows)
+star_in-returns-in_err-all-2-clause-grows t c = grows_on _ _ _ c.loop-l.invariant.4 (grows_on _ _ _ c.in_ok-whole.ensures.grows c.in_err-all-2.ensures.grows)
 
 pub star_in-loop-l-preserved : goal.star_in-loop-l-preserved
 star_in-loop-l-preserved t c =
     let removal = c.in-Some.ensures.removal in
     let p = tree_at c.args.store.now c.args.p in
-    let part = stayed (λ x. StarBut x (put c.in-Some.l c.args.cell.now) [] (tree_at c.part_of.new.store c.in_ok-part.part)) _ _ _ c.loop-l.invariant.4 c.requires.has c.in_ok-part.ensures.star.is in
-    let rest = gives_grown _ _ _ _ c.in_ok-part.ensures.grows c.loop-l.invariant.0 in (
-      gives_as _ _ _ _ (λ x w. star_more p _ _ _ c.in-Some.l _ _ x (c.loop-l.invariant.2 c.in-Some.l (last_of _ _ _ removal)) removal part rest.is w) c.in_ok-all-2.ensures.place,
+    let whole = stayed (λ x. StarBut x (put c.in-Some.l c.args.cell.now) [] (tree_at c.part_of.new.store c.in_ok-whole.whole)) _ _ _ c.loop-l.invariant.4 c.requires.has c.in_ok-whole.ensures.star.is in
+    let rest = gives_grown _ _ _ _ c.in_ok-whole.ensures.grows c.loop-l.invariant.0 in (
+      gives_as _ _ _ _ (λ x w. star_more p _ _ _ c.in-Some.l _ _ _ x (c.loop-l.invariant.2 c.in-Some.l (last_of _ _ _ removal)) removal whole c.behind-part.ensures.behind rest.is w) c.in_ok-all-2.ensures.place,
       fewer_left (λ (m : Lit). IsOpen c.args.cell.now (lit_field m)) _ _ _ removal c.loop-l.invariant.1,
       fewer_left (Tests p) _ _ _ removal c.loop-l.invariant.2,
-      known_grown _ _ _ c.in_ok-all-2.ensures.grows c.in_ok-part.ensures.known,
-      grows_on _ _ _ c.loop-l.invariant.4 (grows_on _ _ _ c.in_ok-part.ensures.grows c.in_ok-all-2.ensures.grows),
+      known_grown _ _ _ c.in_ok-all-2.ensures.grows c.in_ok-whole.ensures.known,
+      grows_on _ _ _ c.loop-l.invariant.4 (grows_on _ _ _ c.in_ok-whole.ensures.grows c.in_ok-all-2.ensures.grows),
     )
 
 pub star_in-returns-clause-star : goal.star_in-returns-clause-star
