@@ -19,7 +19,7 @@ same_of_equal x y h = search rules
 equal_itself : (x : Packet) → packet_eq x x ≡ true
 equal_itself x = search rules
 
-found : (ks : List Packet) (q : Packet) → list_any (packet_eq q) ks ≡ true → IsIn ks q
+pub found : (ks : List Packet) (q : Packet) → list_any (packet_eq q) ks ≡ true → IsIn ks q
 found [] q h = absurd (false≢true h)
 found (x ∷ xs) q h = by (packet_eq q x) refl (found xs q) h
   where

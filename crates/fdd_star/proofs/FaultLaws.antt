@@ -9,16 +9,18 @@ use Rattle.nk_values.specs.Packets.{get, IsInRange}
 use Rattle.nk_values.specs.Ranges.{IsValue, place}
 use Rattle.nk_values.proofs.LitLaws.{same_lit, lit_is_value}
 use Rattle.nk_values.proofs.PacketLaws.{get-with_same, get-with_other, field_cases}
-use Rattle.fdd_nodes.specs.Cells.{IsOpen, IsFresh, fill, open_cell}
+use Rattle.fdd_nodes.specs.Cells.{Agrees, IsOpen, IsFresh, fill, open_cell}
 use Rattle.fdd_nodes.specs.Trees.{Tree, Node, answers, SameAnswers, Tests}
 use Rattle.fdd_nodes.proofs.CellLaws.{tells_open, fill_fixed, fill_open, get-open, lit_not_free}
 use Rattle.fdd_star.specs.declared.fault.StarError.{StarError}
 use Rattle.fdd_star.specs.declared.fault.StarError.TheVariants.{Fault, Memory}
 use Rattle.fdd_star.specs.Faults.{IsErrorIn}
+use Rattle.fdd_star.specs.Narrow.{IsNarrowed}
 use Rattle.fdd_star.specs.Passing.{Passes}
 use Rattle.fdd_star.specs.Reaches.{IsNamedBy}
 use Rattle.fdd_star.specs.Stars.{IsDeep, IsErrorOf}
-use Rattle.fdd_star.proofs.PassingLaws.{deep_from, holds_on, lacks_on, Held, Lacked}
+use Rattle.fdd_star.proofs.NarrowLaws.{deep_narrowed, narrowed_none}
+use Rattle.fdd_star.proofs.PassingLaws.{agrees_out, deep_from, holds_on, lacks_on, Held, Lacked}
 use Rattle.fdd_store.specs.Entries.{SetsField}
 use Rattle.fdd_store.specs.Looks.{Forked}
 use Rattle.fdd_store.specs.Made.{IsMade, IsLater}
@@ -50,6 +52,7 @@ put_in_range l g r = λ f. elim (field_cases (lit_field l) f) [
 pub fault_filled : (p : Tree) (c g pk out : Packet) → pk ≡ fill c g → IsDeep p pk out → IsErrorIn p c g (Fault (record { packet = pk; output = out }))
 fault_filled p c g pk out e d = record {
   deep = d;
+  agrees = subst (Agrees c) (sym e) (record { at = fill_fixed c g });
   kept = λ x o _. ap (λ z. get z x) e ∙ fill_open c g x o;
   only = λ m h. elim (tells_open c (lit_field m)) [
     | inl y ↦ inr (inl (sym (fill_open c g (lit_field m) y.1) ∙ ap (λ z. get z (lit_field m)) (sym e) ∙ h))
@@ -58,39 +61,42 @@ fault_filled p c g pk out e d = record {
 }
 
 -- that of a cell within another one
-pub fault_within : (p : Tree) (l : Lit) (c g : Packet) (e : StarError) → Tests p l → IsErrorIn p (put l c) g e → IsErrorIn p c g e
-fault_within p l c g Memory t h = tt
-fault_within p l c g (Fault f) t h = record {
+pub fault_within : (p : Tree) (l : Lit) (c g : Packet) (e : StarError) → Tests p l → IsOpen c (lit_field l) → IsErrorIn p (put l c) g e → IsErrorIn p c g e
+fault_within p l c g Memory t o h = tt
+fault_within p l c g (Fault f) t o h = record {
   deep = h.deep;
-  kept = λ x o out. h.kept x (open_besides l c x (out l t) o) out;
+  agrees = agrees_out c f.packet l o h.agrees;
+  kept = λ x o' out. h.kept x (open_besides l c x (out l t) o') out;
   only = λ m k. elim (h.only m k) [
     | inl w ↦ elim (put_holds l m c w) [ inl s ↦ inr (inr (subst (Tests p) s t)) | inr u ↦ inl u ]
     | inr w ↦ inr w
   ];
 }
 
--- where a literal holds of a field that is never set, that of a diagram which answers alike there
-module _ (p p' : Tree) (l : Lit) (c g : Packet) (same : (pk : Packet) → Holds pk l → SameAnswers (answers p' pk) (answers p pk)) (n : ¬ SetsField p (lit_field l)) (names : IsNamedBy p p') (tested : Tests p l) (out : LeavesOut (lit_field l) p') where
-  pub fresh_where : IsFresh g p → IsFresh (put l g) p'
-  fresh_where h = record {
-    tested = λ m k w. elim (put_holds l m g w) [ inl s ↦ out m k (ap lit_field (sym s)) | inr u ↦ h.tested m (names.tests m k) u ];
-    assigned = λ m k w. elim (put_holds l m g w) [
-      | inl s ↦ n (record { lit = m; assigned = names.assigns m k; field = ap lit_field (sym s) })
-      | inr u ↦ h.assigned m (names.assigns m k) u
-    ];
-  }
+-- a packet with a literal of a field that is never set, and what no more is tested of it
+pub fresh_where : (p p' : Tree) (l : Lit) (g : Packet) → (¬ SetsField p (lit_field l)) → IsNamedBy p p' → LeavesOut (lit_field l) p' → IsFresh g p → IsFresh (put l g) p'
+fresh_where p p' l g n names out h = record {
+  tested = λ m k w. elim (put_holds l m g w) [ inl s ↦ out m k (ap lit_field (sym s)) | inr u ↦ h.tested m (names.tests m k) u ];
+  assigned = λ m k w. elim (put_holds l m g w) [
+    | inl s ↦ n (record { lit = m; assigned = names.assigns m k; field = ap lit_field (sym s) })
+    | inr u ↦ h.assigned m (names.assigns m k) u
+  ];
+}
 
-  pub fault_where : (e : StarError) → IsOpen c (lit_field l) → IsErrorIn p' c (put l g) e → IsErrorIn p c g e
+-- where a literal holds of a field that is never set, that of a diagram which answers alike there, or as what makes the turns
+module _ (w p p' : Tree) (l : Lit) (c g : Packet) (same : (pk : Packet) → Holds pk l → SameAnswers (answers p' pk) (answers p pk)) (n : ¬ SetsField p (lit_field l)) (narrowed : IsNarrowed w c p) (names : IsNamedBy w p') (tested : Tests w l) (out : LeavesOut (lit_field l) p') where
+  pub fault_where : (e : StarError) → IsOpen c (lit_field l) → IsErrorIn p' c (put l g) e → IsErrorIn w c g e
   fault_where Memory o h = tt
   fault_where (Fault f) o h =
       let held : Holds f.packet l = h.kept (lit_field l) o out ∙ get-with_same g (lit_field l) (lit_value l) in
       record {
-        deep = deep_from p p' (Held l) same (holds_on p l n) f.packet f.output held h.deep;
+        deep = deep_narrowed w p c f.packet f.output narrowed h.agrees (deep_from p p' (Held l) same (holds_on p l n) f.packet f.output held h.deep);
+        agrees = h.agrees;
         kept = λ x o' out'. h.kept x o' (λ m k. out' m (names.tests m k)) ∙ get-with_other g (lit_field l) x (lit_value l) (out' l tested);
         only = λ m k. elim (h.only m k) [
-          | inl w ↦ inl w
-          | inr w ↦ inr (elim w [
-            | inl u ↦ elim (put_holds l m g u) [ inl s ↦ inr (subst (Tests p) s tested) | inr v ↦ inl v ]
+          | inl v ↦ inl v
+          | inr v ↦ inr (elim v [
+            | inl u ↦ elim (put_holds l m g u) [ inl s ↦ inr (subst (Tests w) s tested) | inr z ↦ inl z ]
             | inr u ↦ inr (names.tests m u)
           ])
         ];
@@ -110,6 +116,7 @@ module _ (l : Lit) (t e : Tree) (g : Packet) (n : ¬ SetsField (Node l t e) (lit
       ] in
       record {
         deep = deep_from (Node l t e) e (Lacked l) (node_else_as l t e) (lacks_on _ l n) f.packet f.output lacked h.deep;
+        agrees = h.agrees;
         kept = λ x o out. h.kept x o (λ m k. out m (inr (inr k)));
         only = λ m k. elim (h.only m k) [ inl w ↦ inl w | inr w ↦ inr (elim w [ inl u ↦ inl u | inr u ↦ inr (inr (inr u)) ]) ];
       }
@@ -127,7 +134,7 @@ module _ (k : Kept) (l : Lit) (i j : ℕ) (t : Tree) (f : Forked k l i j t) (s :
   then_names = record { tests = λ m w. inr (inl w); assigns = λ m w. inl w }
 
   pub fresh_yes : IsFresh g t → IsFresh (put l g) (tree_at k i)
-  fresh_yes h = fresh_where _ (tree_at k i) l open_cell g (node_then_as l (tree_at k i) (tree_at k j)) here then_names (inl refl) beside (subst (IsFresh g) f.is h)
+  fresh_yes h = fresh_where _ (tree_at k i) l g here then_names beside (subst (IsFresh g) f.is h)
 
   pub fresh_no : IsFresh g t → IsFresh g (tree_at k j)
   fresh_no h = fresh_else l (tree_at k i) (tree_at k j) g here (gives_else k l i j t f made).is (subst (IsFresh g) f.is h)
@@ -135,7 +142,7 @@ module _ (k : Kept) (l : Lit) (i j : ℕ) (t : Tree) (f : Forked k l i j t) (s :
   pub fault_yes : (e : StarError) → IsErrorIn (tree_at k i) open_cell (put l g) e → IsErrorIn t open_cell g e
   fault_yes e h =
       subst (λ (x : Tree). IsErrorIn x open_cell g e) (sym f.is)
-      (fault_where _ (tree_at k i) l open_cell g (node_then_as l (tree_at k i) (tree_at k j)) here then_names (inl refl) beside e (get-open (lit_field l)) h)
+      (fault_where _ _ (tree_at k i) l open_cell g (node_then_as l (tree_at k i) (tree_at k j)) here (narrowed_none _ open_cell) then_names (inl refl) beside e (get-open (lit_field l)) h)
 
   pub fault_no : (e : StarError) → IsFresh g t → IsErrorIn (tree_at k j) open_cell g e → IsErrorIn t open_cell g e
   fault_no e fresh h =

@@ -2,10 +2,12 @@ pub mod EqualLaws
 pub mod FaultLaws
 pub mod FieldLaws
 pub mod FillLaws
+pub mod FoundLaws
 pub mod GrowLaws
 pub mod KeptLaws
-pub mod KnownLaws
+pub mod LeadLaws
 pub mod NamedLaws
+pub mod NarrowLaws
 pub mod PassingLaws
 pub mod StarLaws
 pub mod TurnLaws

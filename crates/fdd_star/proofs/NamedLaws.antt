@@ -20,7 +20,7 @@ use Rattle.fdd_store.specs.Stores.{Kept, tree_at}
 
 -- members of a set with one key more
 
-found_in : {K : Type 0} (eq : K → K → Bool) (same : (x y : K) → eq x y ≡ true → x ≡ y) (q : K) (ks : List K) → list_any (eq q) ks ≡ true → IsIn ks q
+pub found_in : {K : Type 0} (eq : K → K → Bool) (same : (x y : K) → eq x y ≡ true → x ≡ y) (q : K) (ks : List K) → list_any (eq q) ks ≡ true → IsIn ks q
 found_in eq same q [] h = absurd (false≢true h)
 found_in eq same q (k ∷ ks) h = elim (or_cases (eq q k) (list_any (eq q) ks) h) [
   | inl e ↦ inl (sym (same q k e))
@@ -42,7 +42,7 @@ module _ {K : Type 0} (eq : K → K → Bool) (same : (x y : K) → eq x y ≡ t
       by true = h
       by false = in-left ks (q ∷ []) x h
 
-  with_only : (x : K) → IsIn (insert_key eq ks q) x → IsIn ks x ⊎ (q ≡ x)
+  pub with_only : (x : K) → IsIn (insert_key eq ks q) x → IsIn ks x ⊎ (q ≡ x)
   with_only x h = by (list_any (eq q) ks) h
     where
       by : (b : Bool) → IsIn (cond b ks (ks ++ q ∷ [])) x → IsIn ks x ⊎ (q ≡ x)

@@ -99,7 +99,7 @@ module _ (l : Lit) (t e : Tree) (n : ¬ SetsField (Node l t e) (lit_field l)) wh
 
 -- where a literal of a cell's open field holds that is never set, the cofactor's star is the star
 
-agrees_out : (c pk : Packet) (l : Lit) → IsOpen c (lit_field l) → Agrees (put l c) pk → Agrees c pk
+pub agrees_out : (c pk : Packet) (l : Lit) → IsOpen c (lit_field l) → Agrees (put l c) pk → Agrees c pk
 agrees_out c pk l o a = record {
   at = λ f n. elim (field_cases (lit_field l) f) [
     | inl e ↦ absurd (n (subst (IsOpen c) e o))

@@ -1,8 +1,10 @@
 pub mod Asks
+pub mod Cells
 pub mod Faults
+pub mod Found
 pub mod Kept
-pub mod Known
 pub mod Named
+pub mod Narrow
 pub mod Parts
 pub mod Passing
 pub mod Reaches

@@ -1,9 +1,11 @@
 //! Stars: the finite repetition of a diagram (ICFP 2015, section 3).
 #![tactic(auto)]
 
+mod cells;
 mod fault;
 mod keys;
 mod names;
+mod narrow;
 mod parts;
 mod passing;
 mod reach;

@@ -4,14 +4,14 @@ ghost use Rattle.nk_values.specs.Packets.{IsInRange};
 ghost use Rattle.fdd_nodes.specs.Cells.{IsFresh, open_cell};
 ghost use Rattle.fdd_nodes.specs.Names.{IsFew};
 ghost use Rattle.fdd_star.specs.Faults.{IsErrorIn};
-ghost use Rattle.fdd_star.specs.Known.{AreKnown};
+ghost use Rattle.fdd_star.specs.Found.{AreFound};
 ghost use Rattle.fdd_star.specs.Passing.{AreStars, Passes};
 ghost use Rattle.fdd_star.specs.Stars.{StarOf, IsErrorOf, IsShallow};
 ghost use Rattle.fdd_store.specs.Stores.{Has, Grows, Gives, tree_at};
 
 use crate::fault::StarError;
 use crate::names::other_packet;
-use crate::repetition::{Known, star_of_cells};
+use crate::repetition::{Found, star_of_cells};
 use fdd_store::{Id, Look, Store};
 use indexmap::IndexMap;
 use nk_values::Packet;
@@ -30,9 +30,9 @@ pub fn star(alloc: Global, store: &mut Store, p: Id) -> Result<Id, StarError>
     ensures never_deep { OnOk result (IsShallow (tree_at store.old p)) }
 {
     let other = other_packet(alloc, store, p)?;
-    let mut known = Known::new(alloc);
+    let mut found = Found::new(alloc);
     let mut stars = IndexMap::new(alloc);
-    star_at(alloc, store, &mut known, &mut stars, &other, p)
+    star_at(alloc, store, &mut found, &mut stars, &other, p)
 }
 
 // The star of a part, kept or found anew.
@@ -40,26 +40,26 @@ pub fn star(alloc: Global, store: &mut Store, p: Id) -> Result<Id, StarError>
 fn star_at(
     alloc: Global,
     store: &mut Store,
-    known: &mut Known,
+    found: &mut Found,
     stars: &mut IndexMap<Id, Id>,
     other: &Packet,
     p: Id,
 ) -> Result<Id, StarError>
     requires has { Has store.old p }
     requires few { IsFew (tree_at store.old p) }
-    requires known { AreKnown store.old known.old }
+    requires found { AreFound store.old found.old }
     requires stars { AreStars store.old stars.old.entries }
     requires range { IsInRange other.now }
     requires fresh { IsFresh other.now (tree_at store.old p) }
     ensures grows { Grows store.old store.new }
-    ensures known { OnOk result (AreKnown store.new known.new) }
+    ensures found { OnOk result (AreFound store.new found.new) }
     ensures stars { OnOk result (AreStars store.new stars.new.entries) }
     ensures star { MatchResult result (λ r. Gives store.new r (StarOf (tree_at store.old p))) (λ e. IsErrorIn (tree_at store.old p) open_cell other.now e) }
 {
     if let Some(star) = stars.get(&p) {
         return Ok(*star);
     }
-    let star = star_anew(alloc, store, known, stars, other, p)?;
+    let star = star_anew(alloc, store, found, stars, other, p)?;
     if let Err(full) = stars.insert(p, star) {
         return Err(AllocError::from(full).into());
     }
@@ -71,29 +71,29 @@ fn star_at(
 fn star_anew(
     alloc: Global,
     store: &mut Store,
-    known: &mut Known,
+    found: &mut Found,
     stars: &mut IndexMap<Id, Id>,
     other: &Packet,
     p: Id,
 ) -> Result<Id, StarError>
     requires has { Has store.old p }
     requires few { IsFew (tree_at store.old p) }
-    requires known { AreKnown store.old known.old }
+    requires found { AreFound store.old found.old }
     requires stars { AreStars store.old stars.old.entries }
     requires range { IsInRange other.now }
     requires fresh { IsFresh other.now (tree_at store.old p) }
     ensures grows { Grows store.old store.new }
-    ensures known { OnOk result (AreKnown store.new known.new) }
+    ensures found { OnOk result (AreFound store.new found.new) }
     ensures stars { OnOk result (AreStars store.new stars.new.entries) }
     ensures star { MatchResult result (λ r. Gives store.new r (StarOf (tree_at store.old p))) (λ e. IsErrorIn (tree_at store.old p) open_cell other.now e) }
 {
     match store.look(p) {
         Look::Fork(test, yes, no) if passes(store, p) => {
-            let part = star_at(alloc, store, known, stars, &test.put(other), yes)?;
-            let rest = star_at(alloc, store, known, stars, other, no)?;
+            let part = star_at(alloc, store, found, stars, &test.put(other), yes)?;
+            let rest = star_at(alloc, store, found, stars, other, no)?;
             Ok(store.choice(alloc, test, part, rest)?)
         }
-        _ => star_of_cells(alloc, store, known, other, p),
+        _ => star_of_cells(alloc, store, found, other, p),
     }
 }
 

@@ -8,12 +8,14 @@ ghost use Rattle.fdd_nodes.specs.Cells.{IsFresh, IsOpen, IsValid, open_cell};
 ghost use Rattle.fdd_nodes.specs.Names.{IsFew};
 ghost use Rattle.fdd_nodes.specs.Trees.{Tests};
 ghost use Rattle.fdd_star.specs.Faults.{IsErrorIn};
-ghost use Rattle.fdd_star.specs.Known.{AreKnown};
+ghost use Rattle.fdd_star.specs.Found.{AreFound};
+ghost use Rattle.fdd_star.specs.Narrow.{IsNarrowed};
 ghost use Rattle.fdd_star.specs.Reaches.{IsBehind, StarBut};
 ghost use Rattle.fdd_star.specs.Stars.{StarOf};
 ghost use Rattle.fdd_store.specs.Stores.{Has, Kept, Grows, Gives, tree_at};
 
 use crate::fault::StarError;
+use crate::narrow::narrowed;
 use crate::parts::Parts;
 use crate::reach::Reach;
 use crate::visits::Visits;
@@ -23,21 +25,29 @@ use nk_values::{Lit, Packet};
 use std::alloc::{AllocError, Global};
 use std::collections::BTreeSet;
 
-/// What is known of the stars of a store's diagrams: where packets come to, and the stars on the packets of cells.
+// How many places of diagrams may be gone through to narrow bodies before any packet was reached, and how many more for each.
+const FIRST_ALLOWANCE: usize = 1_048_576;
+
+const MORE_ALLOWANCE: usize = 4;
+
+/// What was found of the stars of a store's diagrams: where packets come to, and the stars on the packets of cells. And how
+/// many places of diagrams may still be gone through to narrow bodies.
 #[derive(Drop)]
-pub(crate) struct Known {
+pub(crate) struct Found {
     pub(crate) visits: Visits,
     pub(crate) parts: Parts,
+    allowance: usize,
 }
 
-impl Known {
+impl Found {
     /// Nothing yet.
-    pub(crate) fn new(alloc: Global) -> Known
-        ensures { (k : Kept) → AreKnown k result }
+    pub(crate) fn new(alloc: Global) -> Found
+        ensures { (k : Kept) → AreFound k result }
     {
-        Known {
+        Found {
             visits: Visits::new(alloc),
             parts: Parts::new(alloc),
+            allowance: FIRST_ALLOWANCE,
         }
     }
 }
@@ -53,20 +63,20 @@ impl Known {
 pub(crate) fn star_of_cells(
     alloc: Global,
     store: &mut Store,
-    known: &mut Known,
+    found: &mut Found,
     other: &Packet,
     p: Id,
 ) -> Result<Id, StarError>
     requires has { Has store.old p }
     requires few { IsFew (tree_at store.old p) }
-    requires known { AreKnown store.old known.old }
+    requires found { AreFound store.old found.old }
     requires range { IsInRange other.now }
     requires fresh { IsFresh other.now (tree_at store.old p) }
     ensures grows { Grows store.old store.new }
-    ensures known { OnOk result (AreKnown store.new known.new) }
+    ensures found { OnOk result (AreFound store.new found.new) }
     ensures star { MatchResult result (λ r. Gives store.new r (StarOf (tree_at store.old p))) (λ e. IsErrorIn (tree_at store.old p) open_cell other.now e) }
 {
-    part_in(alloc, store, known, other, p, &Cell::open())
+    part_in(alloc, store, found, other, p, &Cell::open())
 }
 
 // The star on the packets of a cell, kept or found anew.
@@ -74,7 +84,7 @@ pub(crate) fn star_of_cells(
 fn part_in(
     alloc: Global,
     store: &mut Store,
-    known: &mut Known,
+    found: &mut Found,
     other: &Packet,
     p: Id,
     cell: &Cell,
@@ -82,18 +92,18 @@ fn part_in(
     requires has { Has store.old p }
     requires few { IsFew (tree_at store.old p) }
     requires valid { IsValid cell.now }
-    requires known { AreKnown store.old known.old }
+    requires found { AreFound store.old found.old }
     requires range { IsInRange other.now }
     requires fresh { IsFresh other.now (tree_at store.old p) }
     ensures grows { Grows store.old store.new }
-    ensures known { OnOk result (AreKnown store.new known.new) }
+    ensures found { OnOk result (AreFound store.new found.new) }
     ensures star { MatchResult result (λ r. Gives store.new r (StarBut (tree_at store.old p) cell.now [])) (λ e. IsErrorIn (tree_at store.old p) cell.now other.now e) }
 {
-    if let Some(part) = known.parts.get(p, cell) {
+    if let Some(part) = found.parts.get(p, cell) {
         return Ok(part);
     }
-    let part = star_in(alloc, store, known, other, p, cell)?;
-    known.parts.keep(p, cell, part)?;
+    let part = star_in(alloc, store, found, other, p, cell)?;
+    found.parts.keep(p, cell, part)?;
     Ok(part)
 }
 
@@ -102,7 +112,7 @@ fn part_in(
 fn star_in(
     alloc: Global,
     store: &mut Store,
-    known: &mut Known,
+    found: &mut Found,
     other: &Packet,
     p: Id,
     cell: &Cell,
@@ -110,22 +120,25 @@ fn star_in(
     requires has { Has store.old p }
     requires few { IsFew (tree_at store.old p) }
     requires valid { IsValid cell.now }
-    requires known { AreKnown store.old known.old }
+    requires found { AreFound store.old found.old }
     requires range { IsInRange other.now }
     requires fresh { IsFresh other.now (tree_at store.old p) }
     ensures grows { Grows store.old store.new }
-    ensures known { OnOk result (AreKnown store.new known.new) }
+    ensures found { OnOk result (AreFound store.new found.new) }
     ensures star { MatchResult result (λ r. Gives store.new r (StarBut (tree_at store.old p) cell.now [])) (λ e. IsErrorIn (tree_at store.old p) cell.now other.now e) }
 {
     let Reach {
         copies,
         mut asked,
         ..
-    } = Reach::of(alloc, store, &mut known.visits, other, p, cell)?;
+    } = Reach::of(alloc, store, &mut found.visits, other, p, cell)?;
+    let more = copies.len().saturating_mul(MORE_ALLOWANCE);
+    found.allowance = found.allowance.saturating_add(more);
+    let body = narrowed(alloc, store, &mut found.allowance, p, cell, &asked)?;
     let leaf = gathered(alloc, copies)?;
     let mut all = store.put_leaf(alloc, leaf)?;
     while let Some(l) = asked.pop_last() {
-        let whole = part_of(alloc, store, known, other, p, cell, &l)?;
+        let whole = part_of(alloc, store, found, other, p, body, cell, &l)?;
         let part = behind(store, &asked, whole);
         all = store.choice(alloc, l, part, all)?;
     }
@@ -151,34 +164,38 @@ fn behind(store: &Store, asked: &BTreeSet<Lit>, a: Id) -> Id
     }
 }
 
-// The star where a literal holds of a field that the cell leaves open: that of the cofactor, if the field is never set.
+// The star where a literal holds of a field that the cell leaves open: that of a cofactor, if the field is never set. The
+// body of which it is taken makes the turns of the whole.
 #[cycle(star)]
 fn part_of(
     alloc: Global,
     store: &mut Store,
-    known: &mut Known,
+    found: &mut Found,
     other: &Packet,
     p: Id,
+    body: Id,
     cell: &Cell,
     l: &Lit,
 ) -> Result<Id, StarError>
     requires has { Has store.old p }
+    requires has_body { Has store.old body }
+    requires narrowed { IsNarrowed (tree_at store.old p) cell.now (tree_at store.old body) }
     requires few { IsFew (tree_at store.old p) }
     requires valid { IsValid cell.now }
-    requires known { AreKnown store.old known.old }
+    requires found { AreFound store.old found.old }
     requires range { IsInRange other.now }
     requires fresh { IsFresh other.now (tree_at store.old p) }
     requires tested { Tests (tree_at store.old p) l.now }
     requires is_open { IsOpen cell.now (lit_field l.now) }
     ensures grows { Grows store.old store.new }
-    ensures known { OnOk result (AreKnown store.new known.new) }
+    ensures found { OnOk result (AreFound store.new found.new) }
     ensures star { MatchResult result (λ r. Gives store.new r (StarBut (tree_at store.old p) (put l.now cell.now) [])) (λ e. IsErrorIn (tree_at store.old p) cell.now other.now e) }
 {
     if store.sets(p, l.field()) {
-        return part_in(alloc, store, known, other, p, &cell.with(l));
+        return part_in(alloc, store, found, other, p, &cell.with(l));
     }
-    let part = store.cofactor(alloc, p, *l)?;
-    part_in(alloc, store, known, &l.put(other), part, cell)
+    let part = store.cofactor(alloc, body, *l)?;
+    part_in(alloc, store, found, &l.put(other), part, cell)
 }
 
 // The leaf of some copies. They are sorted first, since it takes little time where they rise.

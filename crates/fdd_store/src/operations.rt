@@ -135,7 +135,7 @@ impl Store {
         }
     }
 
-    /// The diagram where a literal holds.
+    /// The diagram where a literal holds. It tests nothing of the literal's field.
     pub fn cofactor(&mut self, alloc: Global, a: Id, l: Lit) -> Result<Id, AllocError>
         requires has { Has self.old a }
         requires few { IsFew (tree_at self.old a) }

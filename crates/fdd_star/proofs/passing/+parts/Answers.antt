@@ -11,7 +11,7 @@ use Rattle.fdd_star.specs.Faults.{IsErrorIn}
 use Rattle.fdd_star.specs.Passing.{IsStar, AreStars}
 use Rattle.fdd_star.proofs.FaultLaws.{put_in_range, fresh_yes, fresh_no, fault_yes, fault_no}
 use Rattle.fdd_star.proofs.KeptLaws.{found_right, right_added}
-use Rattle.fdd_star.proofs.KnownLaws.{known_grown, stayed}
+use Rattle.fdd_star.proofs.FoundLaws.{found_grown, stayed}
 use Rattle.fdd_star.proofs.PassingLaws.{id_eq, same_id, few_then, few_else, few_passed, star_of_passed, star_kept, stars_grown, on_each}
 use Rattle.fdd_star.proofs.passing.+parts.Goals as goal
 
@@ -23,7 +23,7 @@ star_anew-star_at-requires t c =
     let range = subst IsInRange (sym c.put.ensures) (put_in_range c.in-Fork.test c.args.other.now c.requires.range) in
     let fresh = fresh_yes k c.in-Fork.test _ _ _ f (c.passes.ensures.0 c.if-passes.true) c.in-Fork.ensures.made c.args.other.now c.requires.fresh in (
       let w = fall_then k c.in-Fork.test _ _ _ _ f c.in-Fork.ensures.made in omega (arith, w),
-      (f.has_then, (few, (c.requires.known, (c.requires.stars, (range, subst (λ (g : Packet). IsFresh g (tree_at k c.in-Fork.yes)) (sym c.put.ensures) fresh))))),
+      (f.has_then, (few, (c.requires.found, (c.requires.stars, (range, subst (λ (g : Packet). IsFresh g (tree_at k c.in-Fork.yes)) (sym c.put.ensures) fresh))))),
     )
 
 pub star_anew-star_at-requires-in-Fork : goal.star_anew-star_at-requires-in-Fork
@@ -37,7 +37,7 @@ star_anew-star_at-requires-in-Fork t c =
       let w = fall_else k c.in-Fork.test _ _ _ _ f c.in-Fork.ensures.made in omega (arith, w, ap level e),
       (
         has_grown _ _ _ g f.has_else,
-        (subst IsFew (sym e) few, (c.in_ok-part-in-Fork.ensures.known, (c.in_ok-part-in-Fork.ensures.stars, (c.requires.range, subst (IsFresh c.args.other.now) (sym e) fresh)))),
+        (subst IsFew (sym e) few, (c.in_ok-part-in-Fork.ensures.found, (c.in_ok-part-in-Fork.ensures.stars, (c.requires.range, subst (IsFresh c.args.other.now) (sym e) fresh)))),
       ),
     )
 
@@ -77,7 +77,7 @@ star_anew-returns-in_err-choice-in-Fork-clause-grows t c =
 pub star_anew-returns-in_ok-choice-in-Fork : goal.star_anew-returns-in_ok-choice-in-Fork
 star_anew-returns-in_ok-choice-in-Fork t c = record {
   grows = grows_on _ _ _ c.in_ok-part-in-Fork.ensures.grows (grows_on _ _ _ c.in_ok-rest-in-Fork.ensures.grows c.in_ok-choice-in-Fork.ensures.grows);
-  known = known_grown _ _ _ c.in_ok-choice-in-Fork.ensures.grows c.in_ok-rest-in-Fork.ensures.known;
+  found = found_grown _ _ _ c.in_ok-choice-in-Fork.ensures.grows c.in_ok-rest-in-Fork.ensures.found;
   stars = stars_grown _ _ _ c.in_ok-choice-in-Fork.ensures.grows c.in_ok-rest-in-Fork.ensures.stars;
   star = gives_as _ _ _ _ (λ r w. star_of_passed _ _ _ c.args.p _ _ _ _ c.in-Fork.test c.in-Fork.ensures.look (c.passes.ensures.0 c.if-passes.true) c.in_ok-part-in-Fork.ensures.grows c.in_ok-rest-in-Fork.ensures.grows c.in_ok-part-in-Fork.ensures.star c.in_ok-rest-in-Fork.ensures.star r w) c.in_ok-choice-in-Fork.ensures.place;
 }
@@ -94,7 +94,7 @@ star_at-returns-in-Some-clause-star t c =
     (subst (λ (o : Option (Bor ℕ)). IfSome o (λ v. IsStar k c.args.p v.now)) c.in-Some.is (found_right id_eq same_id (IsStar k) _ _ _ c.requires.stars c.get.ensures.value)).1
 
 pub star_at-star_anew-requires : goal.star_at-star_anew-requires
-star_at-star_anew-requires t c = (omega arith, (c.requires.has, (c.requires.few, (c.requires.known, (c.requires.stars, (c.requires.range, c.requires.fresh))))))
+star_at-star_anew-requires t c = (omega arith, (c.requires.has, (c.requires.few, (c.requires.found, (c.requires.stars, (c.requires.range, c.requires.fresh))))))
 
 pub star_at-returns-in_err-star-clause-grows : goal.star_at-returns-in_err-star-clause-grows
 star_at-returns-in_err-star-clause-grows t c = c.in_err-star.ensures.grows

@@ -2,8 +2,8 @@ use Rattle.fdd_star.proofs.FaultLaws.{told_of}
 use Rattle.fdd_star.proofs.PassingLaws.{match_on, shallow_by}
 use Rattle.fdd_star.proofs.passing.star.Goals as goal
 
-pub star_at-requires-clause-known : goal.star_at-requires-clause-known
-star_at-requires-clause-known c = c.new-known.ensures _
+pub star_at-requires-clause-found : goal.star_at-requires-clause-found
+star_at-requires-clause-found c = c.new-found.ensures _
 
 pub returns-clause-star : goal.returns-clause-star
 returns-clause-star c = match_on c.star_at.result _ _ _ _ (λ r g. g) (told_of _ _ _) c.star_at.ensures.star

@@ -11,10 +11,12 @@ use Rattle.fdd_nodes.specs.Trees.{Tests}
 use Rattle.fdd_nodes.proofs.CellLaws.{valid_with}
 use Rattle.fdd_nodes.proofs.OpenLaws.{open_fields, fewer_open}
 use Rattle.fdd_star.specs.Faults.{IsErrorIn}
+use Rattle.fdd_star.specs.Narrow.{IsNarrowed}
 use Rattle.fdd_star.specs.Reaches.{IsNamedBy, StarBut}
 use Rattle.fdd_star.proofs.FaultLaws.{put_in_range, fresh_where, fault_where, fault_within}
 use Rattle.fdd_star.proofs.FieldLaws.{tested_fields, fewer_tested}
-use Rattle.fdd_star.proofs.KnownLaws.{known_grown, parts_grown, visits_grown, stays, stayed}
+use Rattle.fdd_star.proofs.FoundLaws.{found_grown, parts_grown, visits_grown, stays, stayed}
+use Rattle.fdd_star.proofs.NarrowLaws.{star_narrowed, unset_narrowed}
 use Rattle.fdd_star.proofs.PassingLaws.{match_on, star_where}
 use Rattle.fdd_star.proofs.StarLaws.{star_leaf, star_more, choice_few, few_within, fewer_left, last_of, named_on, none_left}
 use Rattle.fdd_store.specs.Entries.{SetsField}
@@ -22,13 +24,13 @@ use Rattle.fdd_store.specs.Stores.{Gives, tree_at}
 use Rattle.fdd_store.proofs.StoreLaws.{gives_as, gives_grown, grows_on, has_grown, tree_grown}
 use Rattle.fdd_star.proofs.repetition.+star.Goals as goal
 
-pub part_in-returns-clause-known : goal.part_in-returns-clause-known
-part_in-returns-clause-known t c =
+pub part_in-returns-clause-found : goal.part_in-returns-clause-found
+part_in-returns-clause-found t c =
     let k = c.star_in.new.store in
     let g = c.in_ok-part.ensures.grows in
     record {
-      visits = c.in_ok-part.ensures.known.visits;
-      parts = c.in_ok-keep.ensures k c.in_ok-part.ensures.known.parts (has_grown _ _ _ g c.requires.has) (stays (λ x. Gives k c.in_ok-part.part (StarBut x c.args.cell.now [])) _ _ _ g c.requires.has c.in_ok-part.ensures.star);
+      visits = c.in_ok-part.ensures.found.visits;
+      parts = c.in_ok-keep.ensures k c.in_ok-part.ensures.found.parts (has_grown _ _ _ g c.requires.has) (stays (λ x. Gives k c.in_ok-part.part (StarBut x c.args.cell.now [])) _ _ _ g c.requires.has c.in_ok-part.ensures.star);
     }
 
 pub part_of-part_in-requires : goal.part_of-part_in-requires
@@ -36,7 +38,7 @@ part_of-part_in-requires t c =
     let less = fewer_open c.args.cell.now c.args.l.now c.requires.is_open in
     let e = ap open_fields c.with.ensures in (
       omega (arith, less, e),
-      (c.requires.has, (c.requires.few, (subst IsValid (sym c.with.ensures) (valid_with c.args.cell.now c.args.l.now c.requires.valid), (c.requires.known, (c.requires.range, c.requires.fresh))))),
+      (c.requires.has, (c.requires.few, (subst IsValid (sym c.with.ensures) (valid_with c.args.cell.now c.args.l.now c.requires.valid), (c.requires.found, (c.requires.range, c.requires.fresh))))),
     )
 
 pub part_of-returns-then-sets-clause-star : goal.part_of-returns-then-sets-clause-star
@@ -44,8 +46,11 @@ part_of-returns-then-sets-clause-star t c =
     let p = tree_at c.args.store.now c.args.p in
     match_on c.part_in.result _ _ _ _
     (λ r g. subst (λ (q : Packet). Gives c.part_in.new.store r (StarBut p q [])) c.with.ensures g)
-    (λ e h. fault_within p c.args.l.now c.args.cell.now c.args.other.now e c.requires.tested (subst (λ (q : Packet). IsErrorIn p q c.args.other.now e) c.with.ensures h))
+    (λ e h. fault_within p c.args.l.now c.args.cell.now c.args.other.now e c.requires.tested c.requires.is_open (subst (λ (q : Packet). IsErrorIn p q c.args.other.now e) c.with.ensures h))
     c.part_in.ensures.star
+
+pub part_of-cofactor-requires-clause-few : goal.part_of-cofactor-requires-clause-few
+part_of-cofactor-requires-clause-few t c = few_within _ _ c.requires.few c.requires.narrowed.names
 
 pub part_of-part_in-requires-2 : goal.part_of-part_in-requires-2
 part_of-part_in-requires-2 t c =
@@ -54,9 +59,9 @@ part_of-part_in-requires-2 t c =
     let l = c.args.l.now in
     let f = c.in_ok-part.ensures.place.is in
     let unset : ¬ SetsField p (lit_field l) = λ w. false≢true (sym c.if-sets.false ∙ c.sets.ensures.1 (subst (SetsField p) (sym c.field.ensures) w)) in
-    let names : IsNamedBy p p' = record { tests = f.tests; assigns = f.assigns } in
-    let less = fewer_tested p' p f.tests l c.requires.tested c.in_ok-part.ensures.past in
-    let fresh = fresh_where p p' l c.args.cell.now c.args.other.now f.answer unset names c.requires.tested c.in_ok-part.ensures.past c.requires.fresh in (
+    let names : IsNamedBy p p' = named_on p (tree_at c.args.store.now c.args.body) p' c.requires.narrowed.names (record { tests = f.tests; assigns = f.assigns }) in
+    let less = fewer_tested p' p names.tests l c.requires.tested c.in_ok-part.ensures.past in
+    let fresh = fresh_where p p' l c.args.other.now unset names c.in_ok-part.ensures.past c.requires.fresh in (
       omega (arith, less),
       (
         c.in_ok-part.ensures.place.has,
@@ -65,7 +70,7 @@ part_of-part_in-requires-2 t c =
           (
             c.requires.valid,
             (
-              known_grown _ _ _ c.in_ok-part.ensures.grows c.requires.known,
+              found_grown _ _ _ c.in_ok-part.ensures.grows c.requires.found,
               (subst IsInRange (sym c.put.ensures) (put_in_range l c.args.other.now c.requires.range), subst (λ (g : Packet). IsFresh g p') (sym c.put.ensures) fresh),
             ),
           ),
@@ -76,15 +81,18 @@ part_of-part_in-requires-2 t c =
 pub part_of-returns-clause-star : goal.part_of-returns-clause-star
 part_of-returns-clause-star t c =
     let p = tree_at c.args.store.now c.args.p in
+    let b = tree_at c.args.store.now c.args.body in
     let p' = tree_at c.cofactor.new.self c.in_ok-part.part in
     let l = c.args.l.now in
     let cell = c.args.cell.now in
     let f = c.in_ok-part.ensures.place.is in
+    let n = c.requires.narrowed in
     let unset : ¬ SetsField p (lit_field l) = λ w. false≢true (sym c.if-sets.false ∙ c.sets.ensures.1 (subst (SetsField p) (sym c.field.ensures) w)) in
-    let names : IsNamedBy p p' = record { tests = f.tests; assigns = f.assigns } in
+    let unset_body = unset_narrowed p b (lit_field l) n.names unset in
+    let names : IsNamedBy p p' = named_on p b p' n.names (record { tests = f.tests; assigns = f.assigns }) in
     match_on c.part_in-2.result _ _ _ _
-    (λ r g. gives_as _ r _ _ (λ x w. star_where p p' l cell x unset f c.requires.is_open w) g)
-    (λ e h. fault_where p p' l cell c.args.other.now f.answer unset names c.requires.tested c.in_ok-part.ensures.past e c.requires.is_open
+    (λ r g. gives_as _ r _ _ (λ x w. star_narrowed p b cell l x n c.requires.is_open (star_where b p' l cell x unset_body f c.requires.is_open w)) g)
+    (λ e h. fault_where p b p' l cell c.args.other.now f.answer unset_body n names c.requires.tested c.in_ok-part.ensures.past e c.requires.is_open
     (subst (λ (g : Packet). IsErrorIn p' cell g e) c.put.ensures h))
     c.part_in-2.ensures.star
 
@@ -94,8 +102,13 @@ star_in-loop-l-init t c = (
       (star_leaf _ _ _ _ c.in_ok-copies.ensures.reach c.in_ok-leaf.ensures)) c.in_ok-all.ensures.place,
   c.in_ok-copies.ensures.reach.is_open,
   c.in_ok-copies.ensures.reach.tests,
-  record { visits = visits_grown _ _ _ c.in_ok-all.ensures.grows c.in_ok-copies.ensures.visits; parts = parts_grown _ _ _ c.in_ok-all.ensures.grows c.requires.known.parts },
-  c.in_ok-all.ensures.grows,
+  record {
+    visits = visits_grown _ _ _ (grows_on _ _ _ c.in_ok-body.ensures.grows c.in_ok-all.ensures.grows) c.in_ok-copies.ensures.visits;
+    parts = parts_grown _ _ _ (grows_on _ _ _ c.in_ok-body.ensures.grows c.in_ok-all.ensures.grows) c.requires.found.parts;
+  },
+  grows_on _ _ _ c.in_ok-body.ensures.grows c.in_ok-all.ensures.grows,
+  has_grown _ _ _ c.in_ok-all.ensures.grows c.in_ok-body.ensures.has,
+  stays (IsNarrowed (tree_at c.args.store.now c.args.p) c.args.cell.now) _ _ _ c.in_ok-all.ensures.grows c.in_ok-body.ensures.has c.in_ok-body.ensures.narrowed,
 )
 
 pub star_in-part_of-requires : goal.star_in-part_of-requires
@@ -108,14 +121,20 @@ star_in-part_of-requires t c =
       (
         has_grown _ _ _ g c.requires.has,
         (
-          stays IsFew _ _ _ g c.requires.has c.requires.few,
+          c.loop-l.invariant.5,
           (
-            c.requires.valid,
+            stays (λ x. IsNarrowed x c.args.cell.now (tree_at c.loop-l.store c.in_ok-body.body)) _ _ _ g c.requires.has c.loop-l.invariant.6,
             (
-              c.loop-l.invariant.3,
+              stays IsFew _ _ _ g c.requires.has c.requires.few,
               (
-                c.requires.range,
-                (stays (IsFresh c.args.other.now) _ _ _ g c.requires.has c.requires.fresh, (stays (λ x. Tests x l) _ _ _ g c.requires.has (c.loop-l.invariant.2 l among), c.loop-l.invariant.1 l among)),
+                c.requires.valid,
+                (
+                  c.loop-l.invariant.3,
+                  (
+                    c.requires.range,
+                    (stays (IsFresh c.args.other.now) _ _ _ g c.requires.has c.requires.fresh, (stays (λ x. Tests x l) _ _ _ g c.requires.has (c.loop-l.invariant.2 l among), c.loop-l.invariant.1 l among)),
+                  ),
+                ),
               ),
             ),
           ),
@@ -146,12 +165,15 @@ star_in-loop-l-preserved t c =
     let removal = c.in-Some.ensures.removal in
     let p = tree_at c.args.store.now c.args.p in
     let whole = stayed (λ x. StarBut x (put c.in-Some.l c.args.cell.now) [] (tree_at c.part_of.new.store c.in_ok-whole.whole)) _ _ _ c.loop-l.invariant.4 c.requires.has c.in_ok-whole.ensures.star.is in
+    let more = grows_on _ _ _ c.in_ok-whole.ensures.grows c.in_ok-all-2.ensures.grows in
     let rest = gives_grown _ _ _ _ c.in_ok-whole.ensures.grows c.loop-l.invariant.0 in (
       gives_as _ _ _ _ (λ x w. star_more p _ _ _ c.in-Some.l _ _ _ x (c.loop-l.invariant.2 c.in-Some.l (last_of _ _ _ removal)) removal whole c.behind-part.ensures.behind rest.is w) c.in_ok-all-2.ensures.place,
       fewer_left (λ (m : Lit). IsOpen c.args.cell.now (lit_field m)) _ _ _ removal c.loop-l.invariant.1,
       fewer_left (Tests p) _ _ _ removal c.loop-l.invariant.2,
-      known_grown _ _ _ c.in_ok-all-2.ensures.grows c.in_ok-whole.ensures.known,
-      grows_on _ _ _ c.loop-l.invariant.4 (grows_on _ _ _ c.in_ok-whole.ensures.grows c.in_ok-all-2.ensures.grows),
+      found_grown _ _ _ c.in_ok-all-2.ensures.grows c.in_ok-whole.ensures.found,
+      grows_on _ _ _ c.loop-l.invariant.4 more,
+      has_grown _ _ _ more c.loop-l.invariant.5,
+      stays (IsNarrowed p c.args.cell.now) _ _ _ more c.loop-l.invariant.5 c.loop-l.invariant.6,
     )
 
 pub star_in-returns-clause-star : goal.star_in-returns-clause-star

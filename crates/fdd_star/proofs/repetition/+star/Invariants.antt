@@ -5,10 +5,11 @@ use Rattle.nk_values.specs.Members.{IsIn}
 use Rattle.fdd_nodes.specs.Cells.{IsOpen}
 use Rattle.fdd_nodes.specs.Trees.{Tests}
 use Rattle.fdd_nodes.proofs.OpenLaws.{open_fields}
-use Rattle.fdd_star.specs.Known.{AreKnown}
+use Rattle.fdd_star.specs.Found.{AreFound}
+use Rattle.fdd_star.specs.Narrow.{IsNarrowed}
 use Rattle.fdd_star.specs.Reaches.{StarBut}
 use Rattle.fdd_star.proofs.FieldLaws.{tested_fields}
-use Rattle.fdd_store.specs.Stores.{Gives, Grows, tree_at}
+use Rattle.fdd_store.specs.Stores.{Has, Gives, Grows, tree_at}
 use Rattle.fdd_star.proofs.repetition.+star.Given as goal
 
 abbrev pub decreases-part_in : goal.decreases-part_in
@@ -23,7 +24,7 @@ decreases-part_of l = 3 * (tested_fields (tree_at l.store.now l.p) + open_fields
 abbrev pub invariant-star_in-loop-l : goal.invariant-star_in-loop-l
 invariant-star_in-loop-l l =
     Gives l.store l.all (StarBut (tree_at l.fn.store l.p) l.cell l.asked.keys) × ((m : Lit) → IsIn l.asked.keys m → IsOpen l.cell (lit_field m)) × ((m : Lit) → IsIn l.asked.keys m → Tests (tree_at l.fn.store l.p) m)
-    × AreKnown l.store l.known × Grows l.fn.store l.store
+    × AreFound l.store l.found × Grows l.fn.store l.store × Has l.store l.body × IsNarrowed (tree_at l.fn.store l.p) l.cell (tree_at l.store l.body)
 
 abbrev pub decreases-star_in-loop-l : goal.decreases-star_in-loop-l
 decreases-star_in-loop-l l = length l.asked.keys

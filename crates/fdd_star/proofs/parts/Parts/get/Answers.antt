@@ -4,7 +4,7 @@ use Rattle.std.specs.Map.{lookup}
 use Rattle.nk_values.specs.declared.packet.Packet.{Packet}
 use Rattle.fdd_star.specs.Parts.{IsPartAt}
 use Rattle.fdd_star.proofs.KeptLaws.{found_right}
-use Rattle.fdd_star.proofs.KnownLaws.{key_eq, same_key, key_of}
+use Rattle.fdd_star.proofs.FoundLaws.{key_eq, same_key, key_of}
 use Rattle.fdd_star.proofs.parts.Parts.get.Goals as goal
 
 pub returns-in-Some : goal.returns-in-Some

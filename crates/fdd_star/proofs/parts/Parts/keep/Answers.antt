@@ -4,7 +4,7 @@ use Rattle.nk_values.specs.declared.packet.Packet.{Packet}
 use Rattle.fdd_star.specs.Kept.{EachIs}
 use Rattle.fdd_star.specs.Parts.{IsPartAt}
 use Rattle.fdd_star.proofs.KeptLaws.{right_added}
-use Rattle.fdd_star.proofs.KnownLaws.{key_eq, same_key, key_of}
+use Rattle.fdd_star.proofs.FoundLaws.{key_eq, same_key, key_of}
 use Rattle.fdd_star.proofs.parts.Parts.keep.Goals as goal
 
 pub returns : goal.returns

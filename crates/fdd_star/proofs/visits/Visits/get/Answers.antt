@@ -3,7 +3,7 @@ use Rattle.std.specs.Map.{lookup}
 use Rattle.nk_values.specs.declared.packet.Packet.{Packet}
 use Rattle.fdd_star.specs.Asks.{IsVisitAt}
 use Rattle.fdd_star.proofs.KeptLaws.{found_right}
-use Rattle.fdd_star.proofs.KnownLaws.{key_eq, same_key, key_of, in_key}
+use Rattle.fdd_star.proofs.FoundLaws.{key_eq, same_key, key_of, in_key}
 use Rattle.fdd_star.proofs.visits.Visits.get.Goals as goal
 
 pub returns : goal.returns

@@ -1,15 +1,15 @@
--- What is known of stars, in a store that grows.
+-- What was found of stars, in a store that grows.
 use Rattle.std.specs.Prelude.{IfSome}
 use Rattle.std.proofs.Common.{Bor, rules, ◌≡◌, ℕ, Bool, true, Option, Some, None, ap, ◌∙◌, sym, subst, []}
 use Rattle.nk_values.specs.declared.packet.Packet.{Packet}
 use Rattle.fdd_nodes.specs.Trees.{Tree, Leaf, leaf_at}
 use Rattle.fdd_star.specs.declared.keys.Key.{Key}
 use Rattle.fdd_star.specs.declared.parts.Parts.{Parts}
-use Rattle.fdd_star.specs.declared.repetition.Known.{Known}
+use Rattle.fdd_star.specs.declared.repetition.Found.{Found}
 use Rattle.fdd_star.specs.declared.visits.Visit.{Visit}
 use Rattle.fdd_star.specs.declared.visits.Visits.{Visits}
 use Rattle.fdd_star.specs.Asks.{AsksMore, ComesTo, IsVisitOf, IsVisitAt, AreVisits}
-use Rattle.fdd_star.specs.Known.{AreKnown}
+use Rattle.fdd_star.specs.Found.{AreFound}
 use Rattle.fdd_star.specs.Parts.{IsPartAt, AreParts}
 use Rattle.fdd_star.specs.Reaches.{StarBut}
 use Rattle.fdd_star.specs.contracts.keys.KeyPartialEq.TheImpl as key_impl
@@ -64,5 +64,5 @@ part_grown old new key a g h = (
 pub parts_grown : (old new : Kept) (v : Parts) → Grows old new → AreParts old v → AreParts new v
 parts_grown old new v g h = record { right = each_on (IsPartAt old) (IsPartAt new) v.known.entries (λ key a. part_grown old new key a g) h.right }
 
-pub known_grown : (old new : Kept) (n : Known) → Grows old new → AreKnown old n → AreKnown new n
-known_grown old new n g h = record { visits = visits_grown old new n.visits g h.visits; parts = parts_grown old new n.parts g h.parts }
+pub found_grown : (old new : Kept) (n : Found) → Grows old new → AreFound old n → AreFound new n
+found_grown old new n g h = record { visits = visits_grown old new n.visits g h.visits; parts = parts_grown old new n.parts g h.parts }
