@@ -73,6 +73,38 @@ pub fn rectangle_tests(alloc: Global, count: u64) -> Result<String, AllocError> 
     Ok(text)
 }
 
+/// The text of the star of a rectangle at port 1, beside sums that set ethDst by the numbers of its four fields, each sum at a
+/// port of its own that no turn leads to from port 1.
+pub fn star_of_rectangle(alloc: Global, count: u64) -> Result<String, AllocError> {
+    let tests = rectangle_tests(alloc, count)?;
+    let mut text = format!(in alloc; "(pt=1; {tests}; pt:=2")?;
+    for (port, field) in [
+        (10, "ip4Src"),
+        (11, "ip4Dst"),
+        (12, "tcpSrcPort"),
+        (13, "tcpDstPort"),
+    ] {
+        text.push_str(&format!(in alloc; " + pt={port}; ipProto=6; (drop")?)?;
+        add_assignments(alloc, &mut text, field, count)?;
+        text.push_str(")")?;
+    }
+    text.push_str(")*")?;
+    Ok(text)
+}
+
+fn add_assignments(
+    alloc: Global,
+    text: &mut String,
+    field: &str,
+    count: u64,
+) -> Result<(), AllocError> {
+    for i in 0..count {
+        let value = i.saturating_add(1);
+        text.push_str(&format!(in alloc; " + {field}={value}; ethDst:={value}")?)?;
+    }
+    Ok(())
+}
+
 fn add_tests(alloc: Global, text: &mut String, field: &str, count: u64) -> Result<(), AllocError> {
     for i in 0..count {
         let value = i.saturating_add(1);

@@ -3,7 +3,6 @@ use Rattle.std.proofs.Common.{◌≡◌, ℕ, ◌+◌, ◌<◌, ◌≤◌, inl, 
 use Rattle.std.proofs.lemmas.Bool.{false≢true}
 use Rattle.std.proofs.lemmas.List.{append_assoc, append-nil, take_more, take_all, take-append-le}
 use Rattle.std.specs.List.{list_any}
-use Rattle.std.specs.Prelude.{Result, Ok, Err, OnOk}
 use Rattle.indexmap.specs.IndexSet.{insert_key}
 use Rattle.nk_values.specs.declared.packet.Packet.{Packet}
 use Rattle.nk_values.specs.declared.lit.Lit.{Lit}
@@ -20,12 +19,13 @@ use Rattle.fdd_nodes.proofs.CellLaws.{fill_fixed, holds_fixed}
 use Rattle.fdd_nodes.proofs.MakesLaws.{source, outcome}
 use Rattle.fdd_nodes.proofs.SplitLaws.{leaf_at-then, leaf_at-else}
 use Rattle.fdd_star.specs.declared.cells.Cells.{Cells}
-use Rattle.fdd_star.specs.Cells.{AllLead, Among, IsClosed, IsListed, Leads, LeadTo, Widens}
+use Rattle.fdd_star.specs.Cells.{AllLead, Among, IsClosed, IsListed, Leads, Widens}
 use Rattle.fdd_star.proofs.EqualLaws.{packet_eq, found}
 use Rattle.fdd_star.proofs.FillLaws.{fill_agrees, apply_fill}
 use Rattle.fdd_star.proofs.NamedLaws.{found_in, with_only}
 use Rattle.fdd_star.proofs.PassingLaws.{id_eq, same_id}
 use Rattle.fdd_star.proofs.TurnLaws.{in_same}
+use Rattle.fdd_store.specs.Looks.{Forked}
 use Rattle.fdd_store.specs.Stores.{Kept, tree_at}
 
 -- packets of cells
@@ -75,10 +75,7 @@ there_already old q e b = in_same _ _ q e (found old.packets.keys q (back (list_
 
 -- where a diagram leads
 
-pub leads_none : (c : Packet) (cs : List Packet) → LeadTo [] c cs
-leads_none c cs = record { to = λ pk q a h. absurd h }
-
-pub leads_copy : (xs : List (List Lit)) (x : List Lit) (c : Packet) (old new : Cells) → Widens old new → LeadTo xs c old.all.items → IsIn new.all.items (apply x c) → LeadTo (xs ++ x ∷ []) c new.all.items
+pub leads_copy : (xs : List (List Lit)) (x : List Lit) (c : Packet) (old new : Cells) → Widens old new → Leads (Leaf xs) c old.all.items → IsIn new.all.items (apply x c) → Leads (Leaf (xs ++ x ∷ [])) c new.all.items
 leads_copy xs x c old new w h i = record {
   to = λ pk q a k.
       let s = source (xs ++ x ∷ []) pk q k in
@@ -90,9 +87,6 @@ leads_copy xs x c old new w h i = record {
         ]
       ];
 }
-
-pub leads_leaf : (t : Tree) (xs : List (List Lit)) (c : Packet) (cs : List Packet) → t ≡ Leaf xs → LeadTo xs c cs → Leads t c cs
-leads_leaf t xs c cs e h = subst (λ (x : Tree). Leads x c cs) (sym e) (record { to = h.to })
 
 pub leads_then : (l : Lit) (t e : Tree) (c : Packet) (cs : List Packet) → Holds c l → Leads t c cs → Leads (Node l t e) c cs
 leads_then l t e c cs y h = record { to = λ pk q a k. h.to pk q a (subst (λ (xs : List (List Lit)). IsIn (outcomes xs pk) q) (leaf_at-then l t e pk (holds_in c pk l a y)) k) }
@@ -131,8 +125,8 @@ pub record Closes (p : Tree) (c : Packet) (n : ℕ) (r : Cells) : Type 0 where
   pub first : IsIn r.all.items c
   pub turn : (d : Packet) → IsIn (take n r.all.items) d → Leads p d r.all.items
 
-pub closes_start : (p : Tree) (c : Packet) (r : Cells) → IsListed r → r.all.items ≡ c ∷ [] → Closes p c 0 r
-closes_start p c r h e = record { listed = h; first = in_same _ _ c (sym e) (inl refl); turn = λ d i. absurd i }
+pub closes_start : (p : Tree) (c : Packet) (r : Cells) → IsListed r → IsIn r.all.items c → Closes p c 0 r
+closes_start p c r h i = record { listed = h; first = i; turn = λ d k. absurd k }
 
 pub closes_more : (p : Tree) (c d : Packet) (n : ℕ) (old new : Cells) → n < length old.all.items → get_or old.all.items n d ≡ d → Closes p c n old → Widens old new → Leads p d new.all.items → Closes p c (n + 1) new
 closes_more p c d n old new b e h w f = record {
@@ -150,6 +144,18 @@ closes_more p c d n old new b e h w f = record {
 pub closed_of : (p : Tree) (c : Packet) (n : ℕ) (r : Cells) → length r.all.items ≤ n → Closes p c n r → IsClosed p c r.all.items
 closed_of p c n r b h = record { first = h.first; turn = λ d i. h.turn d (in_same _ _ d (sym (take_all n r.all.items b)) i) }
 
-pub on_two : {X E : Type 0} (r : Result X E) (P Q R : Type 0) → OnOk r P → OnOk r Q → (P → Q → R) → OnOk r R
-on_two (Ok x) P Q R g h f = f g h
-on_two (Err e) P Q R g h f = tt
+-- a diagram was gone through
+pub record Gone (k : Kept) (d : Packet) (t : Tree) (old new : Cells) (as' : List ℕ) : Type 0 where
+  pub wider : Widens old new
+  pub done : AllLead k d as' new.all.items
+  pub leads : Leads t d new.all.items
+
+module _ (k : Kept) (d : Packet) (t : Tree) (old : Cells) where
+  pub gone_as : (mid new : Cells) (as' bs : List ℕ) → new ≡ mid → bs ≡ as' → Gone k d t old mid as' → Gone k d t old new bs
+  gone_as mid new as' bs e e' g = subst (λ (x : Cells). Gone k d t old x bs) (sym e) (subst (Gone k d t old mid) (sym e') g)
+
+  pub gone_leaf : (xs : List (List Lit)) (new : Cells) (as' : List ℕ) → t ≡ Leaf xs → AllLead k d as' old.all.items → Widens old new → Leads (Leaf xs) d new.all.items → Gone k d t old new as'
+  gone_leaf xs new as' e h w g = record { wider = w; done = all_wider old new k d as' w h; leads = subst (λ (x : Tree). Leads x d new.all.items) (sym e) g }
+
+  pub gone_on : (l : Lit) (i j : ℕ) (new : Cells) (as' : List ℕ) → Forked k l i j t → Widens old new → AllLead k d as' new.all.items → Leads (Node l (tree_at k i) (tree_at k j)) d new.all.items → Gone k d t old new as'
+  gone_on l i j new as' f w h g = record { wider = w; done = h; leads = subst (λ (x : Tree). Leads x d new.all.items) (sym f.is) g }

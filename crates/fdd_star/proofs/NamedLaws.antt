@@ -129,6 +129,9 @@ named_more k as' bs a ls e h f = λ b i m w. elim (with_only id_eq same_id a as'
 pub named_there : (k : Kept) (as' : List ℕ) (a : ℕ) (ls : List Lit) → list_any (id_eq a) as' ≡ true → AreNamed k as' ls → (m : Lit) → NamesLit (tree_at k a) m → IsIn ls m
 named_there k as' a ls e h = h a (found_in id_eq same_id a as' e)
 
+pub gained_as : (k : Kept) (P : Lit → Type 0) (as' bs : List ℕ) (ls ms ns : List Lit) → ns ≡ ms → bs ≡ as' → AreNamed k as' ms → Gains P ls ms → AreNamed k bs ns × Gains P ls ns
+gained_as k P as' bs ls ms ns e e' h g = (subst (λ (xs : List Lit). AreNamed k bs xs) (sym e) (subst (λ (xs : List ℕ). AreNamed k xs ms) (sym e') h), subst (Gains P ls) (sym e) g)
+
 -- a packet that holds none of the names
 
 pub few_names : (t : Tree) (ls : List Lit) → IsFew t → Gains (NamesLit t) [] ls → AreFewNames ls

@@ -1,10 +1,9 @@
 -- The cells that the turns of a diagram lead to.
 use Rattle.std.specs.Prelude.{◌≡◌, ℕ, List, ◌++◌}
 use Rattle.nk_values.specs.declared.packet.Packet.{Packet}
-use Rattle.nk_values.specs.declared.lit.Lit.{Lit}
 use Rattle.nk_values.specs.Members.{IsIn}
 use Rattle.fdd_nodes.specs.Cells.{Agrees}
-use Rattle.fdd_nodes.specs.Trees.{Tree, outcomes, answers}
+use Rattle.fdd_nodes.specs.Trees.{Tree, answers}
 use Rattle.fdd_star.specs.declared.cells.Cells.{Cells}
 use Rattle.fdd_store.specs.Stores.{Kept, tree_at}
 
@@ -14,15 +13,11 @@ pub record Among (cs : List Packet) (pk : Packet) : Type 0 where
   pub there : IsIn cs cell
   pub agrees : Agrees cell pk
 
--- what the copies make of a packet of the cell d is in one of the cells
-pub record LeadTo (xs : List (List Lit)) (d : Packet) (cs : List Packet) : Type 0 where
-  pub to : (pk q : Packet) → Agrees d pk → IsIn (outcomes xs pk) q → Among cs q
-
--- and what a diagram makes of it
+-- what a diagram makes of a packet of the cell d is in one of the cells
 pub record Leads (t : Tree) (d : Packet) (cs : List Packet) : Type 0 where
   pub to : (pk q : Packet) → Agrees d pk → IsIn (answers t pk) q → Among cs q
 
--- and what the diagrams of some places make of it
+-- and what the diagrams of some places make
 pub record AllLead (k : Kept) (d : Packet) (as' : List ℕ) (cs : List Packet) : Type 0 where
   pub each : (a : ℕ) → IsIn as' a → Leads (tree_at k a) d cs
 

@@ -18,9 +18,10 @@ pub(crate) struct Cells {
 }
 
 impl Cells {
-    ghost use Rattle.std.specs.Prelude.{◌≡◌, [], ◌∷◌, IfOk, IfSome, OnOk};
+    ghost use Rattle.std.specs.Prelude.{IfOk, IfSome, OnOk};
     ghost use Rattle.nk_values.specs.Members.{IsIn};
-    ghost use Rattle.fdd_star.specs.Cells.{AllLead, IsClosed, IsListed, Leads, LeadTo, Widens};
+    ghost use Rattle.fdd_nodes.specs.Trees.{Leaf};
+    ghost use Rattle.fdd_star.specs.Cells.{AllLead, IsClosed, IsListed, Leads, Widens};
     ghost use Rattle.fdd_store.specs.Stores.{Has, tree_at};
 
     /// A cell and those that turns lead to from it, or from another one of them, whatever its packets hold where it fixes
@@ -39,7 +40,11 @@ impl Cells {
         let Some(least) = allowance.checked_sub(MOST_PLACES) else {
             return Ok(None);
         };
-        let mut cells = Cells::start(alloc, cell)?;
+        let mut cells = Cells {
+            packets: IndexSet::new(alloc),
+            all: Vec::new(alloc),
+        };
+        cells.put(*cell)?;
         for i in 0..MOST_CELLS {
             let Some(here) = cells.all.get(i) else {
                 return Ok(Some(cells));
@@ -55,20 +60,7 @@ impl Cells {
         Ok(None)
     }
 
-    // One cell.
-    fn start(alloc: Global, cell: &Cell) -> Result<Cells, AllocError>
-        ensures listed { IfOk result IsListed }
-        ensures cell { IfOk result (λ r. r.all.items ≡ cell.now ∷ []) }
-    {
-        let mut packets = IndexSet::new(alloc);
-        packets.insert(*cell.generic())?;
-        let mut all = Vec::new(alloc);
-        all.push(*cell)?;
-        Ok(Cells { packets, all })
-    }
-
     // Adds the cells that a diagram leads to from one, if it was not gone through before.
-    #[cycle(cells)]
     fn add(
         &mut self,
         store: &Store,
@@ -86,44 +78,26 @@ impl Cells {
         if done.contains(&a) {
             return Ok(());
         }
-        self.add_anew(store, done, here, a)?;
-        done.insert(a)?;
-        Ok(())
-    }
-
-    #[cycle(cells)]
-    fn add_anew(
-        &mut self,
-        store: &Store,
-        done: &mut IndexSet<Id>,
-        here: &Cell,
-        a: Id,
-    ) -> Result<(), AllocError>
-        requires has { Has store.now a }
-        requires listed { IsListed self.old }
-        requires done { AllLead store.now here.now done.old.keys self.old.all.items }
-        ensures wider { OnOk result (Widens self.old self.new) }
-        ensures done { OnOk result (AllLead store.now here.now done.new.keys self.new.all.items) }
-        ensures leads { OnOk result (Leads (tree_at store.now a) here.now self.new.all.items) }
-    {
         match store.look(a) {
-            Look::Leaf => self.add_copies(here, store.leaf(a).copies()),
+            Look::Leaf => self.add_copies(here, store.leaf(a).copies())?,
             Look::Fork(l, yes, no) => match here.knows(&l) {
-                Known::Yes => self.add(store, done, here, yes),
-                Known::No => self.add(store, done, here, no),
+                Known::Yes => self.add(store, done, here, yes)?,
+                Known::No => self.add(store, done, here, no)?,
                 Known::Open => {
                     self.add(store, done, here, yes)?;
-                    self.add(store, done, here, no)
+                    self.add(store, done, here, no)?
                 }
             },
         }
+        done.insert(a)?;
+        Ok(())
     }
 
     // Adds what copies make of a cell.
     fn add_copies(&mut self, here: &Cell, copies: &[Assignments]) -> Result<(), AllocError>
         requires listed { IsListed self.old }
         ensures wider { OnOk result (Widens self.old self.new) }
-        ensures leads { OnOk result (LeadTo copies.now here.now self.new.all.items) }
+        ensures leads { OnOk result (Leads (Leaf copies.now) here.now self.new.all.items) }
     {
         for copy in copies {
             self.put(here.after(copy))?;

@@ -31,7 +31,6 @@ pub(crate) fn other_packet(alloc: Global, store: &Store, p: Id) -> Result<Packet
 }
 
 // Adds what a diagram names. A shared one is gone through once.
-#[cycle(names)]
 fn add_names(
     store: &Store,
     names: &mut IndexSet<Lit>,
@@ -46,31 +45,16 @@ fn add_names(
     if done.contains(&a) {
         return Ok(());
     }
-    add_names_anew(store, names, done, a)?;
-    done.insert(a)?;
-    Ok(())
-}
-
-#[cycle(names)]
-fn add_names_anew(
-    store: &Store,
-    names: &mut IndexSet<Lit>,
-    done: &mut IndexSet<Id>,
-    a: Id,
-) -> Result<(), AllocError>
-    requires has { Has store.now a }
-    requires done { AreNamed store.now done.old.keys names.old.keys }
-    ensures done { OnOk result (AreNamed store.now done.new.keys names.new.keys) }
-    ensures names { OnOk result (Gains (NamesLit (tree_at store.now a)) names.old.keys names.new.keys) }
-{
     match store.look(a) {
-        Look::Leaf => add_copies(names, store.leaf(a).copies()),
-        Look::Fork(l, t, e) => {
+        Look::Leaf => add_copies(names, store.leaf(a).copies())?,
+        Look::Fork(l, yes, no) => {
             names.insert(l)?;
-            add_names(store, names, done, t)?;
-            add_names(store, names, done, e)
+            add_names(store, names, done, yes)?;
+            add_names(store, names, done, no)?;
         }
     }
+    done.insert(a)?;
+    Ok(())
 }
 
 fn add_copies(names: &mut IndexSet<Lit>, copies: &[Assignments]) -> Result<(), AllocError>

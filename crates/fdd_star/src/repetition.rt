@@ -102,31 +102,6 @@ fn part_in(
     if let Some(part) = found.parts.get(p, cell) {
         return Ok(part);
     }
-    let part = star_in(alloc, store, found, other, p, cell)?;
-    found.parts.keep(p, cell, part)?;
-    Ok(part)
-}
-
-// It found anew.
-#[cycle(star)]
-fn star_in(
-    alloc: Global,
-    store: &mut Store,
-    found: &mut Found,
-    other: &Packet,
-    p: Id,
-    cell: &Cell,
-) -> Result<Id, StarError>
-    requires has { Has store.old p }
-    requires few { IsFew (tree_at store.old p) }
-    requires valid { IsValid cell.now }
-    requires found { AreFound store.old found.old }
-    requires range { IsInRange other.now }
-    requires fresh { IsFresh other.now (tree_at store.old p) }
-    ensures grows { Grows store.old store.new }
-    ensures found { OnOk result (AreFound store.new found.new) }
-    ensures star { MatchResult result (λ r. Gives store.new r (StarBut (tree_at store.old p) cell.now [])) (λ e. IsErrorIn (tree_at store.old p) cell.now other.now e) }
-{
     let Reach {
         copies,
         mut asked,
@@ -142,6 +117,7 @@ fn star_in(
         let part = behind(store, &asked, whole);
         all = store.choice(alloc, l, part, all)?;
     }
+    found.parts.keep(p, cell, all)?;
     Ok(all)
 }
 

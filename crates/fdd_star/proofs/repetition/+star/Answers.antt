@@ -1,4 +1,4 @@
-use Rattle.std.proofs.Common.{rules, List, [], sym, ap, subst, arith, ◌∙◌}
+use Rattle.std.proofs.Common.{ℕ, rules, List, [], sym, ap, subst, arith, ◌∙◌}
 use Rattle.std.proofs.lemmas.Bool.{false≢true}
 use Rattle.nk_values.specs.declared.packet.Packet.{Packet}
 use Rattle.nk_values.specs.declared.lit.Lit.{Lit}
@@ -23,15 +23,6 @@ use Rattle.fdd_store.specs.Entries.{SetsField}
 use Rattle.fdd_store.specs.Stores.{Gives, tree_at}
 use Rattle.fdd_store.proofs.StoreLaws.{gives_as, gives_grown, grows_on, has_grown, tree_grown}
 use Rattle.fdd_star.proofs.repetition.+star.Goals as goal
-
-pub part_in-returns-clause-found : goal.part_in-returns-clause-found
-part_in-returns-clause-found t c =
-    let k = c.star_in.new.store in
-    let g = c.in_ok-part.ensures.grows in
-    record {
-      visits = c.in_ok-part.ensures.found.visits;
-      parts = c.in_ok-keep.ensures k c.in_ok-part.ensures.found.parts (has_grown _ _ _ g c.requires.has) (stays (λ x. Gives k c.in_ok-part.part (StarBut x c.args.cell.now [])) _ _ _ g c.requires.has c.in_ok-part.ensures.star);
-    }
 
 pub part_of-part_in-requires : goal.part_of-part_in-requires
 part_of-part_in-requires t c =
@@ -96,8 +87,8 @@ part_of-returns-clause-star t c =
     (subst (λ (g : Packet). IsErrorIn p' cell g e) c.put.ensures h))
     c.part_in-2.ensures.star
 
-pub star_in-loop-l-init : goal.star_in-loop-l-init
-star_in-loop-l-init t c = (
+pub part_in-loop-l-init : goal.part_in-loop-l-init
+part_in-loop-l-init t c = (
   gives_as _ _ _ _ (λ x e. subst (StarBut (tree_at c.args.store.now c.args.p) c.args.cell.now c.in_ok-copies.field-0.asked.keys) (sym e)
       (star_leaf _ _ _ _ c.in_ok-copies.ensures.reach c.in_ok-leaf.ensures)) c.in_ok-all.ensures.place,
   c.in_ok-copies.ensures.reach.is_open,
@@ -111,11 +102,11 @@ star_in-loop-l-init t c = (
   stays (IsNarrowed (tree_at c.args.store.now c.args.p) c.args.cell.now) _ _ _ c.in_ok-all.ensures.grows c.in_ok-body.ensures.has c.in_ok-body.ensures.narrowed,
 )
 
-pub star_in-part_of-requires : goal.star_in-part_of-requires
-star_in-part_of-requires t c =
+pub part_in-part_of-requires : goal.part_in-part_of-requires
+part_in-part_of-requires t c =
     let g = c.loop-l.invariant.4 in
-    let l = c.in-Some.l in
-    let among = last_of _ _ _ c.in-Some.ensures.removal in
+    let l = c.in-Some-pop_last.l in
+    let among = last_of _ _ _ c.in-Some-pop_last.ensures.removal in
     let e = ap tested_fields (tree_grown _ _ _ g c.requires.has) in (
       omega (arith, e),
       (
@@ -142,32 +133,32 @@ star_in-part_of-requires t c =
       ),
     )
 
-pub star_in-returns-in_err-whole-clause-grows : goal.star_in-returns-in_err-whole-clause-grows
-star_in-returns-in_err-whole-clause-grows t c = grows_on _ _ _ c.loop-l.invariant.4 c.in_err-whole.ensures.grows
+pub part_in-returns-in_err-whole-clause-grows : goal.part_in-returns-in_err-whole-clause-grows
+part_in-returns-in_err-whole-clause-grows t c = grows_on _ _ _ c.loop-l.invariant.4 c.in_err-whole.ensures.grows
 
-pub star_in-returns-in_err-whole-clause-star : goal.star_in-returns-in_err-whole-clause-star
-star_in-returns-in_err-whole-clause-star t c =
+pub part_in-returns-in_err-whole-clause-star : goal.part_in-returns-in_err-whole-clause-star
+part_in-returns-in_err-whole-clause-star t c =
     let w = stayed (λ x. IsErrorIn x c.args.cell.now c.args.other.now c.in_err-whole.field-0.0) _ _ _ c.loop-l.invariant.4 c.requires.has c.in_err-whole.ensures.star in
     search (rules, w)
 
-pub star_in-choice-requires-clause-few : goal.star_in-choice-requires-clause-few
-star_in-choice-requires-clause-few t c =
+pub part_in-choice-requires-clause-few : goal.part_in-choice-requires-clause-few
+part_in-choice-requires-clause-few t c =
     let p = tree_at c.args.store.now c.args.p in
     let whole = stayed (λ x. IsNamedBy x (tree_at c.part_of.new.store c.in_ok-whole.whole)) _ _ _ c.loop-l.invariant.4 c.requires.has c.in_ok-whole.ensures.star.is.names in
     let rest = gives_grown _ _ _ _ c.in_ok-whole.ensures.grows c.loop-l.invariant.0 in
-    choice_few p _ _ _ c.requires.few (c.loop-l.invariant.2 c.in-Some.l (last_of _ _ _ c.in-Some.ensures.removal)) (named_on p _ _ whole c.behind-part.ensures.behind.names) rest.is.names
+    choice_few p _ _ _ c.requires.few (c.loop-l.invariant.2 c.in-Some-pop_last.l (last_of _ _ _ c.in-Some-pop_last.ensures.removal)) (named_on p _ _ whole c.behind-part.ensures.behind.names) rest.is.names
 
-pub star_in-returns-in_err-all-2-clause-grows : goal.star_in-returns-in_err-all-2-clause-grows
-star_in-returns-in_err-all-2-clause-grows t c = grows_on _ _ _ c.loop-l.invariant.4 (grows_on _ _ _ c.in_ok-whole.ensures.grows c.in_err-all-2.ensures.grows)
+pub part_in-returns-in_err-all-2-clause-grows : goal.part_in-returns-in_err-all-2-clause-grows
+part_in-returns-in_err-all-2-clause-grows t c = grows_on _ _ _ c.loop-l.invariant.4 (grows_on _ _ _ c.in_ok-whole.ensures.grows c.in_err-all-2.ensures.grows)
 
-pub star_in-loop-l-preserved : goal.star_in-loop-l-preserved
-star_in-loop-l-preserved t c =
-    let removal = c.in-Some.ensures.removal in
+pub part_in-loop-l-preserved : goal.part_in-loop-l-preserved
+part_in-loop-l-preserved t c =
+    let removal = c.in-Some-pop_last.ensures.removal in
     let p = tree_at c.args.store.now c.args.p in
-    let whole = stayed (λ x. StarBut x (put c.in-Some.l c.args.cell.now) [] (tree_at c.part_of.new.store c.in_ok-whole.whole)) _ _ _ c.loop-l.invariant.4 c.requires.has c.in_ok-whole.ensures.star.is in
+    let whole = stayed (λ x. StarBut x (put c.in-Some-pop_last.l c.args.cell.now) [] (tree_at c.part_of.new.store c.in_ok-whole.whole)) _ _ _ c.loop-l.invariant.4 c.requires.has c.in_ok-whole.ensures.star.is in
     let more = grows_on _ _ _ c.in_ok-whole.ensures.grows c.in_ok-all-2.ensures.grows in
     let rest = gives_grown _ _ _ _ c.in_ok-whole.ensures.grows c.loop-l.invariant.0 in (
-      gives_as _ _ _ _ (λ x w. star_more p _ _ _ c.in-Some.l _ _ _ x (c.loop-l.invariant.2 c.in-Some.l (last_of _ _ _ removal)) removal whole c.behind-part.ensures.behind rest.is w) c.in_ok-all-2.ensures.place,
+      gives_as _ _ _ _ (λ x w. star_more p _ _ _ c.in-Some-pop_last.l _ _ _ x (c.loop-l.invariant.2 c.in-Some-pop_last.l (last_of _ _ _ removal)) removal whole c.behind-part.ensures.behind rest.is w) c.in_ok-all-2.ensures.place,
       fewer_left (λ (m : Lit). IsOpen c.args.cell.now (lit_field m)) _ _ _ removal c.loop-l.invariant.1,
       fewer_left (Tests p) _ _ _ removal c.loop-l.invariant.2,
       found_grown _ _ _ c.in_ok-all-2.ensures.grows c.in_ok-whole.ensures.found,
@@ -176,7 +167,17 @@ star_in-loop-l-preserved t c =
       stays (IsNarrowed p c.args.cell.now) _ _ _ more c.loop-l.invariant.5 c.loop-l.invariant.6,
     )
 
-pub star_in-returns-clause-star : goal.star_in-returns-clause-star
-star_in-returns-clause-star t c =
-    let none = none_left c.loop-l.asked.keys (λ b. false≢true (c.in_default.ensures.variant.1 b)) in
+whole : (t : ℕ) (c : goal.part_in-After-drop-asked-2 t) → Gives c.loop-l.store c.loop-l.all (StarBut (tree_at c.args.store.now c.args.p) c.args.cell.now [])
+whole t c =
+    let none = none_left c.loop-l.asked.keys (λ b. false≢true (c.in_default-pop_last.ensures.variant.1 b)) in
     subst (λ (ls : List Lit). Gives c.loop-l.store c.loop-l.all (StarBut (tree_at c.args.store.now c.args.p) c.args.cell.now ls)) none c.loop-l.invariant.0
+
+pub part_in-returns-clause-star : goal.part_in-returns-clause-star
+part_in-returns-clause-star t c = whole t c
+
+pub part_in-returns-clause-found : goal.part_in-returns-clause-found
+part_in-returns-clause-found t c =
+    let k = c.loop-l.store in
+    let g = c.loop-l.invariant.4 in
+    let parts = c.in_ok-keep.ensures k c.loop-l.invariant.3.parts (has_grown _ _ _ g c.requires.has) (stays (λ x. Gives k c.loop-l.all (StarBut x c.args.cell.now [])) _ _ _ g c.requires.has (whole t c)) in
+    record { visits = c.loop-l.invariant.3.visits; parts = parts }

@@ -13,18 +13,15 @@ use Rattle.fdd_store.specs.Stores.{Has, Gives, Grows, tree_at}
 use Rattle.fdd_star.proofs.repetition.+star.Given as goal
 
 abbrev pub decreases-part_in : goal.decreases-part_in
-decreases-part_in l = 3 * (tested_fields (tree_at l.store.now l.p) + open_fields l.cell.now) + 2
-
-abbrev pub decreases-star_in : goal.decreases-star_in
-decreases-star_in l = 3 * (tested_fields (tree_at l.store.now l.p) + open_fields l.cell.now) + 1
+decreases-part_in l = 2 * (tested_fields (tree_at l.store.now l.p) + open_fields l.cell.now) + 1
 
 abbrev pub decreases-part_of : goal.decreases-part_of
-decreases-part_of l = 3 * (tested_fields (tree_at l.store.now l.p) + open_fields l.cell.now)
+decreases-part_of l = 2 * (tested_fields (tree_at l.store.now l.p) + open_fields l.cell.now)
 
-abbrev pub invariant-star_in-loop-l : goal.invariant-star_in-loop-l
-invariant-star_in-loop-l l =
+abbrev pub invariant-part_in-loop-l : goal.invariant-part_in-loop-l
+invariant-part_in-loop-l l =
     Gives l.store l.all (StarBut (tree_at l.fn.store l.p) l.cell l.asked.keys) × ((m : Lit) → IsIn l.asked.keys m → IsOpen l.cell (lit_field m)) × ((m : Lit) → IsIn l.asked.keys m → Tests (tree_at l.fn.store l.p) m)
     × AreFound l.store l.found × Grows l.fn.store l.store × Has l.store l.body × IsNarrowed (tree_at l.fn.store l.p) l.cell (tree_at l.store l.body)
 
-abbrev pub decreases-star_in-loop-l : goal.decreases-star_in-loop-l
-decreases-star_in-loop-l l = length l.asked.keys
+abbrev pub decreases-part_in-loop-l : goal.decreases-part_in-loop-l
+decreases-part_in-loop-l l = length l.asked.keys

@@ -4,7 +4,7 @@ use Rattle.fdd_star.proofs.LeadLaws.{closed_of, closes_more, closes_start, lead_
 use Rattle.fdd_star.proofs.cells.Cells.led_to.Goals as goal
 
 pub loop-i-init : goal.loop-i-init
-loop-i-init c = closes_start _ _ _ c.in_ok-cells.ensures.listed c.in_ok-cells.ensures.cell
+loop-i-init c = closes_start _ _ _ c.in_ok-put.ensures.wider.listed c.in_ok-put.ensures.has
 
 pub returns-in_default-get : goal.returns-in_default-get
 returns-in_default-get c =
