@@ -73,6 +73,9 @@ fault_within p l c g (Fault f) t o h = record {
   ];
 }
 
+pub fresh_within : (p b : Tree) (g : Packet) → IsNamedBy p b → IsFresh g p → IsFresh g b
+fresh_within p b g n h = record { tested = λ m k. h.tested m (n.tests m k); assigned = λ m k. h.assigned m (n.assigns m k) }
+
 -- a packet with a literal of a field that is never set, and what no more is tested of it
 pub fresh_where : (p p' : Tree) (l : Lit) (g : Packet) → (¬ SetsField p (lit_field l)) → IsNamedBy p p' → LeavesOut (lit_field l) p' → IsFresh g p → IsFresh (put l g) p'
 fresh_where p p' l g n names out h = record {

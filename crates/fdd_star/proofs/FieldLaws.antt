@@ -52,32 +52,16 @@ module _ (r t : Tree) (within : (m : Lit) → Tests r m → Tests t m) where
   no_more f = ordered _ _ (λ h. let k = told r f h in there t f k.0 (within k.0 k.1) k.2)
 
   less : (f : Field) → one_if (tests_at r f) < one_if (tests_at t f) → tested_fields r < tested_fields t
-  less f s =
-      let a = no_more Sw in
-      let b = no_more Pt in
-      let c = no_more EthTyp in
-      let d = no_more IpProto in
-      let e = no_more EthSrc in
-      let g = no_more EthDst in
-      let h = no_more Ip4Src in
-      let i = no_more Ip4Dst in
-      let j = no_more TcpSrcPort in
-      let k = no_more TcpDstPort in
-      by f s a b c d e g h i j k
-    where
-      by : (f : Field) → one_if (tests_at r f) < one_if (tests_at t f) → one_if (tests_at r Sw) ≤ one_if (tests_at t Sw) → one_if (tests_at r Pt) ≤ one_if (tests_at t Pt) → one_if (tests_at r EthTyp) ≤ one_if (tests_at t EthTyp)
-          → one_if (tests_at r IpProto) ≤ one_if (tests_at t IpProto) → one_if (tests_at r EthSrc) ≤ one_if (tests_at t EthSrc) → one_if (tests_at r EthDst) ≤ one_if (tests_at t EthDst) → one_if (tests_at r Ip4Src) ≤ one_if (tests_at t Ip4Src)
-          → one_if (tests_at r Ip4Dst) ≤ one_if (tests_at t Ip4Dst) → one_if (tests_at r TcpSrcPort) ≤ one_if (tests_at t TcpSrcPort) → one_if (tests_at r TcpDstPort) ≤ one_if (tests_at t TcpDstPort) → tested_fields r < tested_fields t
-      by Sw s a b c d e g h i j k = omega (arith, s, b, c, d, e, g, h, i, j, k)
-      by Pt s a b c d e g h i j k = omega (arith, a, s, c, d, e, g, h, i, j, k)
-      by EthTyp s a b c d e g h i j k = omega (arith, a, b, s, d, e, g, h, i, j, k)
-      by IpProto s a b c d e g h i j k = omega (arith, a, b, c, s, e, g, h, i, j, k)
-      by EthSrc s a b c d e g h i j k = omega (arith, a, b, c, d, s, g, h, i, j, k)
-      by EthDst s a b c d e g h i j k = omega (arith, a, b, c, d, e, s, h, i, j, k)
-      by Ip4Src s a b c d e g h i j k = omega (arith, a, b, c, d, e, g, s, i, j, k)
-      by Ip4Dst s a b c d e g h i j k = omega (arith, a, b, c, d, e, g, h, s, j, k)
-      by TcpSrcPort s a b c d e g h i j k = omega (arith, a, b, c, d, e, g, h, i, s, k)
-      by TcpDstPort s a b c d e g h i j k = omega (arith, a, b, c, d, e, g, h, i, j, s)
+  less Sw s = omega (arith, s, no_more Pt, no_more EthTyp, no_more IpProto, no_more EthSrc, no_more EthDst, no_more Ip4Src, no_more Ip4Dst, no_more TcpSrcPort, no_more TcpDstPort)
+  less Pt s = omega (arith, s, no_more Sw, no_more EthTyp, no_more IpProto, no_more EthSrc, no_more EthDst, no_more Ip4Src, no_more Ip4Dst, no_more TcpSrcPort, no_more TcpDstPort)
+  less EthTyp s = omega (arith, s, no_more Sw, no_more Pt, no_more IpProto, no_more EthSrc, no_more EthDst, no_more Ip4Src, no_more Ip4Dst, no_more TcpSrcPort, no_more TcpDstPort)
+  less IpProto s = omega (arith, s, no_more Sw, no_more Pt, no_more EthTyp, no_more EthSrc, no_more EthDst, no_more Ip4Src, no_more Ip4Dst, no_more TcpSrcPort, no_more TcpDstPort)
+  less EthSrc s = omega (arith, s, no_more Sw, no_more Pt, no_more EthTyp, no_more IpProto, no_more EthDst, no_more Ip4Src, no_more Ip4Dst, no_more TcpSrcPort, no_more TcpDstPort)
+  less EthDst s = omega (arith, s, no_more Sw, no_more Pt, no_more EthTyp, no_more IpProto, no_more EthSrc, no_more Ip4Src, no_more Ip4Dst, no_more TcpSrcPort, no_more TcpDstPort)
+  less Ip4Src s = omega (arith, s, no_more Sw, no_more Pt, no_more EthTyp, no_more IpProto, no_more EthSrc, no_more EthDst, no_more Ip4Dst, no_more TcpSrcPort, no_more TcpDstPort)
+  less Ip4Dst s = omega (arith, s, no_more Sw, no_more Pt, no_more EthTyp, no_more IpProto, no_more EthSrc, no_more EthDst, no_more Ip4Src, no_more TcpSrcPort, no_more TcpDstPort)
+  less TcpSrcPort s = omega (arith, s, no_more Sw, no_more Pt, no_more EthTyp, no_more IpProto, no_more EthSrc, no_more EthDst, no_more Ip4Src, no_more Ip4Dst, no_more TcpDstPort)
+  less TcpDstPort s = omega (arith, s, no_more Sw, no_more Pt, no_more EthTyp, no_more IpProto, no_more EthSrc, no_more EthDst, no_more Ip4Src, no_more Ip4Dst, no_more TcpSrcPort)
 
   pub fewer_tested : (l : Lit) → Tests t l → LeavesOut (lit_field l) r → tested_fields r < tested_fields t
   fewer_tested l h out =

@@ -2,7 +2,6 @@
 use Rattle.std.specs.Prelude.{Result, Ok, Err, IfOk}
 use Rattle.std.proofs.Common.{◌≡◌, inl, inr, refl, sym, subst, arith, List, [], ◌∷◌, ◌++◌, length}
 use Rattle.std.proofs.lemmas.Bool.Decides.{eqb_tells}
-use Rattle.nk_values.specs.declared.field.Field.{Field}
 use Rattle.nk_values.specs.declared.packet.Packet.{Packet}
 use Rattle.nk_values.specs.declared.lit.Lit.{Lit}
 use Rattle.nk_values.specs.Held.{Holds, put}
@@ -23,7 +22,6 @@ use Rattle.fdd_star.proofs.LeadLaws.{among_more, holds_in, barred_in}
 use Rattle.fdd_star.proofs.PassingLaws.{agrees_out, turns_to, turns_from}
 use Rattle.fdd_star.proofs.StarLaws.{choice_few}
 use Rattle.fdd_star.proofs.TurnLaws.{in_same}
-use Rattle.fdd_store.specs.Entries.{SetsField}
 use Rattle.fdd_store.specs.Operations.{ChoiceOf}
 
 -- what a diagram names
@@ -65,10 +63,6 @@ deep_narrowed p b c pk out h a d = record {
   made = (d.made.0, d.made.1, h.only d.made.0 pk out a d.made.2);
   late = λ w. d.late (w.0, w.1, h.has w.0 pk out a w.2);
 }
-
--- what is not set by a diagram is not set by what names no more
-pub unset_narrowed : (p b : Tree) (f : Field) → IsNamedBy p b → (¬ SetsField p f) → ¬ SetsField b f
-unset_narrowed p b f h n = λ s. n (record { lit = s.lit; assigned = h.assigns s.lit s.assigned; field = s.field })
 
 -- equal answers
 

@@ -1,7 +1,7 @@
 -- Turns leave a field alone that the diagram never sets, so a first test of it stays.
-use Rattle.std.specs.Prelude.{MatchResult, OnOk}
-use Rattle.std.proofs.Common.{◌≡◌, ℕ, zero, suc, inl, inr, refl, sym, ap, ◌∙◌, subst, Bool, true, List, [], Result, Ok, Err}
-use Rattle.std.proofs.lemmas.Bool.{eqb-true}
+use Rattle.std.specs.Prelude.{◌↔◌, IsTrue, MatchResult, OnOk}
+use Rattle.std.proofs.Common.{◌≡◌, ℕ, zero, suc, inl, inr, refl, sym, ap, ◌∙◌, subst, Bool, true, false, List, [], Result, Ok, Err}
+use Rattle.std.proofs.lemmas.Bool.{eqb-true, false≢true}
 use Rattle.std.proofs.lemmas.Bool.Decides.{eqb_tells}
 use Rattle.nk_values.specs.declared.field.Field.{Field}
 use Rattle.nk_values.specs.declared.packet.Packet.{Packet}
@@ -132,6 +132,11 @@ few_stars : (l : Lit) (t e a b : Tree) → IsFew (Node l t e) → StarOf t a →
 few_stars l t e a b few ha hb = choice_few (Node l t e) l a b few (inl refl)
     (record { tests = λ m k. inr (inl (ha.tests m k)); assigns = λ m k. inl (ha.assigns m k) })
     (record { tests = λ m k. inr (inr (hb.tests m k)); assigns = λ m k. inr (hb.assigns m k) })
+
+-- a first test of a field that is not set
+
+pub passes_by : (k : Kept) (l : Lit) (i j : ℕ) (t : Tree) (g : Field) (b : Bool) → Forked k l i j t → g ≡ lit_field l → IsTrue b ↔ SetsField t g → b ≡ false → Passes t
+passes_by k l i j t g b f e h n = subst Passes (sym f.is) (λ w. false≢true (sym n ∙ h.1 (subst (λ (x : Tree). SetsField x g) (sym f.is) (subst (SetsField (Node l (tree_at k i) (tree_at k j))) (sym e) w))))
 
 -- stars in a store that grows
 

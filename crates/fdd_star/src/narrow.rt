@@ -11,8 +11,8 @@ use nk_values::Lit;
 use std::alloc::{AllocError, Global};
 use std::collections::BTreeSet;
 
-/// The body whose cofactors are taken at a cell for the literals that were asked there: that without the tests which come
-/// out one way in all turns from the cell, where then fewer of the cofactors differ. It makes the same turns.
+/// The body of which parts are taken at a cell for the literals that were asked there: that without the tests which come out
+/// one way in all turns from the cell, where it has fewer parts. It makes the same turns.
 pub(crate) fn narrowed(
     alloc: Global,
     store: &mut Store,
@@ -27,23 +27,41 @@ pub(crate) fn narrowed(
     ensures has { IfOk result (Has store.new) }
     ensures narrowed { IfOk result (λ r. IsNarrowed (tree_at store.old p) cell.now (tree_at store.new r)) }
 {
-    let apart = differences(alloc, store, p, asked)?;
-    if apart == 0 {
+    let many = parts(alloc, store, p, asked)?;
+    if many < 2 {
         return Ok(p);
     }
-    let Some(cells) = Cells::led_to(alloc, store, allowance, p, cell)? else {
-        return Ok(p);
-    };
-    let body = on_cells(alloc, store, p, &cells.all)?;
-    if differences(alloc, store, body, asked)? < apart {
+    let body = on_reached(alloc, store, allowance, p, cell)?;
+    if parts(alloc, store, body, asked)? < many {
         Ok(body)
     } else {
         Ok(p)
     }
 }
 
-// How often literals next to one another, of one field that the diagram never sets, have different cofactors.
-fn differences(
+// A diagram on the packets of a cell and those that turns lead to, if they can be told.
+fn on_reached(
+    alloc: Global,
+    store: &mut Store,
+    allowance: &mut usize,
+    p: Id,
+    cell: &Cell,
+) -> Result<Id, AllocError>
+    requires has { Has store.old p }
+    requires few { IsFew (tree_at store.old p) }
+    ensures grows { Grows store.old store.new }
+    ensures has { IfOk result (Has store.new) }
+    ensures narrowed { IfOk result (λ r. IsNarrowed (tree_at store.old p) cell.now (tree_at store.new r)) }
+{
+    match Cells::led_to(alloc, store, allowance, p, cell)? {
+        None => Ok(p),
+        Some(cells) => on_cells(alloc, store, p, &cells.all),
+    }
+}
+
+// How many parts are taken for some literals: one for each of a field that the diagram sets, and of another field one for
+// those next to one another that have the same cofactor.
+fn parts(
     alloc: Global,
     store: &mut Store,
     p: Id,
@@ -57,15 +75,14 @@ fn differences(
     let mut last = None;
     for l in asked {
         if store.sets(p, l.field()) {
+            count = count.saturating_add(1);
             continue;
         }
-        let part = store.cofactor(alloc, p, *l)?;
-        if let Some((field, other)) = last {
-            if field == l.field() && other != part {
-                count = count.saturating_add(1);
-            }
+        let kind = (l.field(), store.cofactor(alloc, p, *l)?);
+        if last != Some(kind) {
+            count = count.saturating_add(1);
         }
-        last = Some((l.field(), part));
+        last = Some(kind);
     }
     Ok(count)
 }
@@ -78,22 +95,25 @@ fn on_cells(alloc: Global, store: &mut Store, a: Id, cells: &[Cell]) -> Result<I
     ensures has { IfOk result (Has store.new) }
     ensures on { IfOk result (λ r. IsOn cells.now (tree_at store.old a) (tree_at store.new r)) }
 {
+    if cells.is_empty() {
+        return Ok(a);
+    }
     match store.look(a) {
         Look::Leaf => Ok(a),
         Look::Fork(l, yes, no) => {
             let sides = sides_of(alloc, cells, &l)?;
-            if sides.yes.is_empty() {
-                return on_cells(alloc, store, no, &sides.no);
-            }
-            if sides.no.is_empty() {
-                return on_cells(alloc, store, yes, &sides.yes);
-            }
             if sides.yes.len() == cells.len() && sides.no.len() == cells.len() {
                 return Ok(a);
             }
             let part = on_cells(alloc, store, yes, &sides.yes)?;
             let rest = on_cells(alloc, store, no, &sides.no)?;
-            store.choice(alloc, l, part, rest)
+            if sides.yes.is_empty() {
+                Ok(rest)
+            } else if sides.no.is_empty() {
+                Ok(part)
+            } else {
+                store.choice(alloc, l, part, rest)
+            }
         }
     }
 }

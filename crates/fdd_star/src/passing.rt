@@ -1,11 +1,11 @@
 // The star of a diagram, part by part: no turn changes a field that the diagram never sets.
-ghost use Rattle.std.specs.Prelude.{◌↔◌, IsTrue, MatchResult, OnOk};
+ghost use Rattle.std.specs.Prelude.{MatchResult, OnOk};
 ghost use Rattle.nk_values.specs.Packets.{IsInRange};
 ghost use Rattle.fdd_nodes.specs.Cells.{IsFresh, open_cell};
 ghost use Rattle.fdd_nodes.specs.Names.{IsFew};
 ghost use Rattle.fdd_star.specs.Faults.{IsErrorIn};
 ghost use Rattle.fdd_star.specs.Found.{AreFound};
-ghost use Rattle.fdd_star.specs.Passing.{AreStars, Passes};
+ghost use Rattle.fdd_star.specs.Passing.{AreStars};
 ghost use Rattle.fdd_star.specs.Stars.{StarOf, IsErrorOf, IsShallow};
 ghost use Rattle.fdd_store.specs.Stores.{Has, Grows, Gives, tree_at};
 
@@ -87,23 +87,12 @@ fn star_anew(
     ensures stars { OnOk result (AreStars store.new stars.new.entries) }
     ensures star { MatchResult result (λ r. Gives store.new r (StarOf (tree_at store.old p))) (λ e. IsErrorIn (tree_at store.old p) open_cell other.now e) }
 {
-    match store.look(p) {
-        Look::Fork(test, yes, no) if passes(store, p) => {
+    if let Look::Fork(test, yes, no) = store.look(p) {
+        if !store.sets(p, test.field()) {
             let part = star_at(alloc, store, found, stars, &test.put(other), yes)?;
             let rest = star_at(alloc, store, found, stars, other, no)?;
-            Ok(store.choice(alloc, test, part, rest)?)
+            return Ok(store.choice(alloc, test, part, rest)?);
         }
-        _ => star_of_cells(alloc, store, found, other, p),
     }
-}
-
-// Whether a diagram begins with a test of a field that it never sets.
-fn passes(store: &Store, p: Id) -> bool
-    requires { Has store.now p }
-    ensures { IsTrue result ↔ Passes (tree_at store.now p) }
-{
-    match store.look(p) {
-        Look::Leaf => false,
-        Look::Fork(test, _, _) => !store.sets(p, test.field()),
-    }
+    star_of_cells(alloc, store, found, other, p)
 }

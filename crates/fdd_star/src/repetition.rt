@@ -25,10 +25,8 @@ use nk_values::{Lit, Packet};
 use std::alloc::{AllocError, Global};
 use std::collections::BTreeSet;
 
-// How many places of diagrams may be gone through to narrow bodies before any packet was reached, and how many more for each.
+// How many places of diagrams may be gone through to narrow bodies, besides one for each packet that was reached.
 const FIRST_ALLOWANCE: usize = 1_048_576;
-
-const MORE_ALLOWANCE: usize = 4;
 
 /// What was found of the stars of a store's diagrams: where packets come to, and the stars on the packets of cells. And how
 /// many places of diagrams may still be gone through to narrow bodies.
@@ -107,8 +105,7 @@ fn part_in(
         mut asked,
         ..
     } = Reach::of(alloc, store, &mut found.visits, other, p, cell)?;
-    let more = copies.len().saturating_mul(MORE_ALLOWANCE);
-    found.allowance = found.allowance.saturating_add(more);
+    found.allowance = found.allowance.saturating_add(copies.len());
     let body = narrowed(alloc, store, &mut found.allowance, p, cell, &asked)?;
     let leaf = gathered(alloc, copies)?;
     let mut all = store.put_leaf(alloc, leaf)?;
@@ -167,7 +164,7 @@ fn part_of(
     ensures found { OnOk result (AreFound store.new found.new) }
     ensures star { MatchResult result (λ r. Gives store.new r (StarBut (tree_at store.old p) (put l.now cell.now) [])) (λ e. IsErrorIn (tree_at store.old p) cell.now other.now e) }
 {
-    if store.sets(p, l.field()) {
+    if store.sets(body, l.field()) {
         return part_in(alloc, store, found, other, p, &cell.with(l));
     }
     let part = store.cofactor(alloc, body, *l)?;

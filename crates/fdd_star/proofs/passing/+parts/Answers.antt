@@ -12,7 +12,7 @@ use Rattle.fdd_star.specs.Passing.{IsStar, AreStars}
 use Rattle.fdd_star.proofs.FaultLaws.{put_in_range, fresh_yes, fresh_no, fault_yes, fault_no}
 use Rattle.fdd_star.proofs.KeptLaws.{found_right, right_added}
 use Rattle.fdd_star.proofs.FoundLaws.{found_grown, stayed}
-use Rattle.fdd_star.proofs.PassingLaws.{id_eq, same_id, few_then, few_else, few_passed, star_of_passed, star_kept, stars_grown, on_each}
+use Rattle.fdd_star.proofs.PassingLaws.{passes_by, id_eq, same_id, few_then, few_else, few_passed, star_of_passed, star_kept, stars_grown, on_each}
 use Rattle.fdd_star.proofs.passing.+parts.Goals as goal
 
 pub star_anew-star_at-requires : goal.star_anew-star_at-requires
@@ -21,72 +21,72 @@ star_anew-star_at-requires t c =
     let f = c.in-Fork.ensures.look in
     let few = few_then c.in-Fork.test (tree_at k c.in-Fork.yes) (tree_at k c.in-Fork.no) (subst IsFew f.is c.requires.few) in
     let range = subst IsInRange (sym c.put.ensures) (put_in_range c.in-Fork.test c.args.other.now c.requires.range) in
-    let fresh = fresh_yes k c.in-Fork.test _ _ _ f (c.passes.ensures.0 c.if-passes.true) c.in-Fork.ensures.made c.args.other.now c.requires.fresh in (
+    let fresh = fresh_yes k c.in-Fork.test _ _ _ f (passes_by _ _ _ _ _ _ _ c.in-Fork.ensures.look c.field.ensures c.sets.ensures c.if-not-sets.true) c.in-Fork.ensures.made c.args.other.now c.requires.fresh in (
       let w = fall_then k c.in-Fork.test _ _ _ _ f c.in-Fork.ensures.made in omega (arith, w),
       (f.has_then, (few, (c.requires.found, (c.requires.stars, (range, subst (λ (g : Packet). IsFresh g (tree_at k c.in-Fork.yes)) (sym c.put.ensures) fresh))))),
     )
 
-pub star_anew-star_at-requires-in-Fork : goal.star_anew-star_at-requires-in-Fork
-star_anew-star_at-requires-in-Fork t c =
+pub star_anew-star_at-requires-then-not-sets : goal.star_anew-star_at-requires-then-not-sets
+star_anew-star_at-requires-then-not-sets t c =
     let k = c.args.store.now in
     let f = c.in-Fork.ensures.look in
-    let g = c.in_ok-part-in-Fork.ensures.grows in
+    let g = c.in_ok-part.ensures.grows in
     let e = tree_grown _ _ _ g f.has_else in
     let few = few_else c.in-Fork.test (tree_at k c.in-Fork.yes) (tree_at k c.in-Fork.no) (subst IsFew f.is c.requires.few) in
-    let fresh = fresh_no k c.in-Fork.test _ _ _ f (c.passes.ensures.0 c.if-passes.true) c.in-Fork.ensures.made c.args.other.now c.requires.fresh in (
+    let fresh = fresh_no k c.in-Fork.test _ _ _ f (passes_by _ _ _ _ _ _ _ c.in-Fork.ensures.look c.field.ensures c.sets.ensures c.if-not-sets.true) c.in-Fork.ensures.made c.args.other.now c.requires.fresh in (
       let w = fall_else k c.in-Fork.test _ _ _ _ f c.in-Fork.ensures.made in omega (arith, w, ap level e),
       (
         has_grown _ _ _ g f.has_else,
-        (subst IsFew (sym e) few, (c.in_ok-part-in-Fork.ensures.found, (c.in_ok-part-in-Fork.ensures.stars, (c.requires.range, subst (IsFresh c.args.other.now) (sym e) fresh)))),
+        (subst IsFew (sym e) few, (c.in_ok-part.ensures.found, (c.in_ok-part.ensures.stars, (c.requires.range, subst (IsFresh c.args.other.now) (sym e) fresh)))),
       ),
     )
 
 pub star_anew-choice-requires-clause-has_a : goal.star_anew-choice-requires-clause-has_a
-star_anew-choice-requires-clause-has_a t c = has_grown _ _ _ c.in_ok-rest-in-Fork.ensures.grows c.in_ok-part-in-Fork.ensures.star.has
+star_anew-choice-requires-clause-has_a t c = has_grown _ _ _ c.in_ok-rest.ensures.grows c.in_ok-part.ensures.star.has
 
 pub star_anew-choice-requires-clause-has_b : goal.star_anew-choice-requires-clause-has_b
-star_anew-choice-requires-clause-has_b t c = c.in_ok-rest-in-Fork.ensures.star.has
+star_anew-choice-requires-clause-has_b t c = c.in_ok-rest.ensures.star.has
 
 pub star_anew-choice-requires-clause-few : goal.star_anew-choice-requires-clause-few
 star_anew-choice-requires-clause-few t c =
-    few_passed _ _ _ c.args.p _ _ _ _ c.in-Fork.test c.in-Fork.ensures.look (c.passes.ensures.0 c.if-passes.true) c.in_ok-part-in-Fork.ensures.grows c.in_ok-rest-in-Fork.ensures.grows c.in_ok-part-in-Fork.ensures.star c.in_ok-rest-in-Fork.ensures.star c.requires.few
+    few_passed _ _ _ c.args.p _ _ _ _ c.in-Fork.test c.in-Fork.ensures.look (passes_by _ _ _ _ _ _ _ c.in-Fork.ensures.look c.field.ensures c.sets.ensures c.if-not-sets.true) c.in_ok-part.ensures.grows c.in_ok-rest.ensures.grows c.in_ok-part.ensures.star c.in_ok-rest.ensures.star c.requires.few
 
-pub star_anew-returns-in_err-part-in-Fork-clause-grows : goal.star_anew-returns-in_err-part-in-Fork-clause-grows
-star_anew-returns-in_err-part-in-Fork-clause-grows t c = c.in_err-part-in-Fork.ensures.grows
+pub star_anew-returns-in_err-part-clause-grows : goal.star_anew-returns-in_err-part-clause-grows
+star_anew-returns-in_err-part-clause-grows t c = c.in_err-part.ensures.grows
 
-pub star_anew-returns-in_err-part-in-Fork-clause-star : goal.star_anew-returns-in_err-part-in-Fork-clause-star
-star_anew-returns-in_err-part-in-Fork-clause-star t c =
-    let w = fault_yes c.args.store.now c.in-Fork.test _ _ _ c.in-Fork.ensures.look (c.passes.ensures.0 c.if-passes.true) c.in-Fork.ensures.made c.args.other.now c.in_err-part-in-Fork.field-0.0
-    (subst (λ (g : Packet). IsErrorIn (tree_at c.args.store.now c.in-Fork.yes) open_cell g c.in_err-part-in-Fork.field-0.0) c.put.ensures c.in_err-part-in-Fork.ensures.star) in
+pub star_anew-returns-in_err-part-clause-star : goal.star_anew-returns-in_err-part-clause-star
+star_anew-returns-in_err-part-clause-star t c =
+    let w = fault_yes c.args.store.now c.in-Fork.test _ _ _ c.in-Fork.ensures.look (passes_by _ _ _ _ _ _ _ c.in-Fork.ensures.look c.field.ensures c.sets.ensures c.if-not-sets.true) c.in-Fork.ensures.made c.args.other.now c.in_err-part.field-0.0
+    (subst (λ (g : Packet). IsErrorIn (tree_at c.args.store.now c.in-Fork.yes) open_cell g c.in_err-part.field-0.0) c.put.ensures c.in_err-part.ensures.star) in
     search (rules, w)
 
-pub star_anew-returns-in_err-rest-in-Fork-clause-star : goal.star_anew-returns-in_err-rest-in-Fork-clause-star
-star_anew-returns-in_err-rest-in-Fork-clause-star t c =
+pub star_anew-returns-in_err-rest-clause-star : goal.star_anew-returns-in_err-rest-clause-star
+star_anew-returns-in_err-rest-clause-star t c =
     let f = c.in-Fork.ensures.look in
-    let w = fault_no c.args.store.now c.in-Fork.test _ _ _ f (c.passes.ensures.0 c.if-passes.true) c.in-Fork.ensures.made c.args.other.now c.in_err-rest-in-Fork.field-0.0 c.requires.fresh
-    (stayed (λ x. IsErrorIn x open_cell c.args.other.now c.in_err-rest-in-Fork.field-0.0) _ _ _ c.in_ok-part-in-Fork.ensures.grows f.has_else c.in_err-rest-in-Fork.ensures.star) in
+    let w = fault_no c.args.store.now c.in-Fork.test _ _ _ f (passes_by _ _ _ _ _ _ _ c.in-Fork.ensures.look c.field.ensures c.sets.ensures c.if-not-sets.true) c.in-Fork.ensures.made c.args.other.now c.in_err-rest.field-0.0 c.requires.fresh
+    (stayed (λ x. IsErrorIn x open_cell c.args.other.now c.in_err-rest.field-0.0) _ _ _ c.in_ok-part.ensures.grows f.has_else c.in_err-rest.ensures.star) in
     search (rules, w)
 
-pub star_anew-returns-in_err-rest-in-Fork-clause-grows : goal.star_anew-returns-in_err-rest-in-Fork-clause-grows
-star_anew-returns-in_err-rest-in-Fork-clause-grows t c = grows_on _ _ _ c.in_ok-part-in-Fork.ensures.grows c.in_err-rest-in-Fork.ensures.grows
+pub star_anew-returns-in_err-rest-clause-grows : goal.star_anew-returns-in_err-rest-clause-grows
+star_anew-returns-in_err-rest-clause-grows t c = grows_on _ _ _ c.in_ok-part.ensures.grows c.in_err-rest.ensures.grows
 
-pub star_anew-returns-in_err-choice-in-Fork-clause-grows : goal.star_anew-returns-in_err-choice-in-Fork-clause-grows
-star_anew-returns-in_err-choice-in-Fork-clause-grows t c =
-    grows_on _ _ _ c.in_ok-part-in-Fork.ensures.grows (grows_on _ _ _ c.in_ok-rest-in-Fork.ensures.grows c.in_err-choice-in-Fork.ensures.grows)
+pub star_anew-returns-in_err-choice-clause-grows : goal.star_anew-returns-in_err-choice-clause-grows
+star_anew-returns-in_err-choice-clause-grows t c =
+    grows_on _ _ _ c.in_ok-part.ensures.grows (grows_on _ _ _ c.in_ok-rest.ensures.grows c.in_err-choice.ensures.grows)
 
-pub star_anew-returns-in_ok-choice-in-Fork : goal.star_anew-returns-in_ok-choice-in-Fork
-star_anew-returns-in_ok-choice-in-Fork t c = record {
-  grows = grows_on _ _ _ c.in_ok-part-in-Fork.ensures.grows (grows_on _ _ _ c.in_ok-rest-in-Fork.ensures.grows c.in_ok-choice-in-Fork.ensures.grows);
-  found = found_grown _ _ _ c.in_ok-choice-in-Fork.ensures.grows c.in_ok-rest-in-Fork.ensures.found;
-  stars = stars_grown _ _ _ c.in_ok-choice-in-Fork.ensures.grows c.in_ok-rest-in-Fork.ensures.stars;
-  star = gives_as _ _ _ _ (λ r w. star_of_passed _ _ _ c.args.p _ _ _ _ c.in-Fork.test c.in-Fork.ensures.look (c.passes.ensures.0 c.if-passes.true) c.in_ok-part-in-Fork.ensures.grows c.in_ok-rest-in-Fork.ensures.grows c.in_ok-part-in-Fork.ensures.star c.in_ok-rest-in-Fork.ensures.star r w) c.in_ok-choice-in-Fork.ensures.place;
+pub star_anew-returns-then-not-sets : goal.star_anew-returns-then-not-sets
+star_anew-returns-then-not-sets t c = record {
+  grows = grows_on _ _ _ c.in_ok-part.ensures.grows (grows_on _ _ _ c.in_ok-rest.ensures.grows c.in_ok-choice.ensures.grows);
+  found = found_grown _ _ _ c.in_ok-choice.ensures.grows c.in_ok-rest.ensures.found;
+  stars = stars_grown _ _ _ c.in_ok-choice.ensures.grows c.in_ok-rest.ensures.stars;
+  star = gives_as _ _ _ _ (λ r w. star_of_passed _ _ _ c.args.p _ _ _ _ c.in-Fork.test c.in-Fork.ensures.look (passes_by _ _ _ _ _ _ _ c.in-Fork.ensures.look c.field.ensures c.sets.ensures c.if-not-sets.true) c.in_ok-part.ensures.grows c.in_ok-rest.ensures.grows c.in_ok-part.ensures.star c.in_ok-rest.ensures.star r w) c.in_ok-choice.ensures.place;
 }
 
-pub star_anew-returns-in_default-clause-grows : goal.star_anew-returns-in_default-clause-grows
-star_anew-returns-in_default-clause-grows t c = c.star_of_cells.ensures.grows
+pub star_anew-returns-clause-grows : goal.star_anew-returns-clause-grows
+star_anew-returns-clause-grows t c = c.star_of_cells.ensures.grows
 
-pub star_anew-returns-in_default-clause-stars : goal.star_anew-returns-in_default-clause-stars
-star_anew-returns-in_default-clause-stars t c = on_each c.star_of_cells.result _ (stars_grown _ _ _ c.star_of_cells.ensures.grows c.requires.stars)
+pub star_anew-returns-clause-stars : goal.star_anew-returns-clause-stars
+star_anew-returns-clause-stars t c = on_each c.star_of_cells.result _ (stars_grown _ _ _ c.star_of_cells.ensures.grows c.requires.stars)
 
 pub star_at-returns-in-Some-clause-star : goal.star_at-returns-in-Some-clause-star
 star_at-returns-in-Some-clause-star t c =

@@ -13,10 +13,10 @@ use Rattle.fdd_nodes.proofs.OpenLaws.{open_fields, fewer_open}
 use Rattle.fdd_star.specs.Faults.{IsErrorIn}
 use Rattle.fdd_star.specs.Narrow.{IsNarrowed}
 use Rattle.fdd_star.specs.Reaches.{IsNamedBy, StarBut}
-use Rattle.fdd_star.proofs.FaultLaws.{put_in_range, fresh_where, fault_where, fault_within}
+use Rattle.fdd_star.proofs.FaultLaws.{put_in_range, fresh_where, fresh_within, fault_where, fault_within}
 use Rattle.fdd_star.proofs.FieldLaws.{tested_fields, fewer_tested}
 use Rattle.fdd_star.proofs.FoundLaws.{found_grown, parts_grown, visits_grown, stays, stayed}
-use Rattle.fdd_star.proofs.NarrowLaws.{star_narrowed, unset_narrowed}
+use Rattle.fdd_star.proofs.NarrowLaws.{star_narrowed}
 use Rattle.fdd_star.proofs.PassingLaws.{match_on, star_where}
 use Rattle.fdd_star.proofs.StarLaws.{star_leaf, star_more, choice_few, few_within, fewer_left, last_of, named_on, none_left}
 use Rattle.fdd_store.specs.Entries.{SetsField}
@@ -46,13 +46,15 @@ part_of-cofactor-requires-clause-few t c = few_within _ _ c.requires.few c.requi
 pub part_of-part_in-requires-2 : goal.part_of-part_in-requires-2
 part_of-part_in-requires-2 t c =
     let p = tree_at c.args.store.now c.args.p in
+    let b = tree_at c.args.store.now c.args.body in
     let p' = tree_at c.cofactor.new.self c.in_ok-part.part in
     let l = c.args.l.now in
     let f = c.in_ok-part.ensures.place.is in
-    let unset : ¬ SetsField p (lit_field l) = λ w. false≢true (sym c.if-sets.false ∙ c.sets.ensures.1 (subst (SetsField p) (sym c.field.ensures) w)) in
-    let names : IsNamedBy p p' = named_on p (tree_at c.args.store.now c.args.body) p' c.requires.narrowed.names (record { tests = f.tests; assigns = f.assigns }) in
+    let unset : ¬ SetsField b (lit_field l) = λ w. false≢true (sym c.if-sets.false ∙ c.sets.ensures.1 (subst (SetsField b) (sym c.field.ensures) w)) in
+    let own : IsNamedBy b p' = record { tests = f.tests; assigns = f.assigns } in
+    let names = named_on p b p' c.requires.narrowed.names own in
     let less = fewer_tested p' p names.tests l c.requires.tested c.in_ok-part.ensures.past in
-    let fresh = fresh_where p p' l c.args.other.now unset names c.in_ok-part.ensures.past c.requires.fresh in (
+    let fresh = fresh_where b p' l c.args.other.now unset own c.in_ok-part.ensures.past (fresh_within p b c.args.other.now c.requires.narrowed.names c.requires.fresh) in (
       omega (arith, less),
       (
         c.in_ok-part.ensures.place.has,
@@ -78,12 +80,11 @@ part_of-returns-clause-star t c =
     let cell = c.args.cell.now in
     let f = c.in_ok-part.ensures.place.is in
     let n = c.requires.narrowed in
-    let unset : ¬ SetsField p (lit_field l) = λ w. false≢true (sym c.if-sets.false ∙ c.sets.ensures.1 (subst (SetsField p) (sym c.field.ensures) w)) in
-    let unset_body = unset_narrowed p b (lit_field l) n.names unset in
-    let names : IsNamedBy p p' = named_on p b p' n.names (record { tests = f.tests; assigns = f.assigns }) in
+    let unset : ¬ SetsField b (lit_field l) = λ w. false≢true (sym c.if-sets.false ∙ c.sets.ensures.1 (subst (SetsField b) (sym c.field.ensures) w)) in
+    let names = named_on p b p' n.names (record { tests = f.tests; assigns = f.assigns }) in
     match_on c.part_in-2.result _ _ _ _
-    (λ r g. gives_as _ r _ _ (λ x w. star_narrowed p b cell l x n c.requires.is_open (star_where b p' l cell x unset_body f c.requires.is_open w)) g)
-    (λ e h. fault_where p b p' l cell c.args.other.now f.answer unset_body n names c.requires.tested c.in_ok-part.ensures.past e c.requires.is_open
+    (λ r g. gives_as _ r _ _ (λ x w. star_narrowed p b cell l x n c.requires.is_open (star_where b p' l cell x unset f c.requires.is_open w)) g)
+    (λ e h. fault_where p b p' l cell c.args.other.now f.answer unset n names c.requires.tested c.in_ok-part.ensures.past e c.requires.is_open
     (subst (λ (g : Packet). IsErrorIn p' cell g e) c.put.ensures h))
     c.part_in-2.ensures.star
 
