@@ -73,17 +73,19 @@ pub fn rectangle_tests(alloc: Global, count: u64) -> Result<String, AllocError> 
     Ok(text)
 }
 
-/// The text of the star of a rectangle at port 1, beside sums that set ethDst by the numbers of its four fields, each sum at a
-/// port of its own that no turn leads to from port 1.
+/// The text of the star of a rectangle at port 1. Its packets go on to ports 2 to 5, each of which sets one of the four fields to
+/// 1. Beside them stand sums that set ethDst by the numbers of the four fields, each sum at a port of its own that no turn leads
+/// to from port 1.
 pub fn star_of_rectangle(alloc: Global, count: u64) -> Result<String, AllocError> {
     let tests = rectangle_tests(alloc, count)?;
     let mut text = format!(in alloc; "(pt=1; {tests}; pt:=2")?;
-    for (port, field) in [
-        (10, "ip4Src"),
-        (11, "ip4Dst"),
-        (12, "tcpSrcPort"),
-        (13, "tcpDstPort"),
+    for (from, to, port, field) in [
+        (2, 3, 10, "ip4Src"),
+        (3, 4, 11, "ip4Dst"),
+        (4, 5, 12, "tcpSrcPort"),
+        (5, 6, 13, "tcpDstPort"),
     ] {
+        text.push_str(&format!(in alloc; " + pt={from}; ipProto=6; {field}:=1; pt:={to}")?)?;
         text.push_str(&format!(in alloc; " + pt={port}; ipProto=6; (drop")?)?;
         add_assignments(alloc, &mut text, field, count)?;
         text.push_str(")")?;

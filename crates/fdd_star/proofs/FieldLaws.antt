@@ -1,70 +1,88 @@
--- How many fields a diagram tests: a cofactor tests fewer.
-use Rattle.std.proofs.Common.{◌≡◌, ℕ, ◌+◌, ◌<◌, ◌≤◌, ◌==◌, ◌||◌, inl, inr, refl, ap, ◌∙◌, arith, Bool, true, false}
-use Rattle.std.proofs.lemmas.Bool.{false≢true, eq-eqb, eqb-true, or_left, or_right, or_cases}
+-- Turns leave a field alone that the diagram never sets.
+use Rattle.std.specs.Prelude.{MatchResult, OnOk}
+use Rattle.std.proofs.Common.{◌≡◌, ℕ, zero, suc, inl, inr, sym, ap, ◌∙◌, subst, true, Result, Ok, Err}
+use Rattle.std.proofs.lemmas.Bool.{eqb-true}
 use Rattle.nk_values.specs.declared.field.Field.{Field}
-use Rattle.nk_values.specs.declared.field.Field.TheVariants.{Sw, Pt, EthTyp, IpProto, EthSrc, EthDst, Ip4Src, Ip4Dst, TcpSrcPort, TcpDstPort}
+use Rattle.nk_values.specs.declared.packet.Packet.{Packet}
 use Rattle.nk_values.specs.declared.lit.Lit.{Lit}
-use Rattle.nk_values.specs.Lits.{lit_field}
-use Rattle.nk_values.specs.Ranges.{place}
-use Rattle.nk_values.proofs.PacketLaws.{same_field}
-use Rattle.fdd_nodes.specs.Trees.{Tree, Leaf, Node, Tests}
-use Rattle.fdd_nodes.proofs.OpenLaws.{one_if}
-use Rattle.fdd_store.specs.Operations.{LeavesOut}
+use Rattle.nk_values.specs.Held.{Holds, put}
+use Rattle.nk_values.specs.Lits.{lit_field, lit_value}
+use Rattle.nk_values.specs.Members.{IsIn}
+use Rattle.nk_values.specs.Packets.{get}
+use Rattle.nk_values.proofs.PacketLaws.{get-with_same, get-with_other, field_cases}
+use Rattle.fdd_nodes.specs.Cells.{Agrees, IsOpen}
+use Rattle.fdd_nodes.specs.Names.{IsFew}
+use Rattle.fdd_nodes.specs.Trees.{Tree, Node, leaf_at, answers, SameAnswers}
+use Rattle.fdd_nodes.proofs.CellLaws.{lit_not_free}
+use Rattle.fdd_nodes.proofs.MakesLaws.{source, at_field}
+pub use Rattle.fdd_star.specs.Shared.{id_eq}
+use Rattle.fdd_star.specs.Stars.{Turns, StarOf, IsShallow}
+use Rattle.fdd_star.proofs.StarLaws.{few_within, star_shallow}
+use Rattle.fdd_store.specs.Entries.{SetsField}
+use Rattle.fdd_store.specs.Stores.{Kept, Gives, tree_at}
+use Rattle.fdd_store.proofs.MoveLaws.{leaf_assigns}
 
-abbrev tests_at : Tree → Field → Bool
-tests_at (Leaf cs) f = false
-tests_at (Node l t e) f = (place (lit_field l) == place f) || (tests_at t f || tests_at e f)
+-- ids as keys
 
-abbrev pub tested_fields : Tree → ℕ
-tested_fields t =
-    one_if (tests_at t Sw) + one_if (tests_at t Pt) + one_if (tests_at t EthTyp) + one_if (tests_at t IpProto) + one_if (tests_at t EthSrc)
-    + one_if (tests_at t EthDst) + one_if (tests_at t Ip4Src) + one_if (tests_at t Ip4Dst) + one_if (tests_at t TcpSrcPort) + one_if (tests_at t TcpDstPort)
+pub same_id : (x y : ℕ) → id_eq x y ≡ true → x ≡ y
+same_id x y h = eqb-true _ _ h
 
-there : (t : Tree) (f : Field) (m : Lit) → Tests t m → lit_field m ≡ f → tests_at t f ≡ true
-there (Leaf cs) f m h e = absurd h
-there (Node l t e') f m h e = elim h [
-  | inl s ↦ or_left _ _ (eq-eqb _ _ (ap (λ (x : Lit). place (lit_field x)) s ∙ ap place e))
-  | inr w ↦ or_right (place (lit_field l) == place f) _ (elim w [ inl u ↦ or_left _ _ (there t f m u e) | inr u ↦ or_right (tests_at t f) _ (there e' f m u e) ])
-]
+-- Two diagrams that answer alike where a property holds, which no turn ends, make the same turns there.
 
-told : (t : Tree) (f : Field) → tests_at t f ≡ true → (m : Lit) × Tests t m × (lit_field m ≡ f)
-told (Leaf cs) f h = absurd (false≢true h)
-told (Node l t e) f h = elim (or_cases (place (lit_field l) == place f) (tests_at t f || tests_at e f) h) [
-  | inl s ↦ (l, inl refl, same_field _ _ (eqb-true _ _ s))
-  | inr w ↦ elim (or_cases (tests_at t f) (tests_at e f) w) [
-    | inl u ↦ let k = told t f u in (k.0, inr (inl k.1), k.2)
-    | inr u ↦ let k = told e f u in (k.0, inr (inr k.1), k.2)
-  ]
-]
+turns_on : (p p' : Tree) (K : Packet → Type 0) → ((pk q : Packet) → K pk → IsIn (answers p pk) q → IsIn (answers p' pk) q) → ((pk q : Packet) → K pk → IsIn (answers p pk) q → K q)
+    → (n : ℕ) (pk out : Packet) → K pk → Turns p n pk out → Turns p' n pk out
+turns_on p p' K same goes zero pk out k w = w
+turns_on p p' K same goes (suc n) pk out k w = (w.0, same pk w.0 k w.1, turns_on p p' K same goes n w.0 out (goes pk w.0 k w.1) w.2)
 
-ordered : (a b : Bool) → (a ≡ true → b ≡ true) → one_if a ≤ one_if b
-ordered true true h = omega arith
-ordered true false h = absurd (false≢true (h refl))
-ordered false b h = omega arith
+module _ (p p' : Tree) (K : Packet → Type 0) (same : (pk : Packet) → K pk → SameAnswers (answers p' pk) (answers p pk)) (goes : (pk q : Packet) → K pk → IsIn (answers p pk) q → K q) where
+  pub turns_to : (n : ℕ) (pk out : Packet) → K pk → Turns p n pk out → Turns p' n pk out
+  turns_to = turns_on p p' K (λ pk q k w. (same pk k).back q w) goes
 
-missed : (b : Bool) → ¬ (b ≡ true) → b ≡ false
-missed true h = absurd (h refl)
-missed false h = refl
+  pub turns_from : (n : ℕ) (pk out : Packet) → K pk → Turns p' n pk out → Turns p n pk out
+  turns_from = turns_on p' p K (λ pk q k w. (same pk k).front q w) (λ pk q k w. goes pk q k ((same pk k).front q w))
 
--- what tests no more, and nothing of a field that is tested, tests fewer fields
-module _ (r t : Tree) (within : (m : Lit) → Tests r m → Tests t m) where
-  no_more : (f : Field) → one_if (tests_at r f) ≤ one_if (tests_at t f)
-  no_more f = ordered _ _ (λ h. let k = told r f h in there t f k.0 (within k.0 k.1) k.2)
+keeps_field : (t : Tree) (f : Field) → ¬ SetsField t f → (pk q : Packet) → IsIn (answers t pk) q → get q f ≡ get pk f
+keeps_field t f n pk q h =
+    let o = source (leaf_at t pk) pk q h in
+    elim (at_field o.copy f pk pk) [
+      | inl s ↦ absurd (n (record { lit = s.lit; assigned = leaf_assigns t pk o.copy s.lit o.among s.among; field = s.field }))
+      | inr s ↦ sym (ap (λ z. get z f) o.makes) ∙ s.0
+    ]
 
-  less : (f : Field) → one_if (tests_at r f) < one_if (tests_at t f) → tested_fields r < tested_fields t
-  less Sw s = omega (arith, s, no_more Pt, no_more EthTyp, no_more IpProto, no_more EthSrc, no_more EthDst, no_more Ip4Src, no_more Ip4Dst, no_more TcpSrcPort, no_more TcpDstPort)
-  less Pt s = omega (arith, s, no_more Sw, no_more EthTyp, no_more IpProto, no_more EthSrc, no_more EthDst, no_more Ip4Src, no_more Ip4Dst, no_more TcpSrcPort, no_more TcpDstPort)
-  less EthTyp s = omega (arith, s, no_more Sw, no_more Pt, no_more IpProto, no_more EthSrc, no_more EthDst, no_more Ip4Src, no_more Ip4Dst, no_more TcpSrcPort, no_more TcpDstPort)
-  less IpProto s = omega (arith, s, no_more Sw, no_more Pt, no_more EthTyp, no_more EthSrc, no_more EthDst, no_more Ip4Src, no_more Ip4Dst, no_more TcpSrcPort, no_more TcpDstPort)
-  less EthSrc s = omega (arith, s, no_more Sw, no_more Pt, no_more EthTyp, no_more IpProto, no_more EthDst, no_more Ip4Src, no_more Ip4Dst, no_more TcpSrcPort, no_more TcpDstPort)
-  less EthDst s = omega (arith, s, no_more Sw, no_more Pt, no_more EthTyp, no_more IpProto, no_more EthSrc, no_more Ip4Src, no_more Ip4Dst, no_more TcpSrcPort, no_more TcpDstPort)
-  less Ip4Src s = omega (arith, s, no_more Sw, no_more Pt, no_more EthTyp, no_more IpProto, no_more EthSrc, no_more EthDst, no_more Ip4Dst, no_more TcpSrcPort, no_more TcpDstPort)
-  less Ip4Dst s = omega (arith, s, no_more Sw, no_more Pt, no_more EthTyp, no_more IpProto, no_more EthSrc, no_more EthDst, no_more Ip4Src, no_more TcpSrcPort, no_more TcpDstPort)
-  less TcpSrcPort s = omega (arith, s, no_more Sw, no_more Pt, no_more EthTyp, no_more IpProto, no_more EthSrc, no_more EthDst, no_more Ip4Src, no_more Ip4Dst, no_more TcpDstPort)
-  less TcpDstPort s = omega (arith, s, no_more Sw, no_more Pt, no_more EthTyp, no_more IpProto, no_more EthSrc, no_more EthDst, no_more Ip4Src, no_more Ip4Dst, no_more TcpSrcPort)
+-- so it is with a literal whose field is never set
 
-  pub fewer_tested : (l : Lit) → Tests t l → LeavesOut (lit_field l) r → tested_fields r < tested_fields t
-  fewer_tested l h out =
-      let no = ap one_if (missed (tests_at r (lit_field l)) (λ w. let k = told r (lit_field l) w in out k.0 k.1 k.2)) in
-      let yes = ap one_if (there t (lit_field l) l h refl) in
-      less (lit_field l) (omega (arith, no, yes))
+pub holds_on : (p : Tree) (l : Lit) → ¬ SetsField p (lit_field l) → (pk q : Packet) → Holds pk l → IsIn (answers p pk) q → Holds q l
+holds_on p l n pk q h k = keeps_field p (lit_field l) n pk q k ∙ h
+
+abbrev pub Held : Lit → Packet → Type 0
+Held l pk = Holds pk l
+
+-- a packet of a cell within another one
+
+pub agrees_out : (c pk : Packet) (l : Lit) → IsOpen c (lit_field l) → Agrees (put l c) pk → Agrees c pk
+agrees_out c pk l o a = record {
+  at = λ f n. elim (field_cases (lit_field l) f) [
+    | inl e ↦ absurd (n (subst (IsOpen c) e o))
+    | inr d ↦ let s = get-with_other c (lit_field l) f (lit_value l) d in a.at f (λ z. n (sym s ∙ z)) ∙ s
+  ];
+}
+
+pub agrees_holds : (c pk : Packet) (l : Lit) → Agrees (put l c) pk → Holds pk l
+agrees_holds c pk l a = let s = get-with_same c (lit_field l) (lit_value l) in a.at (lit_field l) (λ z. lit_not_free l (sym s ∙ z)) ∙ s
+
+-- the branches name few values
+
+pub few_then : (l : Lit) (t e : Tree) → IsFew (Node l t e) → IsFew t
+few_then l t e few = few_within (Node l t e) t few (record { tests = λ m k. inr (inl k); assigns = λ m k. inl k })
+
+pub few_else : (l : Lit) (t e : Tree) → IsFew (Node l t e) → IsFew e
+few_else l t e few = few_within (Node l t e) e few (record { tests = λ m k. inr (inr k); assigns = λ m k. inr k })
+
+pub match_on : {X E : Type 0} (r : Result X E) (P P' : X → Type 0) (Q Q' : E → Type 0) → ((x : X) → P x → P' x) → ((e : E) → Q e → Q' e) → MatchResult r P Q → MatchResult r P' Q'
+match_on (Ok x) P P' Q Q' f g h = f x h
+match_on (Err e) P P' Q Q' f g h = g e h
+
+-- what has a star is not deep
+pub shallow_by : {E : Type 0} (r : Result ℕ E) (k : Kept) (p : Tree) (Q : E → Type 0) → MatchResult r (λ i. Gives k i (StarOf p)) Q → OnOk r (IsShallow p)
+shallow_by (Ok i) k p Q h = star_shallow p (tree_at k i) h.is
+shallow_by (Err f) k p Q h = tt

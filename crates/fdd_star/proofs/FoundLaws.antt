@@ -4,18 +4,15 @@ use Rattle.std.proofs.Common.{Bor, rules, ◌≡◌, ℕ, Bool, true, Option, So
 use Rattle.nk_values.specs.declared.packet.Packet.{Packet}
 use Rattle.fdd_nodes.specs.Trees.{Tree, Leaf, leaf_at}
 use Rattle.fdd_star.specs.declared.keys.Key.{Key}
-use Rattle.fdd_star.specs.declared.parts.Parts.{Parts}
 use Rattle.fdd_star.specs.declared.repetition.Found.{Found}
 use Rattle.fdd_star.specs.declared.visits.Visit.{Visit}
 use Rattle.fdd_star.specs.declared.visits.Visits.{Visits}
 use Rattle.fdd_star.specs.Asks.{AsksMore, ComesTo, IsVisitOf, IsVisitAt, AreVisits}
 use Rattle.fdd_star.specs.Found.{AreFound}
-use Rattle.fdd_star.specs.Parts.{IsPartAt, AreParts}
-use Rattle.fdd_star.specs.Reaches.{StarBut}
 use Rattle.fdd_star.specs.contracts.keys.KeyPartialEq.TheImpl as key_impl
 use Rattle.fdd_star.proofs.KeptLaws.{each_on}
-use Rattle.fdd_store.specs.Stores.{Kept, Has, Gives, Grows, tree_at}
-use Rattle.fdd_store.proofs.StoreLaws.{gives_grown, has_grown, tree_grown}
+use Rattle.fdd_store.specs.Stores.{Kept, Has, Grows, tree_at}
+use Rattle.fdd_store.proofs.StoreLaws.{has_grown, tree_grown}
 
 -- keys
 
@@ -55,14 +52,5 @@ visit_grown old new key v g h =
 pub visits_grown : (old new : Kept) (v : Visits) → Grows old new → AreVisits old v → AreVisits new v
 visits_grown old new v g h = record { right = each_on (IsVisitAt old) (IsVisitAt new) v.known.entries (λ key w. visit_grown old new key w g) h.right }
 
-part_grown : (old new : Kept) (key : Key) (a : ℕ) → Grows old new → IsPartAt old key a → IsPartAt new key a
-part_grown old new key a g h = (
-  has_grown old new key.diagram g h.0,
-  subst (λ (t : Tree). Gives new a (StarBut t key.packet [])) (sym (tree_grown old new key.diagram g h.0)) (gives_grown old new a _ g h.1),
-)
-
-pub parts_grown : (old new : Kept) (v : Parts) → Grows old new → AreParts old v → AreParts new v
-parts_grown old new v g h = record { right = each_on (IsPartAt old) (IsPartAt new) v.known.entries (λ key a. part_grown old new key a g) h.right }
-
 pub found_grown : (old new : Kept) (n : Found) → Grows old new → AreFound old n → AreFound new n
-found_grown old new n g h = record { visits = visits_grown old new n.visits g h.visits; parts = parts_grown old new n.parts g h.parts }
+found_grown old new n g h = record { visits = visits_grown old new n.visits g h.visits }

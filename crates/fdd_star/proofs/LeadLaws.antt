@@ -23,7 +23,7 @@ use Rattle.fdd_star.specs.Cells.{AllLead, Among, IsClosed, IsListed, Leads, Wide
 use Rattle.fdd_star.proofs.EqualLaws.{packet_eq, found}
 use Rattle.fdd_star.proofs.FillLaws.{fill_agrees, apply_fill}
 use Rattle.fdd_star.proofs.NamedLaws.{found_in, with_only}
-use Rattle.fdd_star.proofs.PassingLaws.{id_eq, same_id}
+use Rattle.fdd_star.proofs.FieldLaws.{id_eq, same_id}
 use Rattle.fdd_star.proofs.TurnLaws.{in_same}
 use Rattle.fdd_store.specs.Looks.{Forked}
 use Rattle.fdd_store.specs.Stores.{Kept, tree_at}

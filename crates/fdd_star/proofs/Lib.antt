@@ -8,6 +8,7 @@ pub mod KeptLaws
 pub mod LeadLaws
 pub mod NamedLaws
 pub mod NarrowLaws
-pub mod PassingLaws
+pub mod ShareLaws
+pub mod SharedLaws
 pub mod StarLaws
 pub mod TurnLaws

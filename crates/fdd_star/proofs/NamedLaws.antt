@@ -1,6 +1,6 @@
 -- Names that are gathered.
-use Rattle.std.proofs.Common.{◌≡◌, ◌⊎◌, ℕ, inl, inr, refl, sym, subst, arith, Bool, true, false, cond, List, [], ◌∷◌, ◌++◌}
-use Rattle.std.proofs.lemmas.Bool.{false≢true, or_cases}
+use Rattle.std.proofs.Common.{◌≡◌, ◌⊎◌, ℕ, inl, inr, refl, sym, subst, arith, Bool, true, false, cond, not, ◌∙◌, List, [], ◌∷◌, ◌++◌}
+use Rattle.std.proofs.lemmas.Bool.{false≢true, or_cases, or_left, or_right}
 use Rattle.std.specs.List.{list_any}
 use Rattle.indexmap.specs.IndexSet.{insert_key}
 use Rattle.nk_values.specs.declared.packet.Packet.{Packet}
@@ -14,8 +14,8 @@ use Rattle.fdd_nodes.specs.Names.{IsFew, literals}
 use Rattle.fdd_nodes.specs.Trees.{Tree, Leaf, Node, IsSetBy}
 use Rattle.fdd_nodes.proofs.NameLaws.{count_within, tests_literal, assigns_literal}
 use Rattle.fdd_differ.specs.Unnamed.{AreFewNames, IsFreshOf}
-use Rattle.fdd_star.specs.Named.{NamesLit, Gains, AreNamed}
-use Rattle.fdd_star.proofs.PassingLaws.{id_eq, same_id}
+use Rattle.fdd_star.specs.Named.{NamesLit, Gains, AreCovered, AreNamed, Covering, Covers}
+use Rattle.fdd_star.proofs.FieldLaws.{id_eq, same_id}
 use Rattle.fdd_store.specs.Stores.{Kept, tree_at}
 
 -- members of a set with one key more
@@ -28,14 +28,14 @@ found_in eq same q (k ∷ ks) h = elim (or_cases (eq q k) (list_any (eq q) ks) h
 ]
 
 module _ {K : Type 0} (eq : K → K → Bool) (same : (x y : K) → eq x y ≡ true → x ≡ y) (q : K) (ks : List K) where
-  with_has : IsIn (insert_key eq ks q) q
+  pub with_has : IsIn (insert_key eq ks q) q
   with_has = by (list_any (eq q) ks) refl
     where
       by : (b : Bool) → list_any (eq q) ks ≡ b → IsIn (cond b ks (ks ++ q ∷ [])) q
       by true e = found_in eq same q ks e
       by false e = in-right ks (q ∷ []) q (inl refl)
 
-  with_kept : (x : K) → IsIn ks x → IsIn (insert_key eq ks q) x
+  pub with_kept : (x : K) → IsIn ks x → IsIn (insert_key eq ks q) x
   with_kept x h = by (list_any (eq q) ks)
     where
       by : (b : Bool) → IsIn (cond b ks (ks ++ q ∷ [])) x
@@ -49,7 +49,7 @@ module _ {K : Type 0} (eq : K → K → Bool) (same : (x y : K) → eq x y ≡ t
       by true k = inl k
       by false k = elim (in-either ks (q ∷ []) x k) [ inl w ↦ inl w | inr w ↦ elim w [ inl e ↦ inr e | inr n ↦ absurd n ] ]
 
-same_lits : (x y : Lit) → lit_eq x y ≡ true → x ≡ y
+pub same_lits : (x y : Lit) → lit_eq x y ≡ true → x ≡ y
 same_lits x y h = (lit_eq-Decides x y).0 h
 
 -- gaining
@@ -131,6 +131,43 @@ named_there k as' a ls e h = h a (found_in id_eq same_id a as' e)
 
 pub gained_as : (k : Kept) (P : Lit → Type 0) (as' bs : List ℕ) (ls ms ns : List Lit) → ns ≡ ms → bs ≡ as' → AreNamed k as' ms → Gains P ls ms → AreNamed k bs ns × Gains P ls ns
 gained_as k P as' bs ls ms ns e e' h g = (subst (λ (xs : List Lit). AreNamed k bs xs) (sym e) (subst (λ (xs : List ℕ). AreNamed k xs ms) (sym e') h), subst (Gains P ls) (sym e) g)
+
+-- what they assign
+
+pub covering_there : (k : Kept) (as' : List ℕ) (a : ℕ) (ls : List Lit) → list_any (id_eq a) as' ≡ true → AreCovered k as' ls → Covering k a as' ls ls
+covering_there k as' a ls e h = record { kept = λ m w. w; covers = h a (found_in id_eq same_id a as' e); done = h }
+
+pub covering_leaf : (k : Kept) (as' : List ℕ) (a : ℕ) (cs : List (List Lit)) (ls ms : List Lit) → tree_at k a ≡ Leaf cs → Gains (IsSetBy cs) ls ms → AreCovered k as' ls → Covering k a as' ls ms
+covering_leaf k as' a cs ls ms e g h = record { kept = g.kept; covers = subst (Covers ms) (sym e) g.has; done = λ b i m w. g.kept m (h b i m w) }
+
+pub covering_fork : (k : Kept) (as' bs : List ℕ) (l : Lit) (a i j : ℕ) (ls ms ns : List Lit) → tree_at k a ≡ Node l (tree_at k i) (tree_at k j) → Covering k i as' ls ms → Covering k j bs ms ns → Covering k a bs ls ns
+covering_fork k as' bs l a i j ls ms ns e g h = record {
+  kept = λ m w. h.kept m (g.kept m w);
+  covers = subst (Covers ns) (sym e) (λ m w. elim w [ inl u ↦ h.kept m (g.covers m u) | inr u ↦ h.covers m u ]);
+  done = h.done;
+}
+
+pub covering_done : (k : Kept) (as' bs : List ℕ) (a : ℕ) (ls ms : List Lit) → bs ≡ insert_key id_eq as' a → Covering k a as' ls ms → Covering k a bs ls ms
+covering_done k as' bs a ls ms e h = record {
+  kept = h.kept;
+  covers = h.covers;
+  done = λ b i. elim (with_only id_eq same_id a as' b (subst (λ (xs : List ℕ). IsIn xs b) e i)) [ inl j ↦ h.done b j | inr s ↦ subst (λ (x : ℕ). Covers ms (tree_at k x)) s h.covers ];
+}
+
+pub covering_as : (k : Kept) (as' bs : List ℕ) (a : ℕ) (ls ms ns : List Lit) → ns ≡ ms → bs ≡ as' → Covering k a as' ls ms → Covering k a bs ls ns
+covering_as k as' bs a ls ms ns e e' h = subst (λ (xs : List Lit). Covering k a bs ls xs) (sym e) (subst (λ (xs : List ℕ). Covering k a xs ls ms) (sym e') h)
+
+pub not_in : (ks : List Lit) (l : Lit) (b : Bool) → b ≡ list_any (lit_eq l) ks → not b ≡ true → ¬ IsIn ks l
+not_in [] l b e n h = h
+not_in (k ∷ ks) l true e n h = false≢true n
+not_in (k ∷ ks) l false e n h = elim h [
+  | inl s ↦ false≢true (e ∙ or_left (lit_eq l k) (list_any (lit_eq l) ks) ((lit_eq-Decides l k).1 (sym s)))
+  | inr w ↦ false≢true (e ∙ or_right (lit_eq l k) (list_any (lit_eq l) ks) (there ks w))
+]
+  where
+    there : (xs : List Lit) → IsIn xs l → list_any (lit_eq l) xs ≡ true
+    there [] i = absurd i
+    there (x ∷ xs) i = elim i [ inl s ↦ or_left (lit_eq l x) (list_any (lit_eq l) xs) ((lit_eq-Decides l x).1 (sym s)) | inr w ↦ or_right (lit_eq l x) (list_any (lit_eq l) xs) (there xs w) ]
 
 -- a packet that holds none of the names
 

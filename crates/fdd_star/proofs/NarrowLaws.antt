@@ -19,10 +19,11 @@ use Rattle.fdd_star.specs.Narrow.{AreSides, IsNarrowed, IsOn}
 use Rattle.fdd_star.specs.Reaches.{IsNamedBy, StarBut}
 use Rattle.fdd_star.specs.Stars.{IsDeep}
 use Rattle.fdd_star.proofs.LeadLaws.{among_more, holds_in, barred_in}
-use Rattle.fdd_star.proofs.PassingLaws.{agrees_out, turns_to, turns_from}
+use Rattle.fdd_star.proofs.FieldLaws.{agrees_holds, agrees_out, holds_on, turns_to, turns_from, Held}
 use Rattle.fdd_star.proofs.StarLaws.{choice_few}
 use Rattle.fdd_star.proofs.TurnLaws.{in_same}
-use Rattle.fdd_store.specs.Operations.{ChoiceOf}
+use Rattle.fdd_store.specs.Entries.{SetsField}
+use Rattle.fdd_store.specs.Operations.{ChoiceOf, CofactorOf}
 
 -- what a diagram names
 
@@ -49,12 +50,28 @@ narrowed_on p c cs r h o = record {
 
 -- so its stars are those of the diagram
 
-pub star_narrowed : (p b : Tree) (c : Packet) (l : Lit) (r : Tree) → IsNarrowed p c b → IsOpen c (lit_field l) → StarBut b (put l c) [] r → StarBut p (put l c) [] r
-star_narrowed p b c l r h o s = record {
-  made = λ pk out a miss k. let w = s.made pk out a miss k in (w.0, w.1, h.only w.0 pk out (agrees_out c pk l o a) w.2);
-  all = λ n pk out a miss k. s.all n pk out a miss (h.has n pk out (agrees_out c pk l o a) k);
+pub star_narrowed : (p b : Tree) (c : Packet) (ls : List Lit) (r : Tree) → IsNarrowed p c b → StarBut b c ls r → StarBut p c ls r
+star_narrowed p b c ls r h s = record {
+  made = λ pk out a miss k. let w = s.made pk out a miss k in (w.0, w.1, h.only w.0 pk out a w.2);
+  all = λ n pk out a miss k. s.all n pk out a miss (h.has n pk out a k);
   normal = s.normal;
   names = record { tests = λ m k. h.names.tests m (s.names.tests m k); assigns = λ m k. h.names.assigns m (s.names.assigns m k) };
+  is_open = s.is_open;
+}
+
+pub narrowed_within : (p b : Tree) (c : Packet) (l : Lit) → IsOpen c (lit_field l) → IsNarrowed p c b → IsNarrowed p (put l c) b
+narrowed_within p b c l o h = record {
+  has = λ n pk out a. h.has n pk out (agrees_out c pk l o a);
+  only = λ n pk out a. h.only n pk out (agrees_out c pk l o a);
+  names = h.names;
+}
+
+-- and no turn changes a field that it never sets
+pub narrowed_where : (p q : Tree) (c : Packet) (l : Lit) → (¬ SetsField p (lit_field l)) → CofactorOf l p q → IsNarrowed p (put l c) q
+narrowed_where p q c l n f = record {
+  has = λ j pk out a. turns_to p q (Held l) f.answer (holds_on p l n) j pk out (agrees_holds c pk l a);
+  only = λ j pk out a. turns_from p q (Held l) f.answer (holds_on p l n) j pk out (agrees_holds c pk l a);
+  names = record { tests = f.tests; assigns = f.assigns };
 }
 
 pub deep_narrowed : (p b : Tree) (c pk out : Packet) → IsNarrowed p c b → Agrees c pk → IsDeep b pk out → IsDeep p pk out

@@ -1,6 +1,7 @@
 -- The star of a diagram, cell by cell.
-use Rattle.std.proofs.Common.{◌≡◌, zero, suc, ◌<◌, inl, inr, refl, ap, sym, ◌∙◌, subst, arith, List, [], ◌∷◌, ◌++◌, length}
+use Rattle.std.proofs.Common.{◌≡◌, zero, suc, inl, inr, refl, ap, sym, ◌∙◌, subst, arith, List, [], ◌∷◌, ◌++◌}
 use Rattle.std.proofs.lemmas.Bool.Decides.{eqb_tells}
+use Rattle.nk_values.specs.declared.field.Field.{Field}
 use Rattle.nk_values.specs.declared.packet.Packet.{Packet}
 use Rattle.nk_values.specs.declared.lit.Lit.{Lit}
 use Rattle.nk_values.specs.Held.{Holds, put}
@@ -8,8 +9,9 @@ use Rattle.nk_values.specs.Lits.{lit_field, lit_value}
 use Rattle.nk_values.specs.Members.{IsIn, SameMembers}
 use Rattle.nk_values.specs.Packets.{get}
 use Rattle.nk_values.proofs.MemberLaws.{in-left, in-right, in-either}
+use Rattle.nk_values.proofs.PacketLaws.{get-with_same, get-with_other, field_cases}
 use Rattle.fdd_nodes.specs.Trees.{Tree, Leaf, Node, apply, outcomes, IsSetBy, Tests}
-use Rattle.fdd_nodes.specs.Cells.{open_cell, fill}
+use Rattle.fdd_nodes.specs.Cells.{open_cell, fill, Agrees, IsOpen}
 use Rattle.fdd_nodes.specs.Copies.{Puts}
 use Rattle.std.specs.List.{Contains}
 use Rattle.std.specs.List.Sorted.{IsPermutation}
@@ -17,12 +19,11 @@ use Rattle.std.proofs.lemmas.List.Sorted.{Contains-permutation, IsPermutation-sy
 use Rattle.fdd_nodes.specs.Names.{literals, IsFew}
 use Rattle.fdd_nodes.proofs.CellLaws.{lit_not_free, agrees_with, open_agrees, get-open}
 use Rattle.fdd_nodes.proofs.MakesLaws.{source, outcome}
-use Rattle.fdd_nodes.proofs.SplitLaws.{leaf_at-else}
 use Rattle.fdd_nodes.proofs.NameLaws.{count_within, named, tests_literal, assigns_literal}
 use Rattle.fdd_store.specs.Operations.{ChoiceOf}
 use Rattle.fdd_star.specs.declared.reach.Reach.{Reach}
 use Rattle.fdd_star.specs.Asks.{Asks}
-use Rattle.fdd_star.specs.Reaches.{copies_of, asked_of, IsBehind, IsClosed, IsNamedBy, Misses, StarBut}
+use Rattle.fdd_star.specs.Reaches.{copies_of, asked_of, IsClosed, IsNamedBy, Misses, StarBut}
 use Rattle.fdd_star.specs.Stars.{Turns, StarOf, IsShallow}
 use Rattle.fdd_star.proofs.FillLaws.{EscapesAll, fill_agrees, apply_fill, turns_filled, filled_turns}
 
@@ -59,57 +60,66 @@ star_leaf p c r cs h s = record {
       subst (IsIn (outcomes cs pk)) same (outcome cs o.copy pk (s.back o.copy o.among));
   normal = record { ordered = tt; respects = λ m k z. lit_not_free m (sym z ∙ get-open (lit_field m)); tight = tt };
   names = named_leaf p c r cs h s;
+  is_open = λ m k. absurd k;
 }
   where
-    escapes : (pk : Packet) → Misses (asked_of r) pk → EscapesAll p c pk
+    escapes : (pk : Packet) → Misses c (asked_of r) pk → EscapesAll p c pk
     escapes pk miss n q w m k =
         let o = source (copies_of r) c q (h.all n q w) in
-        miss m (h.asks o.copy m o.among (subst (λ (z : Packet). Asks p z m) (sym o.makes) k))
+        let i = h.asks o.copy m o.among (subst (λ (z : Packet). Asks p z m) (sym o.makes) k) in
+        miss m i (h.is_open m i)
 
--- a diagram names what what is left of it names
-pub named_on : (p a r : Tree) → IsNamedBy p a → IsNamedBy a r → IsNamedBy p r
-named_on p a r h k = record { tests = λ m w. h.tests m (k.tests m w); assigns = λ m w. h.assigns m (k.assigns m w) }
+-- an open field of a cell with a literal
+
+pub open_within : (c : Packet) (l : Lit) (x : Field) → IsOpen (put l c) x → (¬ (lit_field l ≡ x)) × IsOpen c x
+open_within c l x o = elim (field_cases (lit_field l) x) [
+  | inl e ↦ absurd (lit_not_free l (sym (get-with_same c (lit_field l) (lit_value l)) ∙ subst (IsOpen (put l c)) (sym e) o))
+  | inr d ↦ (d, sym (get-with_other c (lit_field l) x (lit_value l) d) ∙ o)
+]
+
+-- with fewer literals of open fields that may be held
+pub star_as : (p : Tree) (c : Packet) (ls ms : List Lit) (r : Tree) → ((m : Lit) → IsIn ls m → IsOpen c (lit_field m) → IsIn ms m) → StarBut p c ls r → StarBut p c ms r
+star_as p c ls ms r f h = record {
+  made = λ pk out g miss k. h.made pk out g (λ m i o. miss m (f m i o) o) k;
+  all = λ n pk out g miss k. h.all n pk out g (λ m i o. miss m (f m i o) o) k;
+  normal = h.normal;
+  names = h.names;
+  is_open = h.is_open;
+}
 
 -- one literal more may be held
-pub star_more : (p : Tree) (c : Packet) (ls ms : List Lit) (l : Lit) (w a b r : Tree) → Tests p l → ls ≡ ms ++ l ∷ [] → StarBut p (put l c) [] w → IsBehind ms w a → StarBut p c ls b → ChoiceOf l a b r → StarBut p c ms r
-star_more p c ls ms l w a b r tested e hw behind hb choice = record {
+pub star_more : (p : Tree) (c : Packet) (ls ms : List Lit) (l : Lit) (a b r : Tree) → Tests p l → IsOpen c (lit_field l) → ls ≡ ms ++ l ∷ [] → StarBut p (put l c) ms a → StarBut p c ls b → ChoiceOf l a b r → StarBut p c ms r
+star_more p c ls ms l a b r tested o e ha hb choice = record {
   made = λ pk out g miss k. elim (eqb_tells (get pk (lit_field l)) (lit_value l)) [
-    | inl y ↦ hw.made pk out (agrees_with c pk l y.1 g) (λ m n. absurd n) (subst (λ (xs : List Packet). IsIn xs out) (behind.same pk miss) ((choice.yes pk y.1).front out k))
+    | inl y ↦ ha.made pk out (agrees_with c pk l y.1 g) (within pk miss) ((choice.yes pk y.1).front out k)
     | inr y ↦ hb.made pk out g (misses pk miss y.1) ((choice.no pk y.1).front out k)
   ];
   all = λ n pk out g miss k. elim (eqb_tells (get pk (lit_field l)) (lit_value l)) [
-    | inl y ↦ (choice.yes pk y.1).back out (subst (λ (xs : List Packet). IsIn xs out) (sym (behind.same pk miss)) (hw.all n pk out (agrees_with c pk l y.1 g) (λ m n'. absurd n') k))
+    | inl y ↦ (choice.yes pk y.1).back out (ha.all n pk out (agrees_with c pk l y.1 g) (within pk miss) k)
     | inr y ↦ (choice.no pk y.1).back out (hb.all n pk out g (misses pk miss y.1) k)
   ];
   normal = choice.normal;
   names = record {
     tests = λ m k. elim (choice.tests m k) [
       | inl v ↦ subst (Tests p) v tested
-      | inr v ↦ elim v [ inl u ↦ part.tests m u | inr u ↦ hb.names.tests m u ]
+      | inr v ↦ elim v [ inl u ↦ ha.names.tests m u | inr u ↦ hb.names.tests m u ]
     ];
-    assigns = λ m k. elim (choice.assigns m k) [ inl u ↦ part.assigns m u | inr u ↦ hb.names.assigns m u ];
+    assigns = λ m k. elim (choice.assigns m k) [ inl u ↦ ha.names.assigns m u | inr u ↦ hb.names.assigns m u ];
   };
+  is_open = λ m k. elim (choice.tests m k) [
+    | inl v ↦ subst (λ (x : Lit). IsOpen c (lit_field x)) v o
+    | inr v ↦ elim v [ inl u ↦ (open_within c l (lit_field m) (ha.is_open m u)).1 | inr u ↦ hb.is_open m u ]
+  ];
 }
   where
-    part : IsNamedBy p a
-    part = named_on p w a hw.names behind.names
+    within : (pk : Packet) → Misses c ms pk → Misses (put l c) ms pk
+    within pk miss m i o = miss m i (open_within c l (lit_field m) o).1
 
-    misses : (pk : Packet) → Misses ms pk → ¬ Holds pk l → Misses ls pk
-    misses pk miss n m k = elim (in-either ms (l ∷ []) m (subst (λ (xs : List Lit). IsIn xs m) e k)) [
-      | inl i ↦ miss m i
+    misses : (pk : Packet) → Misses c ms pk → ¬ Holds pk l → Misses c ls pk
+    misses pk miss n m k x = elim (in-either ms (l ∷ []) m (subst (λ (xs : List Lit). IsIn xs m) e k)) [
+      | inl i ↦ miss m i x
       | inr i ↦ elim i [ inl s ↦ subst (λ (x : Lit). ¬ Holds pk x) s n | inr o ↦ absurd o ]
     ]
-
--- past a test that does not hold
-
-pub behind_none : (ls : List Lit) (a : Tree) → IsBehind ls a a
-behind_none ls a = record { same = λ pk h. refl; names = record { tests = λ m k. k; assigns = λ m k. k } }
-
-pub behind_else : (ls : List Lit) (l : Lit) (t e r : Tree) → IsIn ls l → IsBehind ls e r → IsBehind ls (Node l t e) r
-behind_else ls l t e r i h = record {
-  same = λ pk miss. h.same pk miss ∙ sym (ap (λ cs. outcomes cs pk) (leaf_at-else l t e pk (miss l i)));
-  names = record { tests = λ m k. inr (inr (h.names.tests m k)); assigns = λ m k. inr (h.names.assigns m k) };
-}
 
 -- the test and both parts name few values
 pub choice_few : (p : Tree) (l : Lit) (a b : Tree) → IsFew p → Tests p l → IsNamedBy p a → IsNamedBy p b → IsFew (Node l a b)
@@ -118,14 +128,20 @@ choice_few p l a b few tested ha hb = few_within p (Node l a b) few (record {
   assigns = λ m k. elim k [ inl w ↦ ha.assigns m w | inr w ↦ hb.assigns m w ];
 })
 
-pub star_of : (p r : Tree) → StarBut p open_cell [] r → StarOf p r
-star_of p r h = record {
-  made = λ pk out k. h.made pk out (open_agrees pk) (λ m n. absurd n) k;
-  all = λ n pk out _ k. h.all n pk out (open_agrees pk) (λ m o. absurd o) k;
+pub star_of : (p : Tree) (c : Packet) (ls : List Lit) (r : Tree) → c ≡ open_cell → ls ≡ [] → StarBut p c ls r → StarOf p r
+star_of p c ls r e none h = record {
+  made = λ pk out k. h.made pk out (agrees pk) (misses pk) k;
+  all = λ n pk out _ k. h.all n pk out (agrees pk) (misses pk) k;
   normal = h.normal;
   tests = h.names.tests;
   assigns = h.names.assigns;
 }
+  where
+    agrees : (pk : Packet) → Agrees c pk
+    agrees pk = subst (λ (x : Packet). Agrees x pk) (sym e) (open_agrees pk)
+
+    misses : (pk : Packet) → Misses c ls pk
+    misses pk m i o k = subst (λ (xs : List Lit). IsIn xs m) none i
 
 -- what has a star is not deep
 pub star_shallow : (p r : Tree) → StarOf p r → IsShallow p
@@ -164,15 +180,3 @@ same_sorted xs ys zs p s = record {
   front = λ x h. contains_in xs x (Contains-permutation ys xs x (IsPermutation-sym xs ys p) (in_contains ys x (s.front x h)));
   back = λ x h. s.back x (contains_in ys x (Contains-permutation xs ys x p (in_contains xs x h)));
 }
-
--- what is left of the tests, without the last one
-pub fewer_left : (P : Lit → Type 0) (ls ms : List Lit) (l : Lit) → ls ≡ ms ++ l ∷ [] → ((m : Lit) → IsIn ls m → P m) → (m : Lit) → IsIn ms m → P m
-fewer_left P ls ms l e h m k = h m (subst (λ (xs : List Lit). IsIn xs m) (sym e) (in-left ms (l ∷ []) m k))
-
-pub last_of : (ls ms : List Lit) (l : Lit) → ls ≡ ms ++ l ∷ [] → IsIn ls l
-last_of ls ms l e = subst (λ (xs : List Lit). IsIn xs l) (sym e) (in-right ms (l ∷ []) l (inl refl))
-
--- a list without elements
-pub none_left : (ls : List Lit) → (0 < length ls → ⊥) → ls ≡ []
-none_left [] h = refl
-none_left (l ∷ ls) h = absurd (h (omega arith))

@@ -5,7 +5,6 @@ pub mod Found
 pub mod Kept
 pub mod Named
 pub mod Narrow
-pub mod Parts
-pub mod Passing
 pub mod Reaches
+pub mod Shared
 pub mod Stars

@@ -18,3 +18,17 @@ pub record Gains (P : Lit → Type 0) (old new : List Lit) : Type 0 where
 -- what each of the diagrams names is among the literals
 abbrev pub AreNamed : Kept → List ℕ → List Lit → Type 0
 AreNamed k as' ls = (a : ℕ) → IsIn as' a → (m : Lit) → NamesLit (tree_at k a) m → IsIn ls m
+
+-- the literals have each one that the diagram assigns
+abbrev pub Covers : List Lit → Tree → Type 0
+Covers ls t = (m : Lit) → Assigns t m → IsIn ls m
+
+-- and each one that some diagrams assign
+abbrev pub AreCovered : Kept → List ℕ → List Lit → Type 0
+AreCovered k as' ls = (a : ℕ) → IsIn as' a → Covers ls (tree_at k a)
+
+-- new has what old has, and what the diagrams of the place a and of some others assign
+pub record Covering (k : Kept) (a : ℕ) (as' : List ℕ) (old new : List Lit) : Type 0 where
+  pub kept : (m : Lit) → IsIn old m → IsIn new m
+  pub covers : Covers new (tree_at k a)
+  pub done : AreCovered k as' new

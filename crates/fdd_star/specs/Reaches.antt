@@ -90,18 +90,14 @@ pub record IsNamedBy (p a : Tree) : Type 0 where
   pub tests : (m : Lit) → Tests a m → Tests p m
   pub assigns : (m : Lit) → Assigns a m → Assigns p m
 
--- the packet holds none of the literals
-abbrev pub Misses : List Lit → Packet → Type 0
-Misses ls pk = (m : Lit) → IsIn ls m → ¬ Holds pk m
-
--- on each packet that holds none of some literals, r answers as a, and it names only what a names
-pub record IsBehind (ls : List Lit) (a r : Tree) : Type 0 where
-  pub same : (pk : Packet) → Misses ls pk → answers r pk ≡ answers a pk
-  pub names : IsNamedBy a r
+-- the packet holds none of the literals of fields that the cell leaves open
+abbrev pub Misses : Packet → List Lit → Packet → Type 0
+Misses c ls pk = (m : Lit) → IsIn ls m → IsOpen c (lit_field m) → ¬ Holds pk m
 
 -- on each packet of the cell that holds none of some literals, r answers as the star of p
 pub record StarBut (p : Tree) (c : Packet) (ls : List Lit) (r : Tree) : Type 0 where
-  pub made : (pk out : Packet) → Agrees c pk → Misses ls pk → IsIn (answers r pk) out → AtMost p 512 pk out
-  pub all : (n : ℕ) (pk out : Packet) → Agrees c pk → Misses ls pk → Turns p n pk out → IsIn (answers r pk) out
+  pub made : (pk out : Packet) → Agrees c pk → Misses c ls pk → IsIn (answers r pk) out → AtMost p 512 pk out
+  pub all : (n : ℕ) (pk out : Packet) → Agrees c pk → Misses c ls pk → Turns p n pk out → IsIn (answers r pk) out
   pub normal : IsNormal r
   pub names : IsNamedBy p r
+  pub is_open : (m : Lit) → Tests r m → IsOpen c (lit_field m)

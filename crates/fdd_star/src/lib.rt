@@ -6,11 +6,10 @@ mod fault;
 mod keys;
 mod names;
 mod narrow;
-mod parts;
-mod passing;
 mod reach;
 mod repetition;
+mod shared;
 mod visits;
 
 pub use fault::{StarError, StarFault};
-pub use passing::star;
+pub use repetition::star;

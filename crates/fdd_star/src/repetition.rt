@@ -1,39 +1,43 @@
 // The star of a diagram, cell by cell.
-ghost use Rattle.std.specs.Prelude.{[], MatchResult, IfOk, OnOk};
+ghost use Rattle.std.specs.Prelude.{◌≡◌, MatchResult, IfOk, OnOk};
 ghost use Rattle.nk_values.specs.Held.{put};
 ghost use Rattle.nk_values.specs.Lits.{lit_field};
 ghost use Rattle.nk_values.specs.Members.{SameMembers};
+ghost use Rattle.nk_values.specs.declared.packet.Packet.{Packet};
 ghost use Rattle.nk_values.specs.Packets.{IsInRange};
-ghost use Rattle.fdd_nodes.specs.Cells.{IsFresh, IsOpen, IsValid, open_cell};
+ghost use Rattle.fdd_nodes.specs.Cells.{IsFresh, IsOpen, IsValid};
 ghost use Rattle.fdd_nodes.specs.Names.{IsFew};
-ghost use Rattle.fdd_nodes.specs.Trees.{Tests};
 ghost use Rattle.fdd_star.specs.Faults.{IsErrorIn};
 ghost use Rattle.fdd_star.specs.Found.{AreFound};
+ghost use Rattle.fdd_star.specs.Named.{Covers};
 ghost use Rattle.fdd_star.specs.Narrow.{IsNarrowed};
-ghost use Rattle.fdd_star.specs.Reaches.{IsBehind, StarBut};
-ghost use Rattle.fdd_star.specs.Stars.{StarOf};
+ghost use Rattle.fdd_star.specs.Reaches.{StarBut};
+ghost use Rattle.fdd_star.specs.Shared.{AreShared, IsLeft};
+ghost use Rattle.fdd_star.specs.Stars.{StarOf, IsErrorOf, IsShallow};
+ghost use Rattle.fdd_store.specs.Operations.{CofactorOf};
 ghost use Rattle.fdd_store.specs.Stores.{Has, Kept, Grows, Gives, tree_at};
 
 use crate::fault::StarError;
+use crate::names::{Names, names_of};
 use crate::narrow::narrowed;
-use crate::parts::Parts;
 use crate::reach::Reach;
+use crate::shared::{Shared, is_shared};
 use crate::visits::Visits;
 use fdd_nodes::{Assignments, Cell, Leaf};
-use fdd_store::{Id, Look, Store};
+use fdd_store::{Id, Store};
+use indexmap::IndexSet;
 use nk_values::{Lit, Packet};
 use std::alloc::{AllocError, Global};
 use std::collections::BTreeSet;
 
-// How many places of diagrams may be gone through to narrow bodies, besides one for each packet that was reached.
+// How many places of diagrams may be gone through to narrow bodies, besides one for each four copies that were found.
 const FIRST_ALLOWANCE: usize = 1_048_576;
 
-/// What was found of the stars of a store's diagrams: where packets come to, and the stars on the packets of cells. And how
-/// many places of diagrams may still be gone through to narrow bodies.
+/// What was found of the stars of a store's diagrams: where packets come to. And how many places of diagrams may still be
+/// gone through to narrow bodies.
 #[derive(Drop)]
 pub(crate) struct Found {
     pub(crate) visits: Visits,
-    pub(crate) parts: Parts,
     allowance: usize,
 }
 
@@ -44,46 +48,50 @@ impl Found {
     {
         Found {
             visits: Visits::new(alloc),
-            parts: Parts::new(alloc),
             allowance: FIRST_ALLOWANCE,
         }
     }
 }
 
-/// The star of a diagram of a store, cell by cell.
+/// The star `p*` of a diagram of a store: what any number of turns give (ICFP 2015, section 3).
 ///
 /// From the packet of a cell, which holds what is fixed and nothing that the diagram names elsewhere, the turns are made
-/// one by one, each on what the one before added. Each test that is asked of a field left open parts the cell; what any
-/// number of turns give where it holds is found once, also where other orders of tests lead to the same cell. No turn
-/// changes a field that the diagram never sets: where a test of it holds, the star is that of the diagram's cofactor, and
-/// is found once for all tests that have the same one. 512 turns are made at most; where one more would add something, the
-/// fault has a packet and an output that show it.
-pub(crate) fn star_of_cells(
-    alloc: Global,
-    store: &mut Store,
-    found: &mut Found,
-    other: &Packet,
-    p: Id,
-) -> Result<Id, StarError>
+/// one by one, each on what the one before added. Each test that is asked of a field left open parts the cell: where it
+/// holds, the star is found anew, but not for the packets on which an earlier test holds, so that no cell is gone through
+/// twice. Tests of one field share their part if the diagram makes the same of what each leaves. 512 turns are made at
+/// most; where one more would add something, the fault has a packet and an output that show it.
+pub fn star(alloc: Global, store: &mut Store, p: Id) -> Result<Id, StarError>
     requires has { Has store.old p }
     requires few { IsFew (tree_at store.old p) }
-    requires found { AreFound store.old found.old }
-    requires range { IsInRange other.now }
-    requires fresh { IsFresh other.now (tree_at store.old p) }
     ensures grows { Grows store.old store.new }
-    ensures found { OnOk result (AreFound store.new found.new) }
-    ensures star { MatchResult result (λ r. Gives store.new r (StarOf (tree_at store.old p))) (λ e. IsErrorIn (tree_at store.old p) open_cell other.now e) }
+    ensures star { MatchResult result (λ r. Gives store.new r (StarOf (tree_at store.old p))) (λ e. IsErrorOf (tree_at store.old p) e) }
+    ensures never_deep { OnOk result (IsShallow (tree_at store.old p)) }
 {
-    part_in(alloc, store, found, other, p, &Cell::open())
+    let Names { other, assigned } = names_of(alloc, store, p)?;
+    let mut found = Found::new(alloc);
+    let mut missed = IndexSet::new(alloc);
+    let cell = Cell::open();
+    part_in(
+        alloc,
+        store,
+        &mut found,
+        &mut missed,
+        &other,
+        &assigned,
+        p,
+        &cell,
+    )
 }
 
-// The star on the packets of a cell, kept or found anew.
+// The star on the packets of a cell that hold none of the missed literals.
 #[cycle(star)]
 fn part_in(
     alloc: Global,
     store: &mut Store,
     found: &mut Found,
+    missed: &mut IndexSet<Lit>,
     other: &Packet,
+    assigned: &IndexSet<Lit>,
     p: Id,
     cell: &Cell,
 ) -> Result<Id, StarError>
@@ -93,82 +101,122 @@ fn part_in(
     requires found { AreFound store.old found.old }
     requires range { IsInRange other.now }
     requires fresh { IsFresh other.now (tree_at store.old p) }
+    requires assigned { Covers assigned.now.keys (tree_at store.old p) }
     ensures grows { Grows store.old store.new }
     ensures found { OnOk result (AreFound store.new found.new) }
-    ensures star { MatchResult result (λ r. Gives store.new r (StarBut (tree_at store.old p) cell.now [])) (λ e. IsErrorIn (tree_at store.old p) cell.now other.now e) }
+    ensures missed { OnOk result (missed.new.keys ≡ missed.old.keys) }
+    ensures star { MatchResult result (λ r. Gives store.new r (StarBut (tree_at store.old p) cell.now missed.old.keys)) (λ e. IsErrorIn (tree_at store.old p) cell.now other.now e) }
 {
-    if let Some(part) = found.parts.get(p, cell) {
-        return Ok(part);
-    }
-    let Reach {
-        copies,
-        mut asked,
-        ..
-    } = Reach::of(alloc, store, &mut found.visits, other, p, cell)?;
-    found.allowance = found.allowance.saturating_add(copies.len());
-    let body = narrowed(alloc, store, &mut found.allowance, p, cell, &asked)?;
+    let Reach { copies, asked, .. } = Reach::of(alloc, store, &mut found.visits, other, p, cell)?;
+    found.allowance = found.allowance.saturating_add(copies.len() / 4);
+    let mut left = left_of(alloc, missed, asked)?;
+    let body = narrowed(alloc, store, &mut found.allowance, assigned, p, cell, &left)?;
     let leaf = gathered(alloc, copies)?;
     let mut all = store.put_leaf(alloc, leaf)?;
-    while let Some(l) = asked.pop_last() {
-        let whole = part_of(alloc, store, found, other, p, body, cell, &l)?;
-        let part = behind(store, &asked, whole);
+    let mut shared = Shared::new(alloc);
+    while let Some(l) = left.pop() {
+        missed.truncate(missed.len().saturating_sub(1));
+        shared.move_to(l.field());
+        let part = part_of(
+            alloc,
+            store,
+            found,
+            missed,
+            &mut shared,
+            other,
+            assigned,
+            body,
+            cell,
+            &l,
+        )?;
         all = store.choice(alloc, l, part, all)?;
     }
-    found.parts.keep(p, cell, all)?;
     Ok(all)
 }
 
-// What is left of a diagram where none of some literals holds, past its first tests of them. What it answers where one of
-// them holds is not made again, only to go when that literal takes its turn.
-fn behind(store: &Store, asked: &BTreeSet<Lit>, a: Id) -> Id
-    requires { Has store.now a }
-    ensures has { Has store.now result }
-    ensures behind { IsBehind asked.now.keys (tree_at store.now a) (tree_at store.now result) }
+// Adds the tests that were asked to those that are missed, and lists the ones that were not there.
+fn left_of(
+    alloc: Global,
+    missed: &mut IndexSet<Lit>,
+    mut asked: BTreeSet<Lit>,
+) -> Result<Vec<Lit>, AllocError>
+    ensures { IfOk result (λ r. IsLeft missed.old.keys asked.keys missed.new.keys r.items) }
 {
-    match store.look(a) {
-        Look::Leaf => a,
-        Look::Fork(l, _, no) => {
-            if asked.contains(&l) {
-                behind(store, asked, no)
-            } else {
-                a
-            }
+    let mut left = Vec::new(alloc);
+    while let Some(l) = asked.pop_first() {
+        if missed.insert(l)? {
+            left.push(l)?;
         }
     }
+    Ok(left)
 }
 
-// The star where a literal holds of a field that the cell leaves open: that of a cofactor, if the field is never set. The
-// body of which it is taken makes the turns of the whole.
+// The star where a literal holds of a field that the cell leaves open: that of a literal of which the body leaves the same,
+// or found anew.
 #[cycle(star)]
 fn part_of(
     alloc: Global,
     store: &mut Store,
     found: &mut Found,
+    missed: &mut IndexSet<Lit>,
+    shared: &mut Shared,
     other: &Packet,
-    p: Id,
+    assigned: &IndexSet<Lit>,
     body: Id,
     cell: &Cell,
     l: &Lit,
 ) -> Result<Id, StarError>
-    requires has { Has store.old p }
-    requires has_body { Has store.old body }
-    requires narrowed { IsNarrowed (tree_at store.old p) cell.now (tree_at store.old body) }
-    requires few { IsFew (tree_at store.old p) }
+    requires has { Has store.old body }
+    requires few { IsFew (tree_at store.old body) }
     requires valid { IsValid cell.now }
     requires found { AreFound store.old found.old }
+    requires shared { AreShared store.old (tree_at store.old body) cell.now missed.old.keys shared.old }
+    requires field { shared.old.field ≡ lit_field l.now }
     requires range { IsInRange other.now }
-    requires fresh { IsFresh other.now (tree_at store.old p) }
-    requires tested { Tests (tree_at store.old p) l.now }
+    requires fresh { IsFresh other.now (tree_at store.old body) }
+    requires assigned { Covers assigned.now.keys (tree_at store.old body) }
     requires is_open { IsOpen cell.now (lit_field l.now) }
     ensures grows { Grows store.old store.new }
     ensures found { OnOk result (AreFound store.new found.new) }
-    ensures star { MatchResult result (λ r. Gives store.new r (StarBut (tree_at store.old p) (put l.now cell.now) [])) (λ e. IsErrorIn (tree_at store.old p) cell.now other.now e) }
+    ensures missed { OnOk result (missed.new.keys ≡ missed.old.keys) }
+    ensures shared { OnOk result (AreShared store.new (tree_at store.old body) cell.now missed.old.keys shared.new) }
+    ensures star { MatchResult result (λ r. Gives store.new r (StarBut (tree_at store.old body) (put l.now cell.now) missed.old.keys)) (λ e. IsErrorIn (tree_at store.old body) (put l.now cell.now) other.now e) }
+{
+    let left = store.cofactor(alloc, body, *l)?;
+    if let Some(part) = shared.parts.get(&left) {
+        return Ok(*part);
+    }
+    let inner = inner_of(store, body, left, l);
+    let part = part_in(
+        alloc,
+        store,
+        found,
+        missed,
+        other,
+        assigned,
+        inner,
+        &cell.with(l),
+    )?;
+    if is_shared(store, assigned, body, l) {
+        shared.keep(left, part)?;
+    }
+    Ok(part)
+}
+
+// What makes the turns of a body where a literal holds. No turn changes a field that the body never sets: there it is what
+// the literal leaves of the body.
+fn inner_of(store: &Store, body: Id, left: Id, l: &Lit) -> Id
+    requires has { Has store.now body }
+    requires has_left { Has store.now left }
+    requires left { CofactorOf l.now (tree_at store.now body) (tree_at store.now left) }
+    ensures has { Has store.now result }
+    ensures inner { (c : Packet) → IsNarrowed (tree_at store.now body) (put l.now c) (tree_at store.now result) }
 {
     if store.sets(body, l.field()) {
-        return part_in(alloc, store, found, other, p, &cell.with(l));
+        body
+    } else {
+        left
     }
-    let part = store.cofactor(alloc, body, *l)?;
-    part_in(alloc, store, found, &l.put(other), part, cell)
 }
 
 // The leaf of some copies. They are sorted first, since it takes little time where they rise.

@@ -11,6 +11,9 @@ use indexmap::IndexMap;
 use nk_values::Lit;
 use std::alloc::{AllocError, Global};
 
+// How many visits are kept.
+const MOST_VISITS: usize = 32_768;
+
 /// The leaf on a packet's path, and the tests that were asked on the way at fields which nothing fixes.
 #[derive(Drop)]
 pub(crate) struct Visit {
@@ -47,10 +50,13 @@ impl Visits {
         })
     }
 
-    /// Keeps a visit.
+    /// Keeps a visit, if there are not many.
     pub(crate) fn keep(&mut self, diagram: Id, here: &Cell, visit: Visit) -> Result<(), AllocError>
         ensures { (k : Kept) → AreVisits k self.old → Has k diagram → IsVisitOf k (tree_at k diagram) here.now visit → OnOk result (AreVisits k self.new) }
     {
+        if self.known.len() >= MOST_VISITS {
+            return Ok(());
+        }
         let key = Key {
             diagram,
             packet: *here.generic(),

@@ -3,9 +3,6 @@ use Rattle.fdd_store.proofs.StoreLaws.{grows_on, has_grown}
 use Rattle.fdd_star.proofs.FoundLaws.{stays}
 use Rattle.fdd_star.proofs.narrow.parts.Goals as goal
 
-pub sets-requires : goal.sets-requires
-sets-requires c = has_grown _ _ _ c.loop-l.invariant c.requires.has
-
 pub cofactor-requires : goal.cofactor-requires
 cofactor-requires c = record { has = has_grown _ _ _ c.loop-l.invariant c.requires.has; few = stays IsFew _ _ _ c.loop-l.invariant c.requires.has c.requires.few }
 

@@ -1,132 +1,152 @@
-use Rattle.std.proofs.Common.{ℕ, rules, List, [], sym, ap, subst, arith, ◌∙◌}
-use Rattle.std.proofs.lemmas.Bool.{false≢true}
-use Rattle.nk_values.specs.declared.packet.Packet.{Packet}
+use Rattle.std.specs.Prelude.{IfSome}
+use Rattle.std.proofs.Common.{Bor, Option, ℕ, inl, refl, rules, List, [], ◌∷◌, sym, ap, subst, arith, ◌∙◌}
+use Rattle.nk_values.specs.declared.field.Field.{Field}
 use Rattle.nk_values.specs.declared.lit.Lit.{Lit}
+use Rattle.nk_values.specs.declared.packet.Packet.{Packet}
 use Rattle.nk_values.specs.Held.{put}
 use Rattle.nk_values.specs.Lits.{lit_field}
-use Rattle.nk_values.specs.Packets.{IsInRange}
-use Rattle.fdd_nodes.specs.Cells.{IsFresh, IsValid, IsOpen}
+use Rattle.nk_values.proofs.MemberLaws.{in-left, in-right}
+use Rattle.fdd_nodes.specs.Cells.{IsFresh, IsValid}
 use Rattle.fdd_nodes.specs.Names.{IsFew}
-use Rattle.fdd_nodes.specs.Trees.{Tests}
+use Rattle.fdd_nodes.specs.Trees.{Assigns}
 use Rattle.fdd_nodes.proofs.CellLaws.{valid_with}
 use Rattle.fdd_nodes.proofs.OpenLaws.{open_fields, fewer_open}
 use Rattle.fdd_star.specs.Faults.{IsErrorIn}
+use Rattle.fdd_star.specs.Named.{Covers}
 use Rattle.fdd_star.specs.Narrow.{IsNarrowed}
-use Rattle.fdd_star.specs.Reaches.{IsNamedBy, StarBut}
-use Rattle.fdd_star.proofs.FaultLaws.{put_in_range, fresh_where, fresh_within, fault_where, fault_within}
-use Rattle.fdd_star.proofs.FieldLaws.{tested_fields, fewer_tested}
-use Rattle.fdd_star.proofs.FoundLaws.{found_grown, parts_grown, visits_grown, stays, stayed}
-use Rattle.fdd_star.proofs.NarrowLaws.{star_narrowed}
-use Rattle.fdd_star.proofs.PassingLaws.{match_on, star_where}
-use Rattle.fdd_star.proofs.StarLaws.{star_leaf, star_more, choice_few, few_within, fewer_left, last_of, named_on, none_left}
-use Rattle.fdd_store.specs.Entries.{SetsField}
+use Rattle.fdd_star.specs.Reaches.{StarBut}
+use Rattle.fdd_star.specs.Shared.{AreShared, IsShared, MovesTo}
+use Rattle.fdd_star.proofs.FaultLaws.{fault_narrowed, fault_within, fresh_within}
+use Rattle.fdd_star.proofs.FoundLaws.{found_grown, visits_grown, stays, stayed}
+use Rattle.fdd_star.proofs.KeptLaws.{found_right}
+use Rattle.fdd_star.proofs.NarrowLaws.{narrowed_within, star_narrowed}
+use Rattle.fdd_star.proofs.FieldLaws.{id_eq, same_id}
+use Rattle.fdd_star.proofs.SharedLaws.{shared_grown, shared_kept, shared_none, shared_of, shared_moved, took_last}
+use Rattle.fdd_star.proofs.StarLaws.{choice_few, few_within, star_as, star_leaf, star_more}
+use Rattle.fdd_star.proofs.TurnLaws.{in_same}
+use Rattle.fdd_store.specs.Operations.{CofactorOf, LeavesOut}
 use Rattle.fdd_store.specs.Stores.{Gives, tree_at}
-use Rattle.fdd_store.proofs.StoreLaws.{gives_as, gives_grown, grows_on, has_grown, tree_grown}
+use Rattle.fdd_store.proofs.StoreLaws.{gives_as, gives_grown, grows_on, has_grown}
 use Rattle.fdd_star.proofs.repetition.+star.Goals as goal
+use Rattle.fdd_star.proofs.repetition.+star.Goals.{part_of-then-is_shared+in_ok-keep, part_of-else-is_shared}
 
-pub part_of-part_in-requires : goal.part_of-part_in-requires
-part_of-part_in-requires t c =
-    let less = fewer_open c.args.cell.now c.args.l.now c.requires.is_open in
-    let e = ap open_fields c.with.ensures in (
-      omega (arith, less, e),
-      (c.requires.has, (c.requires.few, (subst IsValid (sym c.with.ensures) (valid_with c.args.cell.now c.args.l.now c.requires.valid), (c.requires.found, (c.requires.range, c.requires.fresh))))),
+pub part_in-loop-l-init : goal.part_in-loop-l-init
+part_in-loop-l-init t c =
+    let p = tree_at c.args.store.now c.args.p in
+    let reach = c.in_ok-copies.ensures.reach in
+    let left = c.in_ok-left.ensures in
+    let grown = grows_on _ _ _ c.in_ok-body.ensures.grows c.in_ok-all.ensures.grows in (
+      gives_as _ _ _ _ (λ x e. subst (StarBut p c.args.cell.now c.left_of.new.missed.keys) (sym e) (star_as p c.args.cell.now _ _ _ (λ m i _. left.has m i) (star_leaf _ _ _ _ reach c.in_ok-leaf.ensures))) c.in_ok-all.ensures.place,
+      left.joined,
+      (λ m k. (reach.is_open m (left.only m k), reach.tests m (left.only m k))),
+      record { visits = visits_grown _ _ _ grown c.in_ok-copies.ensures.visits },
+      grown,
+      has_grown _ _ _ c.in_ok-all.ensures.grows c.in_ok-body.ensures.has,
+      stays (IsNarrowed p c.args.cell.now) _ _ _ c.in_ok-all.ensures.grows c.in_ok-body.ensures.has c.in_ok-body.ensures.narrowed,
+      shared_none _ _ _ _ c.new-shared.result c.new-shared.ensures,
     )
 
-pub part_of-returns-then-sets-clause-star : goal.part_of-returns-then-sets-clause-star
-part_of-returns-then-sets-clause-star t c =
-    let p = tree_at c.args.store.now c.args.p in
-    match_on c.part_in.result _ _ _ _
-    (λ r g. subst (λ (q : Packet). Gives c.part_in.new.store r (StarBut p q [])) c.with.ensures g)
-    (λ e h. fault_within p c.args.l.now c.args.cell.now c.args.other.now e c.requires.tested c.requires.is_open (subst (λ (q : Packet). IsErrorIn p q c.args.other.now e) c.with.ensures h))
-    c.part_in.ensures.star
-
-pub part_of-cofactor-requires-clause-few : goal.part_of-cofactor-requires-clause-few
-part_of-cofactor-requires-clause-few t c = few_within _ _ c.requires.few c.requires.narrowed.names
-
-pub part_of-part_in-requires-2 : goal.part_of-part_in-requires-2
-part_of-part_in-requires-2 t c =
-    let p = tree_at c.args.store.now c.args.p in
-    let b = tree_at c.args.store.now c.args.body in
-    let p' = tree_at c.cofactor.new.self c.in_ok-part.part in
-    let l = c.args.l.now in
-    let f = c.in_ok-part.ensures.place.is in
-    let unset : ¬ SetsField b (lit_field l) = λ w. false≢true (sym c.if-sets.false ∙ c.sets.ensures.1 (subst (SetsField b) (sym c.field.ensures) w)) in
-    let own : IsNamedBy b p' = record { tests = f.tests; assigns = f.assigns } in
-    let names = named_on p b p' c.requires.narrowed.names own in
-    let less = fewer_tested p' p names.tests l c.requires.tested c.in_ok-part.ensures.past in
-    let fresh = fresh_where b p' l c.args.other.now unset own c.in_ok-part.ensures.past (fresh_within p b c.args.other.now c.requires.narrowed.names c.requires.fresh) in (
-      omega (arith, less),
+pub part_in-part_of-requires : goal.part_in-part_of-requires
+part_in-part_of-requires t c =
+    let i = c.loop-l.invariant in
+    let names = i.6.names in
+    let turns = subst (λ (f : Field). MovesTo f c.loop-l.shared c.move_to.new.self) c.field.ensures c.move_to.ensures in
+    let took = took_last _ _ _ _ _ c.in-Some.l _ i.1 c.in-Some.ensures.items c.truncate.ensures.keys (let s = c.saturating_sub.ensures in let n = c.len-in-Some.ensures.len in omega (arith, s, n)) in
+    let there = i.2 c.in-Some.l (in_same _ _ _ (sym c.in-Some.ensures.items) (in-right c.pop.new.self.items (c.in-Some.l ∷ []) c.in-Some.l (inl refl))) in (
+      omega arith,
       (
-        c.in_ok-part.ensures.place.has,
+        i.5,
         (
-          few_within p p' c.requires.few names,
+          few_within _ _ c.requires.few names,
           (
             c.requires.valid,
-            (
-              found_grown _ _ _ c.in_ok-part.ensures.grows c.requires.found,
-              (subst IsInRange (sym c.put.ensures) (put_in_range l c.args.other.now c.requires.range), subst (λ (g : Packet). IsFresh g p') (sym c.put.ensures) fresh),
-            ),
+            (i.3, (shared_moved _ _ _ _ _ c.in-Some.l _ _ took.1 turns i.7, (turns.field, (c.requires.range, (fresh_within _ _ _ names c.requires.fresh, ((λ m w. c.requires.assigned m (names.assigns m w)), there.0)))))),
           ),
         ),
       ),
     )
 
-pub part_of-returns-clause-star : goal.part_of-returns-clause-star
-part_of-returns-clause-star t c =
+pub part_in-returns-in_err-part-clause-grows : goal.part_in-returns-in_err-part-clause-grows
+part_in-returns-in_err-part-clause-grows t c = grows_on _ _ _ c.loop-l.invariant.4 c.in_err-part.ensures.grows
+
+pub part_in-returns-in_err-part-clause-star : goal.part_in-returns-in_err-part-clause-star
+part_in-returns-in_err-part-clause-star t c =
     let p = tree_at c.args.store.now c.args.p in
-    let b = tree_at c.args.store.now c.args.body in
-    let p' = tree_at c.cofactor.new.self c.in_ok-part.part in
-    let l = c.args.l.now in
+    let i = c.loop-l.invariant in
+    let there = i.2 c.in-Some.l (in_same _ _ _ (sym c.in-Some.ensures.items) (in-right c.pop.new.self.items (c.in-Some.l ∷ []) c.in-Some.l (inl refl))) in
+    let w = fault_within p c.in-Some.l c.args.cell.now c.args.other.now c.in_err-part.field-0.0 there.1 there.0
+    (fault_narrowed p _ (put c.in-Some.l c.args.cell.now) c.args.other.now c.in_err-part.field-0.0 (narrowed_within p _ c.args.cell.now c.in-Some.l there.0 i.6) c.in_err-part.ensures.star) in
+    search (rules, w)
+
+pub part_in-choice-requires-clause-few : goal.part_in-choice-requires-clause-few
+part_in-choice-requires-clause-few t c =
+    let i = c.loop-l.invariant in
+    let there = i.2 c.in-Some.l (in_same _ _ _ (sym c.in-Some.ensures.items) (in-right c.pop.new.self.items (c.in-Some.l ∷ []) c.in-Some.l (inl refl))) in
+    choice_few (tree_at c.args.store.now c.args.p) _ _ _ c.requires.few there.1 (star_narrowed (tree_at c.args.store.now c.args.p) _ _ _ _ (narrowed_within _ _ c.args.cell.now c.in-Some.l there.0 i.6) c.in_ok-part.ensures.star.is).names (gives_grown _ _ _ _ c.in_ok-part.ensures.grows i.0).is.names
+
+pub part_in-returns-in_err-all-2-clause-grows : goal.part_in-returns-in_err-all-2-clause-grows
+part_in-returns-in_err-all-2-clause-grows t c = grows_on _ _ _ c.loop-l.invariant.4 (grows_on _ _ _ c.in_ok-part.ensures.grows c.in_err-all-2.ensures.grows)
+
+pub part_in-loop-l-preserved : goal.part_in-loop-l-preserved
+part_in-loop-l-preserved t c =
+    let p = tree_at c.args.store.now c.args.p in
+    let l = c.in-Some.l in
+    let i = c.loop-l.invariant in
+    let there = i.2 l (in_same _ _ _ (sym c.in-Some.ensures.items) (in-right c.pop.new.self.items (l ∷ []) l (inl refl))) in
+    let more = grows_on _ _ _ c.in_ok-part.ensures.grows c.in_ok-all-2.ensures.grows in
+    let rest = gives_grown _ _ _ _ c.in_ok-part.ensures.grows i.0 in
+    let missed = c.in_ok-part.ensures.missed in
+    let took = took_last _ _ _ _ _ c.in-Some.l _ i.1 c.in-Some.ensures.items c.truncate.ensures.keys (let s = c.saturating_sub.ensures in let n = c.len-in-Some.ensures.len in omega (arith, s, n)) in
+    let part = star_narrowed (tree_at c.args.store.now c.args.p) _ _ _ _ (narrowed_within _ _ c.args.cell.now c.in-Some.l there.0 i.6) c.in_ok-part.ensures.star.is in
+    let shared = shared_grown _ _ _ _ _ c.part_of.new.shared c.in_ok-all-2.ensures.grows c.in_ok-part.ensures.shared in (
+      gives_as _ _ _ _ (λ x w. subst (λ (ls : List Lit). StarBut p c.args.cell.now ls x) (sym missed) (star_more p _ _ _ l _ _ x there.1 there.0 took.1 part rest.is w)) c.in_ok-all-2.ensures.place,
+      missed ∙ took.0,
+      (λ m k. i.2 m (in_same _ _ _ (sym c.in-Some.ensures.items) (in-left c.pop.new.self.items (l ∷ []) m k))),
+      found_grown _ _ _ c.in_ok-all-2.ensures.grows c.in_ok-part.ensures.found,
+      grows_on _ _ _ i.4 more,
+      has_grown _ _ _ more i.5,
+      stays (IsNarrowed p c.args.cell.now) _ _ _ more i.5 i.6,
+      stays (λ b. AreShared c.choice.new.self b c.args.cell.now c.part_of.new.missed.keys c.part_of.new.shared) _ _ _ more i.5
+          (subst (λ (ls : List Lit). AreShared c.choice.new.self (tree_at c.loop-l.store c.in_ok-body.body) c.args.cell.now ls c.part_of.new.shared) (sym missed) shared),
+    )
+
+pub part_of-returns-in-Some-clause-found : goal.part_of-returns-in-Some-clause-found
+part_of-returns-in-Some-clause-found t c = found_grown _ _ _ c.in_ok-left.ensures.grows c.requires.found
+
+pub part_of-returns-in-Some-clause-shared : goal.part_of-returns-in-Some-clause-shared
+part_of-returns-in-Some-clause-shared t c = shared_grown _ _ _ _ _ c.args.shared.now c.in_ok-left.ensures.grows c.requires.shared
+
+pub part_of-returns-in-Some-clause-star : goal.part_of-returns-in-Some-clause-star
+part_of-returns-in-Some-clause-star t c =
+    let k = c.cofactor.new.self in
+    let P = IsShared k (tree_at c.args.store.now c.args.body) c.args.cell.now c.args.missed.now.keys c.args.shared.now.field in
+    let kept = shared_grown _ _ _ _ _ c.args.shared.now c.in_ok-left.ensures.grows c.requires.shared in
+    let here = subst (λ (o : Option (Bor ℕ)). IfSome o (λ v. P c.in_ok-left.left v.now)) c.in-Some.is (found_right id_eq same_id P _ _ _ kept c.get.ensures.value) in
+    here.star c.args.l.now (sym c.requires.field) c.in_ok-left.ensures.place.is
+
+pub part_of-inner_of-inner-requires-clause-left : goal.part_of-inner_of-inner-requires-clause-left
+part_of-inner_of-inner-requires-clause-left t c = stays (λ b. CofactorOf c.args.l.now b (tree_at c.cofactor.new.self c.in_ok-left.left)) _ _ _ c.in_ok-left.ensures.grows c.requires.has c.in_ok-left.ensures.place.is
+
+pub part_of-part_in-requires : goal.part_of-part_in-requires
+part_of-part_in-requires t c =
     let cell = c.args.cell.now in
-    let f = c.in_ok-part.ensures.place.is in
-    let n = c.requires.narrowed in
-    let unset : ¬ SetsField b (lit_field l) = λ w. false≢true (sym c.if-sets.false ∙ c.sets.ensures.1 (subst (SetsField b) (sym c.field.ensures) w)) in
-    let names = named_on p b p' n.names (record { tests = f.tests; assigns = f.assigns }) in
-    match_on c.part_in-2.result _ _ _ _
-    (λ r g. gives_as _ r _ _ (λ x w. star_narrowed p b cell l x n c.requires.is_open (star_where b p' l cell x unset f c.requires.is_open w)) g)
-    (λ e h. fault_where p b p' l cell c.args.other.now f.answer unset n names c.requires.tested c.in_ok-part.ensures.past e c.requires.is_open
-    (subst (λ (g : Packet). IsErrorIn p' cell g e) c.put.ensures h))
-    c.part_in-2.ensures.star
-
-pub part_in-loop-l-init : goal.part_in-loop-l-init
-part_in-loop-l-init t c = (
-  gives_as _ _ _ _ (λ x e. subst (StarBut (tree_at c.args.store.now c.args.p) c.args.cell.now c.in_ok-copies.field-0.asked.keys) (sym e)
-      (star_leaf _ _ _ _ c.in_ok-copies.ensures.reach c.in_ok-leaf.ensures)) c.in_ok-all.ensures.place,
-  c.in_ok-copies.ensures.reach.is_open,
-  c.in_ok-copies.ensures.reach.tests,
-  record {
-    visits = visits_grown _ _ _ (grows_on _ _ _ c.in_ok-body.ensures.grows c.in_ok-all.ensures.grows) c.in_ok-copies.ensures.visits;
-    parts = parts_grown _ _ _ (grows_on _ _ _ c.in_ok-body.ensures.grows c.in_ok-all.ensures.grows) c.requires.found.parts;
-  },
-  grows_on _ _ _ c.in_ok-body.ensures.grows c.in_ok-all.ensures.grows,
-  has_grown _ _ _ c.in_ok-all.ensures.grows c.in_ok-body.ensures.has,
-  stays (IsNarrowed (tree_at c.args.store.now c.args.p) c.args.cell.now) _ _ _ c.in_ok-all.ensures.grows c.in_ok-body.ensures.has c.in_ok-body.ensures.narrowed,
-)
-
-pub part_in-part_of-requires : goal.part_in-part_of-requires
-part_in-part_of-requires t c =
-    let g = c.loop-l.invariant.4 in
-    let l = c.in-Some-pop_last.l in
-    let among = last_of _ _ _ c.in-Some-pop_last.ensures.removal in
-    let e = ap tested_fields (tree_grown _ _ _ g c.requires.has) in (
-      omega (arith, e),
+    let l = c.args.l.now in
+    let g = c.in_ok-left.ensures.grows in
+    let names = (c.inner_of-inner.ensures.inner cell).names in
+    let less = fewer_open cell l c.requires.is_open in
+    let e = ap open_fields c.with.ensures in (
+      omega (arith, less, e),
       (
-        has_grown _ _ _ g c.requires.has,
+        c.inner_of-inner.ensures.has,
         (
-          c.loop-l.invariant.5,
+          few_within _ _ (stays IsFew _ _ _ g c.requires.has c.requires.few) names,
           (
-            stays (λ x. IsNarrowed x c.args.cell.now (tree_at c.loop-l.store c.in_ok-body.body)) _ _ _ g c.requires.has c.loop-l.invariant.6,
+            subst IsValid (sym c.with.ensures) (valid_with cell l c.requires.valid),
             (
-              stays IsFew _ _ _ g c.requires.has c.requires.few,
+              found_grown _ _ _ g c.requires.found,
               (
-                c.requires.valid,
-                (
-                  c.loop-l.invariant.3,
-                  (
-                    c.requires.range,
-                    (stays (IsFresh c.args.other.now) _ _ _ g c.requires.has c.requires.fresh, (stays (λ x. Tests x l) _ _ _ g c.requires.has (c.loop-l.invariant.2 l among), c.loop-l.invariant.1 l among)),
-                  ),
-                ),
+                c.requires.range,
+                (fresh_within _ _ _ names (stays (IsFresh c.args.other.now) _ _ _ g c.requires.has c.requires.fresh), λ m w. stays (Covers c.args.assigned.now.keys) _ _ _ g c.requires.has c.requires.assigned m (names.assigns m w)),
               ),
             ),
           ),
@@ -134,51 +154,41 @@ part_in-part_of-requires t c =
       ),
     )
 
-pub part_in-returns-in_err-whole-clause-grows : goal.part_in-returns-in_err-whole-clause-grows
-part_in-returns-in_err-whole-clause-grows t c = grows_on _ _ _ c.loop-l.invariant.4 c.in_err-whole.ensures.grows
-
-pub part_in-returns-in_err-whole-clause-star : goal.part_in-returns-in_err-whole-clause-star
-part_in-returns-in_err-whole-clause-star t c =
-    let w = stayed (λ x. IsErrorIn x c.args.cell.now c.args.other.now c.in_err-whole.field-0.0) _ _ _ c.loop-l.invariant.4 c.requires.has c.in_err-whole.ensures.star in
+pub part_of-returns-in_err-part-clause-star : goal.part_of-returns-in_err-part-clause-star
+part_of-returns-in_err-part-clause-star t c =
+    let cell = put c.args.l.now c.args.cell.now in
+    let g = c.args.other.now in
+    let e = c.in_err-part.field-0.0 in
+    let inner = subst (λ (q : Packet). IsErrorIn (tree_at c.cofactor.new.self c.inner_of-inner.result) q g e) c.with.ensures c.in_err-part.ensures.star in
+    let w = stayed (λ x. IsErrorIn x cell g e) _ _ _ c.in_ok-left.ensures.grows c.requires.has (fault_narrowed _ _ cell g e (c.inner_of-inner.ensures.inner c.args.cell.now) inner) in
     search (rules, w)
 
-pub part_in-choice-requires-clause-few : goal.part_in-choice-requires-clause-few
-part_in-choice-requires-clause-few t c =
-    let p = tree_at c.args.store.now c.args.p in
-    let whole = stayed (λ x. IsNamedBy x (tree_at c.part_of.new.store c.in_ok-whole.whole)) _ _ _ c.loop-l.invariant.4 c.requires.has c.in_ok-whole.ensures.star.is.names in
-    let rest = gives_grown _ _ _ _ c.in_ok-whole.ensures.grows c.loop-l.invariant.0 in
-    choice_few p _ _ _ c.requires.few (c.loop-l.invariant.2 c.in-Some-pop_last.l (last_of _ _ _ c.in-Some-pop_last.ensures.removal)) (named_on p _ _ whole c.behind-part.ensures.behind.names) rest.is.names
-
-pub part_in-returns-in_err-all-2-clause-grows : goal.part_in-returns-in_err-all-2-clause-grows
-part_in-returns-in_err-all-2-clause-grows t c = grows_on _ _ _ c.loop-l.invariant.4 (grows_on _ _ _ c.in_ok-whole.ensures.grows c.in_err-all-2.ensures.grows)
-
-pub part_in-loop-l-preserved : goal.part_in-loop-l-preserved
-part_in-loop-l-preserved t c =
-    let removal = c.in-Some-pop_last.ensures.removal in
-    let p = tree_at c.args.store.now c.args.p in
-    let whole = stayed (λ x. StarBut x (put c.in-Some-pop_last.l c.args.cell.now) [] (tree_at c.part_of.new.store c.in_ok-whole.whole)) _ _ _ c.loop-l.invariant.4 c.requires.has c.in_ok-whole.ensures.star.is in
-    let more = grows_on _ _ _ c.in_ok-whole.ensures.grows c.in_ok-all-2.ensures.grows in
-    let rest = gives_grown _ _ _ _ c.in_ok-whole.ensures.grows c.loop-l.invariant.0 in (
-      gives_as _ _ _ _ (λ x w. star_more p _ _ _ c.in-Some-pop_last.l _ _ _ x (c.loop-l.invariant.2 c.in-Some-pop_last.l (last_of _ _ _ removal)) removal whole c.behind-part.ensures.behind rest.is w) c.in_ok-all-2.ensures.place,
-      fewer_left (λ (m : Lit). IsOpen c.args.cell.now (lit_field m)) _ _ _ removal c.loop-l.invariant.1,
-      fewer_left (Tests p) _ _ _ removal c.loop-l.invariant.2,
-      found_grown _ _ _ c.in_ok-all-2.ensures.grows c.in_ok-whole.ensures.found,
-      grows_on _ _ _ c.loop-l.invariant.4 more,
-      has_grown _ _ _ more c.loop-l.invariant.5,
-      stays (IsNarrowed p c.args.cell.now) _ _ _ more c.loop-l.invariant.5 c.loop-l.invariant.6,
-    )
-
-whole : (t : ℕ) (c : goal.part_in-After-drop-asked-2 t) → Gives c.loop-l.store c.loop-l.all (StarBut (tree_at c.args.store.now c.args.p) c.args.cell.now [])
+whole : (t : ℕ) (c : goal.part_of-Joined-is_shared t) → Gives c.part_in.new.store c.in_ok-part.part (StarBut (tree_at c.args.store.now c.args.body) (put c.args.l.now c.args.cell.now) c.args.missed.now.keys)
 whole t c =
-    let none = none_left c.loop-l.asked.keys (λ b. false≢true (c.in_default-pop_last.ensures.variant.1 b)) in
-    subst (λ (ls : List Lit). Gives c.loop-l.store c.loop-l.all (StarBut (tree_at c.args.store.now c.args.p) c.args.cell.now ls)) none c.loop-l.invariant.0
+    let k = c.cofactor.new.self in
+    let cell = put c.args.l.now c.args.cell.now in
+    let ls = c.args.missed.now.keys in
+    gives_as _ _ _ _ (λ r x. stayed (λ b. StarBut b cell ls r) _ _ _ c.in_ok-left.ensures.grows c.requires.has
+    (star_narrowed (tree_at k c.args.body) _ cell ls r (c.inner_of-inner.ensures.inner c.args.cell.now) (subst (λ (q : Packet). StarBut (tree_at k c.inner_of-inner.result) q ls r) c.with.ensures x))) c.in_ok-part.ensures.star
 
-pub part_in-returns-clause-star : goal.part_in-returns-clause-star
-part_in-returns-clause-star t c = whole t c
+pub part_of-returns-clause-star : goal.part_of-returns-clause-star
+part_of-returns-clause-star t c = whole t c
 
-pub part_in-returns-clause-found : goal.part_in-returns-clause-found
-part_in-returns-clause-found t c =
-    let k = c.loop-l.store in
-    let g = c.loop-l.invariant.4 in
-    let parts = c.in_ok-keep.ensures k c.loop-l.invariant.3.parts (has_grown _ _ _ g c.requires.has) (stays (λ x. Gives k c.loop-l.all (StarBut x c.args.cell.now [])) _ _ _ g c.requires.has (whole t c)) in
-    record { visits = c.loop-l.invariant.3.visits; parts = parts }
+pub part_of-returns-clause-shared : goal.part_of-returns-clause-shared
+part_of-returns-clause-shared t c =
+    let b = tree_at c.args.store.now c.args.body in
+    let cell = c.args.cell.now in
+    let ls = c.args.missed.now.keys in
+    let l = c.args.l.now in
+    let n = c.part_in.new.store in
+    let more = c.in_ok-part.ensures.grows in
+    let grown = grows_on _ _ _ c.in_ok-left.ensures.grows more in
+    let place = c.in_ok-left.ensures.place in
+    let old = shared_grown _ n b cell ls c.args.shared.now grown c.requires.shared in
+    elim c.if-is_shared.branch [
+      | part_of-then-is_shared+in_ok-keep w ↦
+          let unset = stayed (λ x. ¬ Assigns x l) _ _ _ grown c.requires.has (c.is_shared.ensures (stays (Covers c.args.assigned.now.keys) _ _ _ grown c.requires.has c.requires.assigned) w.if-is_shared.true) in
+          let new = shared_of n b cell ls l c.in_ok-left.left c.in_ok-part.part (has_grown _ _ _ more place.has) (stays (CofactorOf l b) _ _ _ more place.has place.is) (stays (LeavesOut (lit_field l)) _ _ _ more place.has c.in_ok-left.ensures.past) unset c.requires.is_open (whole t c) in
+          subst (AreShared n b cell ls) (sym w.shared-is) (shared_kept n b cell ls c.args.shared.now w.keep.new.self _ _ w.in_ok-keep.ensures.field w.in_ok-keep.ensures.parts old (subst (λ (f : Field). IsShared n b cell ls f c.in_ok-left.left c.in_ok-part.part) (sym c.requires.field) new))
+      | part_of-else-is_shared w ↦ subst (AreShared n b cell ls) (sym w.shared-is) old
+    ]

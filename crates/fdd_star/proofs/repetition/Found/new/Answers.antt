@@ -1,4 +1,4 @@
 use Rattle.fdd_star.proofs.repetition.Found.new.Goals as goal
 
 pub returns : goal.returns
-returns c = λ k. record { visits = c.new.ensures k; parts = c.new-2.ensures k }
+returns c = λ k. record { visits = c.new.ensures k }
