@@ -12,7 +12,7 @@ const FREE: u64 = u64::MAX;
 /// The packets that hold some numbers in some fields: what the true tests of a path leave (ICFP 2015, section 3).
 ///
 /// Clauses see it as a packet of these numbers, and ask by `fixed_at` and `IsOpen` which fields it fixes.
-#[derive(Clone, Copy)]
+#[derive(Clone, Copy, PartialEq, Eq, Hash)]
 pub struct Cell {
     fixed: Packet,
 }
@@ -28,7 +28,7 @@ impl Model for Cell {
 }
 
 /// What a cell knows of a literal: nothing, that each packet of it holds the number, or that none does.
-#[derive(Clone, Copy)]
+#[derive(Clone, Copy, PartialEq, Eq)]
 pub enum Known {
     Open,
     Yes,
