@@ -23,7 +23,7 @@ pub same_key : (x y : Key) → key_eq x y ≡ true → x ≡ y
 same_key x y h = search rules
 
 abbrev pub key_of : ℕ → Packet → Key
-key_of a q = record { diagram = a; packet = q }
+key_of a q = record { diagram = a; cell = q }
 
 pub in_key : (k : Kept) (a : ℕ) (q : Packet) (o : Option (Bor Visit)) → IfSome o (λ v. IsVisitAt k (key_of a q) v.now) → IfSome o (λ v. IsVisitOf k (tree_at k a) q v.now)
 in_key k a q None h = tt
@@ -46,7 +46,7 @@ visit_grown : (old new : Kept) (key : Key) (v : Visit) → Grows old new → IsV
 visit_grown old new key v g h =
     let e = tree_grown old new key.diagram g h.0 in (
       has_grown old new key.diagram g h.0,
-      record { leaf = comes_grown old new _ _ key.packet v.leaf g e h.1.leaf; asked = subst (λ (t : Tree). AsksMore t key.packet [] v.asked.items) (sym e) h.1.asked },
+      record { leaf = comes_grown old new _ _ key.cell v.leaf g e h.1.leaf; asked = subst (λ (t : Tree). AsksMore t key.cell [] v.asked.items) (sym e) h.1.asked },
     )
 
 pub visits_grown : (old new : Kept) (v : Visits) → Grows old new → AreVisits old v → AreVisits new v

@@ -4,7 +4,6 @@ use Rattle.std.proofs.lemmas.Bool.{false≢true, or_cases}
 use Rattle.std.proofs.lemmas.List.{append_assoc, append-nil, take_more, take_all, length-drop, get_or-drop, get_or_append_left}
 use Rattle.std.specs.declared.cmp.Ordering.{Ordering}
 use Rattle.std.specs.declared.cmp.Ordering.TheVariants.{Less, Equal, Greater}
-use Rattle.std.specs.Prelude.{Result, Ok, Err, OnOk}
 use Rattle.std.specs.BTreeMap.{is_at}
 use Rattle.std.specs.BTreeSet.{insert_key}
 use Rattle.std.specs.FinMap.{nat_cmp-IsAntisymmetric}
@@ -29,15 +28,11 @@ use Rattle.fdd_nodes.proofs.AfterLaws.{after_apply, after_among}
 use Rattle.fdd_nodes.proofs.MakesLaws.{source, outcome, among_lists}
 use Rattle.fdd_star.specs.declared.reach.Reach.{Reach}
 use Rattle.fdd_star.specs.declared.visits.Visit.{Visit}
-use Rattle.fdd_star.specs.Asks.{ComesTo, IsVisitOf, Asks, AsksMore}
+use Rattle.fdd_star.specs.Asks.{Asks, AsksMore, ComesTo, IsVisitOf, Walks}
 use Rattle.fdd_star.specs.Reaches.{copies_of, asked_of, AsksAll, IsTold, Notes, Grows}
 use Rattle.fdd_star.proofs.FillLaws.{leaf_assigns}
 use Rattle.fdd_star.proofs.TurnLaws.{in_same, outcome_left, outcome_in}
 use Rattle.fdd_store.specs.Stores.{Kept, Has, tree_at}
-
-pub on_ok : {X E : Type 0} (r : Result X E) (P Q : Type 0) → OnOk r P → (P → Q) → OnOk r Q
-on_ok (Ok x) P Q h f = f h
-on_ok (Err e) P Q h f = tt
 
 -- literals in their order, with one more
 
@@ -82,54 +77,60 @@ insert_only (x ∷ xs) l m h = by (lit_cmp l x) (insert_only xs l m) h
 
 -- what a path asks
 
-pub asks_leaf : (t : Tree) (q : Packet) (ls : List Lit) → IsLeaf t → AsksMore t q ls ls
+asks_leaf : (t : Tree) (q : Packet) (ls : List Lit) → IsLeaf t → AsksMore t q ls ls
 asks_leaf (Leaf cs) q ls h = record { kept = λ m k. k; has = λ m k. absurd k; only = λ m k. inl k }
 asks_leaf (Node l t e) q ls h = absurd h
 
--- at a test that the cell tells, what its branch asks
-
-pub asks_then : (q : Packet) (l : Lit) (t e : Tree) (old new : List Lit) → Holds q l → AsksMore t q old new → AsksMore (Node l t e) q old new
-asks_then q l t e old new h s = record {
-  kept = s.kept;
-  has = λ m k. elim k [ inl o ↦ absurd (holds_fixed q l h o.0) | inr v ↦ elim v [ inl y ↦ s.has m y.1 | inr n ↦ absurd (n.0 h) ] ];
-  only = λ m k. elim (s.only m k) [ inl w ↦ inl w | inr w ↦ inr (inr (inl (h, w))) ];
-}
-
-pub asks_else : (q : Packet) (l : Lit) (t e : Tree) (old new : List Lit) → Bars q l → AsksMore e q old new → AsksMore (Node l t e) q old new
-asks_else q l t e old new b s = record {
-  kept = s.kept;
-  has = λ m k. elim k [ inl o ↦ absurd (b.fixed o.0) | inr v ↦ elim v [ inl y ↦ absurd (b.other y.0) | inr n ↦ s.has m n.1 ] ];
-  only = λ m k. elim (s.only m k) [ inl w ↦ inl w | inr w ↦ inr (inr (inr (b.other, w))) ];
-}
-
--- at an open test it is asked, and what the false branch asks
-pub asks_open : (q : Packet) (l : Lit) (t e : Tree) (old mid new : List Lit) → IsOpen q (lit_field l) → mid ≡ old ++ l ∷ [] → AsksMore e q mid new → AsksMore (Node l t e) q old new
-asks_open q l t e old mid new o i s = record {
-  kept = λ m k. s.kept m (in_same _ _ m (sym i) (in-left old (l ∷ []) m k));
-  has = λ m k. elim k [
-    | inl w ↦ s.kept m (in_same _ _ m (sym i) (in-right old (l ∷ []) m (inl w.1)))
-    | inr w ↦ elim w [ inl v ↦ absurd (lit_not_free l (sym v.0 ∙ o)) | inr v ↦ s.has m v.1 ]
-  ];
-  only = λ m k. elim (s.only m k) [
-    | inl w ↦ elim (in-either old (l ∷ []) m (in_same _ _ m i w)) [
-      | inl v ↦ inl v
-      | inr v ↦ elim v [ inl x ↦ inr (inl (o, x)) | inr n ↦ absurd n ]
-    ]
-    | inr w ↦ inr (inr (inr ((λ z. lit_not_free l (sym z ∙ o)), w)))
-  ];
-}
-
--- where a path leads
-
-pub comes_leaf : (k : Kept) (t : Tree) (q : Packet) (r : ℕ) → Has k r → tree_at k r ≡ t → IsLeaf t → ComesTo k t q r
+comes_leaf : (k : Kept) (t : Tree) (q : Packet) (r : ℕ) → Has k r → tree_at k r ≡ t → IsLeaf t → ComesTo k t q r
 comes_leaf k (Leaf cs) q r w e h = record { has = w; is = e }
 comes_leaf k (Node l t e') q r w e h = absurd h
 
-pub comes_then : (k : Kept) (l : Lit) (t e : Tree) (q : Packet) (r : ℕ) → Holds q l → ComesTo k t q r → ComesTo k (Node l t e) q r
-comes_then k l t e q r h c = record { has = c.has; is = c.is ∙ ap Leaf (sym (leaf_at-then l t e q h)) }
+pub walks_leaf : (k : Kept) (q : Packet) (ls : List Lit) (r : ℕ) → Has k r → IsLeaf (tree_at k r) → Walks k (tree_at k r) q ls ls r
+walks_leaf k q ls r w h = record { leaf = comes_leaf k (tree_at k r) q r w refl h; asked = asks_leaf (tree_at k r) q ls h }
 
-pub comes_else : (k : Kept) (l : Lit) (t e : Tree) (q : Packet) (r : ℕ) → (¬ Holds q l) → ComesTo k e q r → ComesTo k (Node l t e) q r
-comes_else k l t e q r h c = record { has = c.has; is = c.is ∙ ap Leaf (sym (leaf_at-else l t e q h)) }
+-- at a test that the cell tells, what its branch asks; at an open one it is asked, and what the false branch asks
+module _ (k : Kept) (q : Packet) (l : Lit) (a x y : Tree) (old new : List Lit) (r : ℕ) (e : a ≡ Node l x y) where
+  pub walks_then : Holds q l → Walks k x q old new r → Walks k a q old new r
+  walks_then h w = subst (λ (t : Tree). Walks k t q old new r) (sym e) (record {
+    leaf = record { has = w.leaf.has; is = w.leaf.is ∙ ap Leaf (sym (leaf_at-then l x y q h)) };
+    asked = record {
+      kept = w.asked.kept;
+      has = λ m i. elim i [ inl o ↦ absurd (holds_fixed q l h o.0) | inr v ↦ elim v [ inl z ↦ w.asked.has m z.1 | inr n ↦ absurd (n.0 h) ] ];
+      only = λ m i. elim (w.asked.only m i) [ inl v ↦ inl v | inr v ↦ inr (inr (inl (h, v))) ];
+    };
+  })
+
+  pub walks_else : Bars q l → Walks k y q old new r → Walks k a q old new r
+  walks_else b w = subst (λ (t : Tree). Walks k t q old new r) (sym e) (record {
+    leaf = record { has = w.leaf.has; is = w.leaf.is ∙ ap Leaf (sym (leaf_at-else l x y q b.other)) };
+    asked = record {
+      kept = w.asked.kept;
+      has = λ m i. elim i [ inl o ↦ absurd (b.fixed o.0) | inr v ↦ elim v [ inl z ↦ absurd (b.other z.0) | inr n ↦ w.asked.has m n.1 ] ];
+      only = λ m i. elim (w.asked.only m i) [ inl v ↦ inl v | inr v ↦ inr (inr (inr (b.other, v))) ];
+    };
+  })
+
+  pub walks_open : (mid : List Lit) → IsOpen q (lit_field l) → mid ≡ old ++ l ∷ [] → Walks k y q mid new r → Walks k a q old new r
+  walks_open mid o i w = subst (λ (t : Tree). Walks k t q old new r) (sym e) (record {
+    leaf = record { has = w.leaf.has; is = w.leaf.is ∙ ap Leaf (sym (leaf_at-else l x y q away)) };
+    asked = record {
+      kept = λ m j. w.asked.kept m (in_same _ _ m (sym i) (in-left old (l ∷ []) m j));
+      has = λ m j. elim j [
+        | inl v ↦ w.asked.kept m (in_same _ _ m (sym i) (in-right old (l ∷ []) m (inl v.1)))
+        | inr v ↦ elim v [ inl z ↦ absurd (away z.0) | inr z ↦ w.asked.has m z.1 ]
+      ];
+      only = λ m j. elim (w.asked.only m j) [
+        | inl v ↦ elim (in-either old (l ∷ []) m (in_same _ _ m i v)) [
+          | inl z ↦ inl z
+          | inr z ↦ elim z [ inl s ↦ inr (inl (o, s)) | inr n ↦ absurd n ]
+        ]
+        | inr v ↦ inr (inr (inr (away, v)))
+      ];
+    };
+  })
+    where
+      away : ¬ Holds q l
+      away z = lit_not_free l (sym z ∙ o)
 
 -- tests noted one by one
 

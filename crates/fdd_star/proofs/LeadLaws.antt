@@ -1,7 +1,7 @@
 -- The cells that turns lead to.
-use Rattle.std.proofs.Common.{◌≡◌, ℕ, ◌+◌, ◌<◌, ◌≤◌, inl, inr, refl, ap, sym, ◌∙◌, subst, arith, Bool, true, false, not, List, [], ◌∷◌, ◌++◌, length, take, get_or}
-use Rattle.std.proofs.lemmas.Bool.{false≢true}
+use Rattle.std.proofs.Common.{◌≡◌, ℕ, ◌+◌, ◌<◌, inl, inr, ap, sym, ◌∙◌, subst, arith, Bool, true, false, cond, List, [], ◌∷◌, ◌++◌, length, take, get_or}
 use Rattle.std.proofs.lemmas.List.{append_assoc, append-nil, take_more, take_all, take-append-le}
+use Rattle.std.proofs.lemmas.Option.{slice_get_cases}
 use Rattle.std.specs.List.{list_any}
 use Rattle.indexmap.specs.IndexSet.{insert_key}
 use Rattle.nk_values.specs.declared.packet.Packet.{Packet}
@@ -18,14 +18,12 @@ use Rattle.fdd_nodes.specs.Trees.{Tree, Leaf, Node, apply, outcomes}
 use Rattle.fdd_nodes.proofs.CellLaws.{fill_fixed, holds_fixed}
 use Rattle.fdd_nodes.proofs.MakesLaws.{source, outcome}
 use Rattle.fdd_nodes.proofs.SplitLaws.{leaf_at-then, leaf_at-else}
-use Rattle.fdd_star.specs.declared.cells.Cells.{Cells}
-use Rattle.fdd_star.specs.Cells.{AllLead, Among, IsClosed, IsListed, Leads, Widens}
-use Rattle.fdd_star.proofs.EqualLaws.{packet_eq, found}
+use Rattle.fdd_star.specs.Cells.{AllLead, AllLeadOn, Among, IsClosed, Leads, LeadsOn}
+use Rattle.fdd_star.proofs.EqualLaws.{cell_eq, same_cell}
 use Rattle.fdd_star.proofs.FillLaws.{fill_agrees, apply_fill}
-use Rattle.fdd_star.proofs.NamedLaws.{found_in, with_only}
+use Rattle.fdd_star.proofs.NamedLaws.{found_in, with_has, with_only}
 use Rattle.fdd_star.proofs.FieldLaws.{id_eq, same_id}
 use Rattle.fdd_star.proofs.TurnLaws.{in_same}
-use Rattle.fdd_store.specs.Looks.{Forked}
 use Rattle.fdd_store.specs.Stores.{Kept, tree_at}
 
 -- packets of cells
@@ -42,51 +40,51 @@ barred_in c pk l a b h = b.other (sym (a.at (lit_field l) b.fixed) ∙ h)
 
 -- more cells
 
-pub among_more : (cs ds : List Packet) (pk : Packet) → Among cs pk → Among (cs ++ ds) pk
+-- a cell is there once it was added
+pub cell_added : (old new : List Packet) (d : Packet) → new ≡ insert_key cell_eq old d → IsIn new d
+cell_added old new d e = subst (λ (xs : List Packet). IsIn xs d) (sym e) (with_has cell_eq same_cell d old)
+
+more_cells : (old new : List Packet) (d : Packet) → new ≡ insert_key cell_eq old d → (more : List Packet) × (new ≡ old ++ more)
+more_cells old new d e = by (list_any (cell_eq d) old) e
+  where
+    by : (b : Bool) → new ≡ cond b old (old ++ d ∷ []) → (more : List Packet) × (new ≡ old ++ more)
+    by true h = ([], h ∙ sym (append-nil old))
+    by false h = (d ∷ [], h)
+
+among_more : (cs ds : List Packet) (pk : Packet) → Among cs pk → Among (cs ++ ds) pk
 among_more cs ds pk h = record { cell = h.cell; there = in-left cs ds h.cell h.there; agrees = h.agrees }
 
-pub widens_none : (r : Cells) → IsListed r → Widens r r
-widens_none r h = record { listed = h; more = []; joined = sym (append-nil r.all.items) }
+module _ (old new more : List Packet) (e : new ≡ old ++ more) where
+  lead_wider : (t : Tree) (d : Packet) → Leads t d old → Leads t d new
+  lead_wider t d h = record { to = λ pk q a k. subst (λ (xs : List Packet). Among xs q) (sym e) (among_more old more q (h.to pk q a k)) }
 
-pub widens_on : (a b c : Cells) → Widens a b → Widens b c → Widens a c
-widens_on a b c g h = record {
-  listed = h.listed;
-  more = g.more ++ h.more;
-  joined = h.joined ∙ ap (λ (xs : List Packet). xs ++ h.more) g.joined ∙ append_assoc a.all.items g.more h.more;
-}
-
-pub wider : (old new : Cells) (pk : Packet) → Widens old new → Among old.all.items pk → Among new.all.items pk
-wider old new pk w h = subst (λ (xs : List Packet). Among xs pk) (sym w.joined) (among_more old.all.items w.more pk h)
-
-pub lead_wider : (old new : Cells) (t : Tree) (d : Packet) → Widens old new → Leads t d old.all.items → Leads t d new.all.items
-lead_wider old new t d w h = record { to = λ pk q a k. wider old new q w (h.to pk q a k) }
-
-pub all_wider : (old new : Cells) (k : Kept) (d : Packet) (as' : List ℕ) → Widens old new → AllLead k d as' old.all.items → AllLead k d as' new.all.items
-all_wider old new k d as' w h = record { each = λ a i. lead_wider old new (tree_at k a) d w (h.each a i) }
-
--- a cell that is there, and one that was added
-
-pub there_already : (old : Cells) (q : Packet) → IsListed old → false ≡ not (list_any (packet_eq q) old.packets.keys) → IsIn old.all.items q
-there_already old q e b = in_same _ _ q e (found old.packets.keys q (back (list_any (packet_eq q) old.packets.keys) b))
-  where
-    back : (c : Bool) → false ≡ not c → c ≡ true
-    back true h = refl
-    back false h = absurd (false≢true h)
+  all_wider : (k : Kept) (d : Packet) (as' : List ℕ) → AllLead k d as' old → AllLead k d as' new
+  all_wider k d as' h = record { each = λ a i. lead_wider (tree_at k a) d (h.each a i) }
 
 -- where a diagram leads
 
-pub leads_copy : (xs : List (List Lit)) (x : List Lit) (c : Packet) (old new : Cells) → Widens old new → Leads (Leaf xs) c old.all.items → IsIn new.all.items (apply x c) → Leads (Leaf (xs ++ x ∷ [])) c new.all.items
-leads_copy xs x c old new w h i = record {
-  to = λ pk q a k.
-      let s = source (xs ++ x ∷ []) pk q k in
-      elim (in-either xs (x ∷ []) s.copy s.among) [
-        | inl u ↦ wider old new q w (h.to pk q a (subst (IsIn (outcomes xs pk)) s.makes (outcome xs s.copy pk u)))
-        | inr u ↦ elim u [
-          | inl e ↦ record { cell = apply x c; there = i; agrees = subst (Agrees (apply x c)) (ap (λ y. apply y pk) e ∙ s.makes) (agrees_after x c pk a) }
-          | inr n ↦ absurd n
-        ]
-      ];
-}
+pub leads_none : (d : Packet) (cs : List Packet) → LeadsOn (Leaf []) d cs cs
+leads_none d cs = record { more = []; joined = sym (append-nil cs); leads = record { to = λ pk q a k. absurd k } }
+
+pub leads_copy : (xs : List (List Lit)) (x : List Lit) (c : Packet) (old mid new : List Packet) → LeadsOn (Leaf xs) c old mid → new ≡ insert_key cell_eq mid (apply x c) → LeadsOn (Leaf (xs ++ x ∷ [])) c old new
+leads_copy xs x c old mid new h e =
+    let w = more_cells mid new (apply x c) e in
+    let before = lead_wider mid new w.0 w.1 (Leaf xs) c h.leads in
+    record {
+      more = h.more ++ w.0;
+      joined = w.1 ∙ ap (λ (ys : List Packet). ys ++ w.0) h.joined ∙ append_assoc old h.more w.0;
+      leads = record {
+        to = λ pk q a k.
+            let s = source (xs ++ x ∷ []) pk q k in
+            elim (in-either xs (x ∷ []) s.copy s.among) [
+              | inl u ↦ before.to pk q a (subst (IsIn (outcomes xs pk)) s.makes (outcome xs s.copy pk u))
+              | inr u ↦ elim u [
+                | inl y ↦ record { cell = apply x c; there = cell_added mid new (apply x c) e; agrees = subst (Agrees (apply x c)) (ap (λ z. apply z pk) y ∙ s.makes) (agrees_after x c pk a) }
+                | inr n ↦ absurd n
+              ]
+            ];
+      };
+    }
 
 pub leads_then : (l : Lit) (t e : Tree) (c : Packet) (cs : List Packet) → Holds c l → Leads t c cs → Leads (Node l t e) c cs
 leads_then l t e c cs y h = record { to = λ pk q a k. h.to pk q a (subst (λ (xs : List (List Lit)). IsIn (outcomes xs pk) q) (leaf_at-then l t e pk (holds_in c pk l a y)) k) }
@@ -115,47 +113,59 @@ lead_more k d as' bs a cs e h f = record {
   ];
 }
 
-pub lead_there : (k : Kept) (d : Packet) (as' : List ℕ) (a : ℕ) (cs : List Packet) → list_any (id_eq a) as' ≡ true → AllLead k d as' cs → Leads (tree_at k a) d cs
-lead_there k d as' a cs e h = h.each a (found_in id_eq same_id a as' e)
-
 -- one cell after another
 
-pub record Closes (p : Tree) (c : Packet) (n : ℕ) (r : Cells) : Type 0 where
-  pub listed : IsListed r
-  pub first : IsIn r.all.items c
-  pub turn : (d : Packet) → IsIn (take n r.all.items) d → Leads p d r.all.items
+pub record Closes (p : Tree) (c : Packet) (n : ℕ) (cs : List Packet) : Type 0 where
+  pub first : IsIn cs c
+  pub turn : (d : Packet) → IsIn (take n cs) d → Leads p d cs
 
-pub closes_start : (p : Tree) (c : Packet) (r : Cells) → IsListed r → IsIn r.all.items c → Closes p c 0 r
-closes_start p c r h i = record { listed = h; first = i; turn = λ d k. absurd k }
+pub closes_start : (p : Tree) (c : Packet) (old new : List Packet) → new ≡ insert_key cell_eq old c → Closes p c 0 new
+closes_start p c old new e = record { first = cell_added old new c e; turn = λ d k. absurd k }
 
-pub closes_more : (p : Tree) (c d : Packet) (n : ℕ) (old new : Cells) → n < length old.all.items → get_or old.all.items n d ≡ d → Closes p c n old → Widens old new → Leads p d new.all.items → Closes p c (n + 1) new
-closes_more p c d n old new b e h w f = record {
-  listed = w.listed;
-  first = in_same _ _ c (sym w.joined) (in-left old.all.items w.more c h.first);
-  turn = λ x i. elim (in-either (take n old.all.items) (d ∷ []) x (in_same _ _ x taken i)) [
-    | inl u ↦ lead_wider old new p x w (h.turn x u)
-    | inr u ↦ elim u [ inl s ↦ subst (λ (y : Packet). Leads p y new.all.items) s f | inr o ↦ absurd o ]
+pub closes_more : (p : Tree) (c d : Packet) (n : ℕ) (old new : List Packet) → n < length old → get_or old n d ≡ d → Closes p c n old → LeadsOn p d old new → Closes p c (n + 1) new
+closes_more p c d n old new b e h w = record {
+  first = in_same _ _ c (sym w.joined) (in-left old w.more c h.first);
+  turn = λ x i. elim (in-either (take n old) (d ∷ []) x (in_same _ _ x taken i)) [
+    | inl u ↦ lead_wider old new w.more w.joined p x (h.turn x u)
+    | inr u ↦ elim u [ inl s ↦ subst (λ (y : Packet). Leads p y new) s w.leads | inr o ↦ absurd o ]
   ];
 }
   where
-    taken : take (n + 1) new.all.items ≡ take n old.all.items ++ d ∷ []
-    taken = ap (take (n + 1)) w.joined ∙ take-append-le (n + 1) old.all.items w.more (omega (arith, b)) ∙ take_more old.all.items n d b ∙ ap (λ (y : Packet). take n old.all.items ++ y ∷ []) e
+    taken : take (n + 1) new ≡ take n old ++ d ∷ []
+    taken = ap (take (n + 1)) w.joined ∙ take-append-le (n + 1) old w.more (omega (arith, b)) ∙ take_more old n d b ∙ ap (λ (y : Packet). take n old ++ y ∷ []) e
 
-pub closed_of : (p : Tree) (c : Packet) (n : ℕ) (r : Cells) → length r.all.items ≤ n → Closes p c n r → IsClosed p c r.all.items
-closed_of p c n r b h = record { first = h.first; turn = λ d i. h.turn d (in_same _ _ d (sym (take_all n r.all.items b)) i) }
+pub closed_of : (p : Tree) (c : Packet) (n : ℕ) (cs : List Packet) → (n < length cs → ⊥) → Closes p c n cs → IsClosed p c cs
+closed_of p c n cs f h = record {
+  first = h.first;
+  turn = λ d i. elim (slice_get_cases cs n).1 [ inl w ↦ absurd (f w.1) | inr w ↦ h.turn d (in_same _ _ d (sym (take_all n cs w.0)) i) ];
+}
 
--- a diagram was gone through
-pub record Gone (k : Kept) (d : Packet) (t : Tree) (old new : Cells) (as' : List ℕ) : Type 0 where
-  pub wider : Widens old new
-  pub done : AllLead k d as' new.all.items
-  pub leads : Leads t d new.all.items
+-- a diagram that is gone through
 
-module _ (k : Kept) (d : Packet) (t : Tree) (old : Cells) where
-  pub gone_as : (mid new : Cells) (as' bs : List ℕ) → new ≡ mid → bs ≡ as' → Gone k d t old mid as' → Gone k d t old new bs
-  gone_as mid new as' bs e e' g = subst (λ (x : Cells). Gone k d t old x bs) (sym e) (subst (Gone k d t old mid) (sym e') g)
+module _ (k : Kept) (d : Packet) (old : List Packet) where
+  pub gone_there : (as' : List ℕ) (a : ℕ) → list_any (id_eq a) as' ≡ true → AllLead k d as' old → AllLeadOn k (tree_at k a) d old old as'
+  gone_there as' a e h = record { on = record { more = []; joined = sym (append-nil old); leads = h.each a (found_in id_eq same_id a as' e) }; done = h }
 
-  pub gone_leaf : (xs : List (List Lit)) (new : Cells) (as' : List ℕ) → t ≡ Leaf xs → AllLead k d as' old.all.items → Widens old new → Leads (Leaf xs) d new.all.items → Gone k d t old new as'
-  gone_leaf xs new as' e h w g = record { wider = w; done = all_wider old new k d as' w h; leads = subst (λ (x : Tree). Leads x d new.all.items) (sym e) g }
+  pub gone_as : (t : Tree) (mid new : List Packet) (as' bs : List ℕ) → new ≡ mid → bs ≡ as' → AllLeadOn k t d old mid as' → AllLeadOn k t d old new bs
+  gone_as t mid new as' bs e e' g = subst (λ (x : List Packet). AllLeadOn k t d old x bs) (sym e) (subst (AllLeadOn k t d old mid) (sym e') g)
 
-  pub gone_on : (l : Lit) (i j : ℕ) (new : Cells) (as' : List ℕ) → Forked k l i j t → Widens old new → AllLead k d as' new.all.items → Leads (Node l (tree_at k i) (tree_at k j)) d new.all.items → Gone k d t old new as'
-  gone_on l i j new as' f w h g = record { wider = w; done = h; leads = subst (λ (x : Tree). Leads x d new.all.items) (sym f.is) g }
+  pub gone_leaf : (t : Tree) (xs : List (List Lit)) (new : List Packet) (as' : List ℕ) → t ≡ Leaf xs → AllLead k d as' old → LeadsOn (Leaf xs) d old new → AllLeadOn k t d old new as'
+  gone_leaf t xs new as' e h w = record { on = subst (λ (x : Tree). LeadsOn x d old new) (sym e) w; done = all_wider old new w.more w.joined k d as' h }
+
+  -- by one branch, or by both
+  pub gone_by : (t x : Tree) (new : List Packet) (as' : List ℕ) → (Leads x d new → Leads t d new) → AllLeadOn k x d old new as' → AllLeadOn k t d old new as'
+  gone_by t x new as' f h = record { on = record { more = h.on.more; joined = h.on.joined; leads = f h.on.leads }; done = h.done }
+
+  pub gone_both : (t x y : Tree) (mid new : List Packet) (as' bs : List ℕ) → (Leads x d new → Leads y d new → Leads t d new) → AllLeadOn k x d old mid as' → AllLeadOn k y d mid new bs → AllLeadOn k t d old new bs
+  gone_both t x y mid new as' bs f g h = record {
+    on = record {
+      more = g.on.more ++ h.on.more;
+      joined = h.on.joined ∙ ap (λ (ys : List Packet). ys ++ h.on.more) g.on.joined ∙ append_assoc old g.on.more h.on.more;
+      leads = f (lead_wider mid new h.on.more h.on.joined x d g.on.leads) h.on.leads;
+    };
+    done = h.done;
+  }
+
+  -- and then it is done
+  pub gone_done : (a : ℕ) (new : List Packet) (as' bs : List ℕ) → bs ≡ insert_key id_eq as' a → AllLeadOn k (tree_at k a) d old new as' → AllLeadOn k (tree_at k a) d old new bs
+  gone_done a new as' bs e g = record { on = g.on; done = lead_more k d as' bs a new e g.done g.on.leads }

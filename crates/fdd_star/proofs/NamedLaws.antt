@@ -1,6 +1,6 @@
 -- Names that are gathered.
 use Rattle.std.proofs.Common.{◌≡◌, ◌⊎◌, ℕ, inl, inr, refl, sym, subst, arith, Bool, true, false, cond, not, ◌∙◌, List, [], ◌∷◌, ◌++◌}
-use Rattle.std.proofs.lemmas.Bool.{false≢true, or_cases, or_left, or_right}
+use Rattle.std.proofs.lemmas.Bool.{false≢true, not-true, or_cases, or_left, or_right}
 use Rattle.std.specs.List.{list_any}
 use Rattle.indexmap.specs.IndexSet.{insert_key}
 use Rattle.nk_values.specs.declared.packet.Packet.{Packet}
@@ -11,10 +11,11 @@ use Rattle.nk_values.proofs.LitLaws.{lit_eq-Decides}
 use Rattle.nk_values.proofs.MemberLaws.{in-left, in-right, in-either}
 use Rattle.fdd_nodes.specs.Cells.{IsFresh}
 use Rattle.fdd_nodes.specs.Names.{IsFew, literals}
-use Rattle.fdd_nodes.specs.Trees.{Tree, Leaf, Node, IsSetBy}
+use Rattle.fdd_nodes.specs.Trees.{Tree, Leaf, Node, IsSetBy, Assigns}
 use Rattle.fdd_nodes.proofs.NameLaws.{count_within, tests_literal, assigns_literal}
 use Rattle.fdd_differ.specs.Unnamed.{AreFewNames, IsFreshOf}
-use Rattle.fdd_star.specs.Named.{NamesLit, Gains, AreCovered, AreNamed, Covering, Covers}
+use Rattle.fdd_star.specs.declared.names.Names.{Names}
+use Rattle.fdd_star.specs.Named.{AddsNames, AreNamed, Covers, Gains, NamesLit}
 use Rattle.fdd_star.proofs.FieldLaws.{id_eq, same_id}
 use Rattle.fdd_store.specs.Stores.{Kept, tree_at}
 
@@ -26,6 +27,13 @@ found_in eq same q (k ∷ ks) h = elim (or_cases (eq q k) (list_any (eq q) ks) h
   | inl e ↦ inl (sym (same q k e))
   | inr n ↦ inr (found_in eq same q ks n)
 ]
+
+pub there_found : {K : Type 0} (eq : K → K → Bool) (itself : (x : K) → eq x x ≡ true) (q : K) (ks : List K) → IsIn ks q → list_any (eq q) ks ≡ true
+there_found eq itself q (k ∷ ks) h = elim h [
+  | inl e ↦ or_left (eq q k) (list_any (eq q) ks) (subst (λ x. eq q x ≡ true) (sym e) (itself q))
+  | inr n ↦ or_right (eq q k) (list_any (eq q) ks) (there_found eq itself q ks n)
+]
+there_found eq itself q [] h = absurd h
 
 module _ {K : Type 0} (eq : K → K → Bool) (same : (x y : K) → eq x y ≡ true → x ≡ y) (q : K) (ks : List K) where
   pub with_has : IsIn (insert_key eq ks q) q
@@ -117,57 +125,57 @@ gains_copy cs c ls ms ns g h = gains_as _ _ ls ns (λ m k. elim k [ inl w ↦ se
 
 -- diagrams that are gone through
 
-pub named_on : (k : Kept) (as' : List ℕ) (ls ms : List Lit) → ((m : Lit) → IsIn ls m → IsIn ms m) → AreNamed k as' ls → AreNamed k as' ms
-named_on k as' ls ms f h = λ a i m w. f m (h a i m w)
+named_more : (k : Kept) (a : ℕ) (old new : Names) → new.done.keys ≡ insert_key id_eq old.done.keys a → new.named.keys ≡ old.named.keys → new.assigned.keys ≡ old.assigned.keys → AreNamed k old → ((m : Lit) → NamesLit (tree_at k a) m → IsIn old.named.keys m) → Covers old.assigned.keys (tree_at k a) → AreNamed k new
+named_more k a old new e n s h f g = record {
+  named = λ b i m w. subst (λ (xs : List Lit). IsIn xs m) (sym n) (elim (gone b i) [ inl j ↦ h.named b j m w | inr y ↦ f m (subst (λ (x : ℕ). NamesLit (tree_at k x) m) (sym y) w) ]);
+  assigned = λ b i m w. subst (λ (xs : List Lit). IsIn xs m) (sym s) (elim (gone b i) [ inl j ↦ h.assigned b j m w | inr y ↦ g m (subst (λ (x : ℕ). Assigns (tree_at k x) m) (sym y) w) ]);
+}
+  where
+    gone : (b : ℕ) → IsIn new.done.keys b → IsIn old.done.keys b ⊎ (a ≡ b)
+    gone b i = with_only id_eq same_id a old.done.keys b (subst (λ (xs : List ℕ). IsIn xs b) e i)
 
-pub named_more : (k : Kept) (as' bs : List ℕ) (a : ℕ) (ls : List Lit) → bs ≡ insert_key id_eq as' a → AreNamed k as' ls → ((m : Lit) → NamesLit (tree_at k a) m → IsIn ls m) → AreNamed k bs ls
-named_more k as' bs a ls e h f = λ b i m w. elim (with_only id_eq same_id a as' b (subst (λ (xs : List ℕ). IsIn xs b) e i)) [
-  | inl j ↦ h b j m w
-  | inr s ↦ f m (subst (λ (x : ℕ). NamesLit (tree_at k x) m) (sym s) w)
-]
+-- where more literals are named, and as many diagrams were gone through
+named_on : (k : Kept) (old new : Names) → new.done.keys ≡ old.done.keys → ((m : Lit) → IsIn old.named.keys m → IsIn new.named.keys m) → ((m : Lit) → IsIn old.assigned.keys m → IsIn new.assigned.keys m) → AreNamed k old → AreNamed k new
+named_on k old new e f g h = record {
+  named = λ a i m w. f m (h.named a (subst (λ (xs : List ℕ). IsIn xs a) e i) m w);
+  assigned = λ a i m w. g m (h.assigned a (subst (λ (xs : List ℕ). IsIn xs a) e i) m w);
+}
 
-pub named_there : (k : Kept) (as' : List ℕ) (a : ℕ) (ls : List Lit) → list_any (id_eq a) as' ≡ true → AreNamed k as' ls → (m : Lit) → NamesLit (tree_at k a) m → IsIn ls m
-named_there k as' a ls e h = h a (found_in id_eq same_id a as' e)
+pub named_first : (k : Kept) (n : Names) → n.done.keys ≡ [] → AreNamed k n
+named_first k n e = record { named = λ a i. absurd (subst (λ (xs : List ℕ). IsIn xs a) e i); assigned = λ a i. absurd (subst (λ (xs : List ℕ). IsIn xs a) e i) }
 
-pub gained_as : (k : Kept) (P : Lit → Type 0) (as' bs : List ℕ) (ls ms ns : List Lit) → ns ≡ ms → bs ≡ as' → AreNamed k as' ms → Gains P ls ms → AreNamed k bs ns × Gains P ls ns
-gained_as k P as' bs ls ms ns e e' h g = (subst (λ (xs : List Lit). AreNamed k bs xs) (sym e) (subst (λ (xs : List ℕ). AreNamed k xs ms) (sym e') h), subst (Gains P ls) (sym e) g)
+pub named_test : (k : Kept) (l : Lit) (old new : Names) → new.named.keys ≡ insert_key lit_eq old.named.keys l → new.assigned.keys ≡ old.assigned.keys → new.done.keys ≡ old.done.keys → AreNamed k old → AreNamed k new
+named_test k l old new e s d h = named_on k old new d (gains_one l _ _ e).kept (λ m w. subst (λ (xs : List Lit). IsIn xs m) (sym s) w) h
 
--- what they assign
+pub adds_there : (k : Kept) (a : ℕ) (n : Names) → list_any (id_eq a) n.done.keys ≡ true → AreNamed k n → AddsNames k (tree_at k a) n n
+adds_there k a n e h =
+    let i = found_in id_eq same_id a n.done.keys e in
+    record { named = gains_none _ _ (h.named a i); assigned = gains_none _ _ (h.assigned a i); done = h }
 
-pub covering_there : (k : Kept) (as' : List ℕ) (a : ℕ) (ls : List Lit) → list_any (id_eq a) as' ≡ true → AreCovered k as' ls → Covering k a as' ls ls
-covering_there k as' a ls e h = record { kept = λ m w. w; covers = h a (found_in id_eq same_id a as' e); done = h }
+pub adds_leaf : (k : Kept) (t : Tree) (cs : List (List Lit)) (old new : Names) → t ≡ Leaf cs → Gains (IsSetBy cs) old.named.keys new.named.keys → Gains (IsSetBy cs) old.assigned.keys new.assigned.keys → new.done.keys ≡ old.done.keys → AreNamed k old → AddsNames k t old new
+adds_leaf k t cs old new e g h d w = record {
+  named = gains_leaf t cs _ _ e g;
+  assigned = subst (λ (x : Tree). Gains (Assigns x) old.assigned.keys new.assigned.keys) (sym e) h;
+  done = named_on k old new d g.kept h.kept w;
+}
 
-pub covering_leaf : (k : Kept) (as' : List ℕ) (a : ℕ) (cs : List (List Lit)) (ls ms : List Lit) → tree_at k a ≡ Leaf cs → Gains (IsSetBy cs) ls ms → AreCovered k as' ls → Covering k a as' ls ms
-covering_leaf k as' a cs ls ms e g h = record { kept = g.kept; covers = subst (Covers ms) (sym e) g.has; done = λ b i m w. g.kept m (h b i m w) }
-
-pub covering_fork : (k : Kept) (as' bs : List ℕ) (l : Lit) (a i j : ℕ) (ls ms ns : List Lit) → tree_at k a ≡ Node l (tree_at k i) (tree_at k j) → Covering k i as' ls ms → Covering k j bs ms ns → Covering k a bs ls ns
-covering_fork k as' bs l a i j ls ms ns e g h = record {
-  kept = λ m w. h.kept m (g.kept m w);
-  covers = subst (Covers ns) (sym e) (λ m w. elim w [ inl u ↦ h.kept m (g.covers m u) | inr u ↦ h.covers m u ]);
+pub adds_fork : (k : Kept) (l : Lit) (t x y : Tree) (old test mid new : Names) → t ≡ Node l x y → test.named.keys ≡ insert_key lit_eq old.named.keys l → test.assigned.keys ≡ old.assigned.keys → AddsNames k x test mid → AddsNames k y mid new → AddsNames k t old new
+adds_fork k l t x y old test mid new e i s g h = record {
+  named = subst (λ (z : Tree). Gains (NamesLit z) old.named.keys new.named.keys) (sym e) (gains_test l x y _ _ _ _ i g.named h.named);
+  assigned = subst (λ (z : Tree). Gains (Assigns z) old.assigned.keys new.assigned.keys) (sym e) (gains_on _ _ _ _ _ (subst (λ (xs : List Lit). Gains (Assigns x) xs mid.assigned.keys) s g.assigned) h.assigned);
   done = h.done;
 }
 
-pub covering_done : (k : Kept) (as' bs : List ℕ) (a : ℕ) (ls ms : List Lit) → bs ≡ insert_key id_eq as' a → Covering k a as' ls ms → Covering k a bs ls ms
-covering_done k as' bs a ls ms e h = record {
-  kept = h.kept;
-  covers = h.covers;
-  done = λ b i. elim (with_only id_eq same_id a as' b (subst (λ (xs : List ℕ). IsIn xs b) e i)) [ inl j ↦ h.done b j | inr s ↦ subst (λ (x : ℕ). Covers ms (tree_at k x)) s h.covers ];
+-- and it is gone through itself
+pub adds_done : (k : Kept) (a : ℕ) (old mid new : Names) → new.done.keys ≡ insert_key id_eq mid.done.keys a → new.named.keys ≡ mid.named.keys → new.assigned.keys ≡ mid.assigned.keys → AddsNames k (tree_at k a) old mid → AddsNames k (tree_at k a) old new
+adds_done k a old mid new e n s h = record {
+  named = subst (Gains (NamesLit (tree_at k a)) old.named.keys) (sym n) h.named;
+  assigned = subst (Gains (Assigns (tree_at k a)) old.assigned.keys) (sym s) h.assigned;
+  done = named_more k a mid new e n s h.done h.named.has h.assigned.has;
 }
 
-pub covering_as : (k : Kept) (as' bs : List ℕ) (a : ℕ) (ls ms ns : List Lit) → ns ≡ ms → bs ≡ as' → Covering k a as' ls ms → Covering k a bs ls ns
-covering_as k as' bs a ls ms ns e e' h = subst (λ (xs : List Lit). Covering k a bs ls xs) (sym e) (subst (λ (xs : List ℕ). Covering k a xs ls ms) (sym e') h)
-
 pub not_in : (ks : List Lit) (l : Lit) (b : Bool) → b ≡ list_any (lit_eq l) ks → not b ≡ true → ¬ IsIn ks l
-not_in [] l b e n h = h
-not_in (k ∷ ks) l true e n h = false≢true n
-not_in (k ∷ ks) l false e n h = elim h [
-  | inl s ↦ false≢true (e ∙ or_left (lit_eq l k) (list_any (lit_eq l) ks) ((lit_eq-Decides l k).1 (sym s)))
-  | inr w ↦ false≢true (e ∙ or_right (lit_eq l k) (list_any (lit_eq l) ks) (there ks w))
-]
-  where
-    there : (xs : List Lit) → IsIn xs l → list_any (lit_eq l) xs ≡ true
-    there [] i = absurd i
-    there (x ∷ xs) i = elim i [ inl s ↦ or_left (lit_eq l x) (list_any (lit_eq l) xs) ((lit_eq-Decides l x).1 (sym s)) | inr w ↦ or_right (lit_eq l x) (list_any (lit_eq l) xs) (there xs w) ]
+not_in ks l b e n h = false≢true (sym (not-true b n) ∙ e ∙ there_found lit_eq (λ x. (lit_eq-Decides x x).1 refl) l ks h)
 
 -- a packet that holds none of the names
 

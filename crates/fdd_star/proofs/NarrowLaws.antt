@@ -1,6 +1,7 @@
 -- Diagrams that are narrowed to what the turns from a cell can meet.
 use Rattle.std.specs.Prelude.{Result, Ok, Err, IfOk}
-use Rattle.std.proofs.Common.{◌≡◌, inl, inr, refl, sym, subst, arith, List, [], ◌∷◌, ◌++◌, length}
+use Rattle.std.proofs.Common.{◌≡◌, ℕ, inl, inr, refl, sym, subst, arith, rules, Bool, true, false, not, List, [], ◌∷◌, ◌++◌, length}
+use Rattle.std.proofs.lemmas.Bool.{not-false}
 use Rattle.std.proofs.lemmas.Bool.Decides.{eqb_tells}
 use Rattle.nk_values.specs.declared.packet.Packet.{Packet}
 use Rattle.nk_values.specs.declared.lit.Lit.{Lit}
@@ -8,22 +9,27 @@ use Rattle.nk_values.specs.Held.{Holds, put}
 use Rattle.nk_values.specs.Lits.{lit_field, lit_value}
 use Rattle.nk_values.specs.Members.{IsIn}
 use Rattle.nk_values.specs.Packets.{get}
-use Rattle.nk_values.proofs.MemberLaws.{in-right, in-either}
+use Rattle.nk_values.proofs.MemberLaws.{in-left, in-right, in-either}
 use Rattle.fdd_nodes.specs.Cells.{Agrees, IsOpen}
-use Rattle.fdd_nodes.specs.Known.{Bars}
+use Rattle.fdd_nodes.specs.Known.{Knows}
+use Rattle.fdd_nodes.specs.contracts.cell.KnownPartialEq.TheImpl as known_impl
+use Rattle.fdd_nodes.specs.declared.cell.Known.{Known}
+use Rattle.fdd_nodes.specs.declared.cell.Known.TheVariants.{No, Yes}
 use Rattle.fdd_nodes.specs.Names.{IsFew}
 use Rattle.fdd_nodes.specs.Trees.{Tree, Node, outcomes, answers, SameAnswers}
 use Rattle.fdd_nodes.proofs.SplitLaws.{leaf_at-then, leaf_at-else}
 use Rattle.fdd_star.specs.Cells.{Among, IsClosed}
-use Rattle.fdd_star.specs.Narrow.{AreSides, IsNarrowed, IsOn}
+use Rattle.fdd_star.specs.Narrow.{AreBut, IsAt, IsNarrowed, IsOn}
 use Rattle.fdd_star.specs.Reaches.{IsNamedBy, StarBut}
 use Rattle.fdd_star.specs.Stars.{IsDeep}
-use Rattle.fdd_star.proofs.LeadLaws.{among_more, holds_in, barred_in}
+use Rattle.fdd_star.proofs.LeadLaws.{holds_in, barred_in}
 use Rattle.fdd_star.proofs.FieldLaws.{agrees_holds, agrees_out, holds_on, turns_to, turns_from, Held}
 use Rattle.fdd_star.proofs.StarLaws.{choice_few}
 use Rattle.fdd_star.proofs.TurnLaws.{in_same}
 use Rattle.fdd_store.specs.Entries.{SetsField}
 use Rattle.fdd_store.specs.Operations.{ChoiceOf, CofactorOf}
+use Rattle.fdd_store.specs.Stores.{Kept, Has, Grows, tree_at}
+use Rattle.fdd_store.proofs.StoreLaws.{has_grown, tree_grown}
 
 -- what a diagram names
 
@@ -89,37 +95,37 @@ same_on g h = record { front = λ x k. h.front x (g.front x k); back = λ x k. g
 same_as : (xs : List Packet) (pk : Packet) {cs ds : List (List Lit)} → cs ≡ ds → SameAnswers xs (outcomes ds pk) → SameAnswers xs (outcomes cs pk)
 same_as xs pk e h = subst (λ (ys : List (List Lit)). SameAnswers xs (outcomes ys pk)) (sym e) h
 
--- cells whose packets hold a literal, and do not
+abbrev pub known_eq : Known → Known → Bool
+known_eq = known_impl.eq-value.it
 
-last_cell : (cs : List Packet) (c pk : Packet) → Agrees c pk → Among (cs ++ c ∷ []) pk
-last_cell cs c pk a = record { cell = c; there = in-right cs (c ∷ []) c (inl refl); agrees = a }
+same_known : (x y : Known) → known_eq x y ≡ true → x ≡ y
+same_known x y h = search rules
 
-among_either : {Q : Type 0} (cs : List Packet) (c pk : Packet) → (Among cs pk → Q) → (Agrees c pk → Q) → Among (cs ++ c ∷ []) pk → Q
-among_either cs c pk f g h = elim (in-either cs (c ∷ []) h.cell h.there) [
-  | inl i ↦ f (record { cell = h.cell; there = i; agrees = h.agrees })
-  | inr i ↦ elim i [ inl e ↦ g (subst (λ (x : Packet). Agrees x pk) (sym e) h.agrees) | inr n ↦ absurd n ]
-]
+-- the cells that do not know something of a literal, one by one
 
-pub sides_none : (l : Lit) → AreSides [] l [] []
-sides_none l = record { yes = λ pk h _. h; no = λ pk h _. h }
+pub but_none : (l : Lit) (known : Known) (ds : List Packet) → AreBut [] l known ds
+but_none l known ds = record { among = λ c h _. absurd h }
 
-pub sides_yes : (cs ys ns zs ms : List Packet) (c : Packet) (l : Lit) → Holds c l → zs ≡ ys ++ c ∷ [] → ms ≡ ns → AreSides cs l ys ns → AreSides (cs ++ c ∷ []) l zs ms
-sides_yes cs ys ns zs ms c l y e e' s = record {
-  yes = λ pk h k. subst (λ (xs : List Packet). Among xs pk) (sym e) (among_either cs c pk (λ w. among_more ys (c ∷ []) pk (s.yes pk w k)) (last_cell ys c pk) h);
-  no = λ pk h k. subst (λ (xs : List Packet). Among xs pk) (sym e') (among_either cs c pk (λ w. s.no pk w k) (λ a. absurd (k (holds_in c pk l a y))) h);
-}
+module _ (cs ds : List Packet) (c : Packet) (l : Lit) (known here : Known) (knows : Knows c l here) (h : AreBut cs l known ds) where
+  pub but_more : (es : List Packet) → es ≡ ds ++ c ∷ [] → AreBut (cs ++ c ∷ []) l known es
+  but_more es e = record {
+    among = λ d i n. in_same _ _ d (sym e) (elim (in-either cs (c ∷ []) d i) [ inl k ↦ in-left ds (c ∷ []) d (h.among d k n) | inr k ↦ in-right ds (c ∷ []) d k ]);
+  }
 
-pub sides_no : (cs ys ns zs ms : List Packet) (c : Packet) (l : Lit) → Bars c l → zs ≡ ys → ms ≡ ns ++ c ∷ [] → AreSides cs l ys ns → AreSides (cs ++ c ∷ []) l zs ms
-sides_no cs ys ns zs ms c l n e e' s = record {
-  yes = λ pk h k. subst (λ (xs : List Packet). Among xs pk) (sym e) (among_either cs c pk (λ w. s.yes pk w k) (λ a. absurd (barred_in c pk l a n k)) h);
-  no = λ pk h k. subst (λ (xs : List Packet). Among xs pk) (sym e') (among_either cs c pk (λ w. among_more ns (c ∷ []) pk (s.no pk w k)) (last_cell ns c pk) h);
-}
+  pub but_known : not (known_eq here known) ≡ false → AreBut (cs ++ c ∷ []) l known ds
+  but_known e = record {
+    among = λ d i n. elim (in-either cs (c ∷ []) d i) [
+      | inl k ↦ h.among d k n
+      | inr k ↦ elim k [ inl s ↦ absurd (n (subst (λ (x : Packet). Knows x l known) s (subst (Knows c l) (same_known here known (not-false (known_eq here known) e)) knows))) | inr o ↦ absurd o ]
+    ];
+  }
 
-pub sides_both : (cs ys ns zs ms : List Packet) (c : Packet) (l : Lit) → zs ≡ ys ++ c ∷ [] → ms ≡ ns ++ c ∷ [] → AreSides cs l ys ns → AreSides (cs ++ c ∷ []) l zs ms
-sides_both cs ys ns zs ms c l e e' s = record {
-  yes = λ pk h k. subst (λ (xs : List Packet). Among xs pk) (sym e) (among_either cs c pk (λ w. among_more ys (c ∷ []) pk (s.yes pk w k)) (last_cell ys c pk) h);
-  no = λ pk h k. subst (λ (xs : List Packet). Among xs pk) (sym e') (among_either cs c pk (λ w. among_more ns (c ∷ []) pk (s.no pk w k)) (last_cell ns c pk) h);
-}
+-- so they have the packets that hold the literal, or the others
+there_among : (cs ds : List Packet) (l : Lit) (pk : Packet) → AreBut cs l No ds → Holds pk l → Among cs pk → Among ds pk
+there_among cs ds l pk b y h = record { cell = h.cell; there = b.among h.cell h.there (λ n. barred_in h.cell pk l h.agrees n y); agrees = h.agrees }
+
+away_among : (cs ds : List Packet) (l : Lit) (pk : Packet) → AreBut cs l Yes ds → (¬ Holds pk l) → Among cs pk → Among ds pk
+away_among cs ds l pk b n h = record { cell = h.cell; there = b.among h.cell h.there (λ y. n (holds_in h.cell pk l h.agrees y)); agrees = h.agrees }
 
 -- a diagram on cells
 
@@ -135,40 +141,49 @@ none_in (c ∷ cs) e = absurd (omega (arith, e))
 
 -- the test goes where no cell has packets that come out one way
 
-pub on_else : (cs ys ns : List Packet) (l : Lit) (t e r : Tree) → ys ≡ [] → AreSides cs l ys ns → IsOn ns e r → IsOn cs (Node l t e) r
-on_else cs ys ns l t e r none s h = record {
-  same = λ pk k.
-      let n : ¬ Holds pk l = λ y. nowhere ys pk none (s.yes pk k y) in
-      same_as (answers r pk) pk (leaf_at-else l t e pk n) (h.same pk (s.no pk k n));
-  names = record { tests = λ m k. inr (inr (h.names.tests m k)); assigns = λ m k. inr (h.names.assigns m k) };
-}
+module _ (cs ys ns : List Packet) (l : Lit) (t e a : Tree) (is : a ≡ Node l t e) (there : AreBut cs l No ys) (away : AreBut cs l Yes ns) where
+  pub on_else : (r : Tree) → ys ≡ [] → IsOn ns e r → IsOn cs a r
+  on_else r none h = subst (λ (x : Tree). IsOn cs x r) (sym is) (record {
+    same = λ pk k.
+        let n : ¬ Holds pk l = λ y. nowhere ys pk none (there_among cs ys l pk there y k) in
+        same_as (answers r pk) pk (leaf_at-else l t e pk n) (h.same pk (away_among cs ns l pk away n k));
+    names = record { tests = λ m k. inr (inr (h.names.tests m k)); assigns = λ m k. inr (h.names.assigns m k) };
+  })
 
-pub on_then : (cs ys ns : List Packet) (l : Lit) (t e r : Tree) → ns ≡ [] → AreSides cs l ys ns → IsOn ys t r → IsOn cs (Node l t e) r
-on_then cs ys ns l t e r none s h = record {
-  same = λ pk k. elim (eqb_tells (get pk (lit_field l)) (lit_value l)) [
-    | inl y ↦ same_as (answers r pk) pk (leaf_at-then l t e pk y.1) (h.same pk (s.yes pk k y.1))
-    | inr n ↦ absurd (nowhere ns pk none (s.no pk k n.1))
-  ];
-  names = record { tests = λ m k. inr (inl (h.names.tests m k)); assigns = λ m k. inl (h.names.assigns m k) };
-}
+  pub on_then : (r : Tree) → ns ≡ [] → IsOn ys t r → IsOn cs a r
+  on_then r none h = subst (λ (x : Tree). IsOn cs x r) (sym is) (record {
+    same = λ pk k. elim (eqb_tells (get pk (lit_field l)) (lit_value l)) [
+      | inl y ↦ same_as (answers r pk) pk (leaf_at-then l t e pk y.1) (h.same pk (there_among cs ys l pk there y.1 k))
+      | inr n ↦ absurd (nowhere ns pk none (away_among cs ns l pk away n.1 k))
+    ];
+    names = record { tests = λ m k. inr (inl (h.names.tests m k)); assigns = λ m k. inl (h.names.assigns m k) };
+  })
 
-pub on_both : (cs ys ns : List Packet) (l : Lit) (t e a b r : Tree) → AreSides cs l ys ns → IsOn ys t a → IsOn ns e b → ChoiceOf l a b r → IsOn cs (Node l t e) r
-on_both cs ys ns l t e a b r s ha hb c = record {
-  same = λ pk k. elim (eqb_tells (get pk (lit_field l)) (lit_value l)) [
-    | inl y ↦ same_as (answers r pk) pk (leaf_at-then l t e pk y.1) (same_on (c.yes pk y.1) (ha.same pk (s.yes pk k y.1)))
-    | inr n ↦ same_as (answers r pk) pk (leaf_at-else l t e pk n.1) (same_on (c.no pk n.1) (hb.same pk (s.no pk k n.1)))
-  ];
-  names = record {
-    tests = λ m k. elim (c.tests m k) [ inl v ↦ inl v | inr v ↦ elim v [ inl w ↦ inr (inl (ha.names.tests m w)) | inr w ↦ inr (inr (hb.names.tests m w)) ] ];
-    assigns = λ m k. elim (c.assigns m k) [ inl w ↦ inl (ha.names.assigns m w) | inr w ↦ inr (hb.names.assigns m w) ];
-  };
-}
+  pub on_both : (x y r : Tree) → IsOn ys t x → IsOn ns e y → ChoiceOf l x y r → IsOn cs a r
+  on_both x y r hx hy c = subst (λ (z : Tree). IsOn cs z r) (sym is) (record {
+    same = λ pk k. elim (eqb_tells (get pk (lit_field l)) (lit_value l)) [
+      | inl h ↦ same_as (answers r pk) pk (leaf_at-then l t e pk h.1) (same_on (c.yes pk h.1) (hx.same pk (there_among cs ys l pk there h.1 k)))
+      | inr n ↦ same_as (answers r pk) pk (leaf_at-else l t e pk n.1) (same_on (c.no pk n.1) (hy.same pk (away_among cs ns l pk away n.1 k)))
+    ];
+    names = record {
+      tests = λ m k. elim (c.tests m k) [ inl v ↦ inl v | inr v ↦ elim v [ inl w ↦ inr (inl (hx.names.tests m w)) | inr w ↦ inr (inr (hy.names.tests m w)) ] ];
+      assigns = λ m k. elim (c.assigns m k) [ inl w ↦ inl (hx.names.assigns m w) | inr w ↦ inr (hy.names.assigns m w) ];
+    };
+  })
 
 -- the test over what is left of both branches names few values
 pub few_on : (cs ds : List Packet) (l : Lit) (t e a b : Tree) → IsFew (Node l t e) → IsOn cs t a → IsOn ds e b → IsFew (Node l a b)
 few_on cs ds l t e a b few ha hb = choice_few (Node l t e) l a b few (inl refl)
     (record { tests = λ m k. inr (inl (ha.names.tests m k)); assigns = λ m k. inl (ha.names.assigns m k) })
     (record { tests = λ m k. inr (inr (hb.names.tests m k)); assigns = λ m k. inr (hb.names.assigns m k) })
+
+-- diagrams of a store
+
+pub at_on : (k : Kept) (P Q : Tree → Type 0) → ((t : Tree) → P t → Q t) → (a : ℕ) → IsAt k P a → IsAt k Q a
+at_on k P Q f a h = record { has = h.has; is = f (tree_at k a) h.is }
+
+pub at_itself : (old new : Kept) (P : Tree → Tree → Type 0) (a : ℕ) → ((t : Tree) → P t t) → Grows old new → Has old a → IsAt new (P (tree_at old a)) a
+at_itself old new P a f g h = record { has = has_grown old new a g h; is = subst (P (tree_at old a)) (sym (tree_grown old new a g h)) (f (tree_at old a)) }
 
 pub ok_on : {X E : Type 0} (r : Result X E) (P Q : X → Type 0) → ((x : X) → P x → Q x) → IfOk r P → IfOk r Q
 ok_on (Ok x) P Q f h = f x h

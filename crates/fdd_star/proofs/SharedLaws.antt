@@ -1,6 +1,6 @@
 -- Parts that are kept for other literals, and literals that are missed.
 use Rattle.std.proofs.Common.{◌≡◌, ◌⊎◌, ◌<◌, ◌-◌, ℕ, arith, length, take, inl, inr, refl, sym, ap, ◌∙◌, subst, Bool, true, false, cond, not, List, [], ◌∷◌, ◌++◌}
-use Rattle.std.proofs.lemmas.Bool.{false≢true}
+use Rattle.std.proofs.lemmas.Bool.{not-false, not-true}
 use Rattle.std.proofs.lemmas.List.{append_assoc, append-nil, length-append}
 use Rattle.std.proofs.Math.Seq.{take-append_seam}
 use Rattle.std.specs.List.{list_any}
@@ -107,7 +107,7 @@ module _ (old asked ms ns rest more left : List Lit) (l : Lit) (took : rest ≡ 
 
   pub lists_new : (all : List Lit) → true ≡ not (list_any (lit_eq l) ms) → all ≡ left ++ l ∷ [] → Lists old asked ns more all
   lists_new all b e = record {
-    joined = keys ∙ by (list_any (lit_eq l) ms) b ∙ ap (λ (xs : List Lit). xs ++ l ∷ []) h.joined ∙ append_assoc old left (l ∷ []) ∙ ap (λ (xs : List Lit). old ++ xs) (sym e);
+    joined = keys ∙ ap (λ (c : Bool). cond c ms (ms ++ l ∷ [])) (not-true (list_any (lit_eq l) ms) (sym b)) ∙ ap (λ (xs : List Lit). xs ++ l ∷ []) h.joined ∙ append_assoc old left (l ∷ []) ∙ ap (λ (xs : List Lit). old ++ xs) (sym e);
     has = turned;
     only = λ m k. elim (in-either left (l ∷ []) m (subst (λ (xs : List Lit). IsIn xs m) e k)) [
       | inl w ↦ h.only m w
@@ -115,17 +115,9 @@ module _ (old asked ms ns rest more left : List Lit) (l : Lit) (took : rest ≡ 
     ];
     within = rests;
   }
-    where
-      by : (c : Bool) → true ≡ not c → cond c ms (ms ++ l ∷ []) ≡ ms ++ l ∷ []
-      by true e = absurd (false≢true (sym e))
-      by false e = refl
 
   pub lists_old : false ≡ not (list_any (lit_eq l) ms) → Lists old asked ns more left
-  lists_old b = record { joined = keys ∙ by (list_any (lit_eq l) ms) b ∙ h.joined; has = turned; only = h.only; within = rests }
-    where
-      by : (c : Bool) → false ≡ not c → cond c ms (ms ++ l ∷ []) ≡ ms
-      by true e = refl
-      by false e = absurd (false≢true e)
+  lists_old b = record { joined = keys ∙ ap (λ (c : Bool). cond c ms (ms ++ l ∷ [])) (not-false (list_any (lit_eq l) ms) (sym b)) ∙ h.joined; has = turned; only = h.only; within = rests }
 
 -- without the last one
 

@@ -29,13 +29,17 @@ pub record ComesTo (k : Kept) (t : Tree) (q : Packet) (r : ℕ) : Type 0 where
   pub has : Has k r
   pub is : tree_at k r ≡ Leaf (leaf_at t q)
 
+-- the place is the leaf on the packet's path, and new has what is asked on the way beside what old has
+pub record Walks (k : Kept) (t : Tree) (q : Packet) (old new : List Lit) (r : ℕ) : Type 0 where
+  pub leaf : ComesTo k t q r
+  pub asked : AsksMore t q old new
+
 -- the visit has the leaf on the packet's path, and what is asked on the way
-pub record IsVisitOf (k : Kept) (t : Tree) (q : Packet) (v : Visit) : Type 0 where
-  pub leaf : ComesTo k t q v.leaf
-  pub asked : AsksMore t q [] v.asked.items
+abbrev pub IsVisitOf : Kept → Tree → Packet → Visit → Type 0
+IsVisitOf k t q v = Walks k t q [] v.asked.items v.leaf
 
 abbrev pub IsVisitAt : Kept → Key → Visit → Type 0
-IsVisitAt k key v = Has k key.diagram × IsVisitOf k (tree_at k key.diagram) key.packet v
+IsVisitAt k key v = Has k key.diagram × IsVisitOf k (tree_at k key.diagram) key.cell v
 
 -- each visit is right for its diagram and packet
 pub record AreVisits (k : Kept) (v : Visits) : Type 0 where

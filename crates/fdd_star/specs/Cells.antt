@@ -4,7 +4,6 @@ use Rattle.nk_values.specs.declared.packet.Packet.{Packet}
 use Rattle.nk_values.specs.Members.{IsIn}
 use Rattle.fdd_nodes.specs.Cells.{Agrees}
 use Rattle.fdd_nodes.specs.Trees.{Tree, answers}
-use Rattle.fdd_star.specs.declared.cells.Cells.{Cells}
 use Rattle.fdd_store.specs.Stores.{Kept, tree_at}
 
 -- the packet is in one of the cells
@@ -26,12 +25,13 @@ pub record IsClosed (p : Tree) (c : Packet) (cs : List Packet) : Type 0 where
   pub first : IsIn cs c
   pub turn : (d : Packet) → IsIn cs d → Leads p d cs
 
--- the packets stand for the cells
-abbrev pub IsListed : Cells → Type 0
-IsListed r = r.packets.keys ≡ r.all.items
-
--- new has more cells behind those of old
-pub record Widens (old new : Cells) : Type 0 where
-  pub listed : IsListed new
+-- new has more cells behind those of old, among them those to which the diagram leads from the cell d
+pub record LeadsOn (t : Tree) (d : Packet) (old new : List Packet) : Type 0 where
   pub more : List Packet
-  pub joined : new.all.items ≡ old.all.items ++ more
+  pub joined : new ≡ old ++ more
+  pub leads : Leads t d new
+
+-- and those to which the diagrams of some places lead
+pub record AllLeadOn (k : Kept) (t : Tree) (d : Packet) (old new : List Packet) (as' : List ℕ) : Type 0 where
+  pub on : LeadsOn t d old new
+  pub done : AllLead k d as' new

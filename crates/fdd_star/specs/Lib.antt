@@ -5,6 +5,7 @@ pub mod Found
 pub mod Kept
 pub mod Named
 pub mod Narrow
+pub mod Parts
 pub mod Reaches
 pub mod Shared
 pub mod Stars

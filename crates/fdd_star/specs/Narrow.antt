@@ -2,12 +2,15 @@
 use Rattle.std.specs.Prelude.{ℕ, List}
 use Rattle.nk_values.specs.declared.packet.Packet.{Packet}
 use Rattle.nk_values.specs.declared.lit.Lit.{Lit}
-use Rattle.nk_values.specs.Held.{Holds}
+use Rattle.nk_values.specs.Members.{IsIn}
 use Rattle.fdd_nodes.specs.Cells.{Agrees}
+use Rattle.fdd_nodes.specs.declared.cell.Known.{Known}
+use Rattle.fdd_nodes.specs.Known.{Knows}
 use Rattle.fdd_nodes.specs.Trees.{Tree, answers, SameAnswers}
 use Rattle.fdd_star.specs.Cells.{Among}
 use Rattle.fdd_star.specs.Reaches.{IsNamedBy}
 use Rattle.fdd_star.specs.Stars.{Turns}
+use Rattle.fdd_store.specs.Stores.{Kept, Has, tree_at}
 
 -- r makes the turns of p from each packet of the cell c, and names only what p names
 pub record IsNarrowed (p : Tree) (c : Packet) (r : Tree) : Type 0 where
@@ -20,7 +23,11 @@ pub record IsOn (cs : List Packet) (t r : Tree) : Type 0 where
   pub same : (pk : Packet) → Among cs pk → SameAnswers (answers r pk) (answers t pk)
   pub names : IsNamedBy t r
 
--- the packets of the cells cs that hold l are in the cells ys, and those that do not in the cells ns
-pub record AreSides (cs : List Packet) (l : Lit) (ys ns : List Packet) : Type 0 where
-  pub yes : (pk : Packet) → Among cs pk → Holds pk l → Among ys pk
-  pub no : (pk : Packet) → Among cs pk → ¬ Holds pk l → Among ns pk
+-- of the cells cs those that do not know this of the literal are among ds
+pub record AreBut (cs : List Packet) (l : Lit) (known : Known) (ds : List Packet) : Type 0 where
+  pub among : (c : Packet) → IsIn cs c → ¬ Knows c l known → IsIn ds c
+
+-- the place is one of the store's, and its diagram has the property
+pub record IsAt (k : Kept) (P : Tree → Type 0) (a : ℕ) : Type 0 where
+  pub has : Has k a
+  pub is : P (tree_at k a)

@@ -18,9 +18,9 @@ copies_of r = r.copies.items
 abbrev pub asked_of : Reach → List Lit
 asked_of r = r.asked.keys
 
--- the packets are those that the copies make of the cell's packet
+-- the cells are those that the copies make of the cell
 abbrev pub IsTold : Packet → Reach → Type 0
-IsTold c r = r.packets.keys ≡ outcomes (copies_of r) c
+IsTold c r = r.cells.keys ≡ outcomes (copies_of r) c
 
 -- the cell's packet alone, and nothing was asked
 pub record Starts (c : Packet) (r : Reach) : Type 0 where
@@ -37,8 +37,8 @@ pub record AsksAll (ls : List Lit) (old new : Reach) : Type 0 where
 -- the packet was there, or it is last now, and so is the copy x
 pub record Notes (q : Packet) (x : List Lit) (old new : Reach) : Type 0 where
   pub asked : asked_of new ≡ asked_of old
-  pub which : (IsIn old.packets.keys q × (new.packets.keys ≡ old.packets.keys) × (copies_of new ≡ copies_of old))
-      ⊎ ((¬ IsIn old.packets.keys q) × (new.packets.keys ≡ old.packets.keys ++ q ∷ []) × (copies_of new ≡ copies_of old ++ x ∷ []))
+  pub which : (IsIn old.cells.keys q × (new.cells.keys ≡ old.cells.keys) × (copies_of new ≡ copies_of old))
+      ⊎ ((¬ IsIn old.cells.keys q) × (new.cells.keys ≡ old.cells.keys ++ q ∷ []) × (copies_of new ≡ copies_of old ++ x ∷ []))
 
 -- the copy y makes an answer to what the copy x makes, and has only literals of x and what is assigned
 pub record IsNext (p : Tree) (c : Packet) (x y : List Lit) : Type 0 where

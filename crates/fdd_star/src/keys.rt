@@ -1,10 +1,10 @@
-// By what stars and visits are kept.
+// By what visits are kept.
+use fdd_nodes::Cell;
 use fdd_store::Id;
-use nk_values::Packet;
 
-/// A diagram of a store, and the packet of a cell that comes to it.
+/// A diagram of a store, and the cell whose packet comes to it.
 #[derive(Clone, Copy, PartialEq, Eq, Hash)]
 pub(crate) struct Key {
     pub(crate) diagram: Id,
-    pub(crate) packet: Packet,
+    pub(crate) cell: Cell,
 }

@@ -6,6 +6,7 @@ mod fault;
 mod keys;
 mod names;
 mod narrow;
+mod parts;
 mod reach;
 mod repetition;
 mod shared;

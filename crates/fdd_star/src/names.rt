@@ -1,78 +1,69 @@
 // What a diagram of a store names.
-ghost use Rattle.std.specs.Prelude.{IfOk, OnOk};
+ghost use Rattle.std.specs.Prelude.{OnOk};
 ghost use Rattle.nk_values.specs.Members.{IsIn};
-ghost use Rattle.nk_values.specs.Packets.{IsInRange};
-ghost use Rattle.fdd_nodes.specs.Cells.{IsFresh};
-ghost use Rattle.fdd_nodes.specs.Names.{IsFew};
 ghost use Rattle.fdd_nodes.specs.Trees.{IsSetBy};
-ghost use Rattle.fdd_star.specs.Named.{AreCovered, AreNamed, Covering, Covers, Gains, NamesLit};
-ghost use Rattle.fdd_store.specs.Stores.{Has, tree_at};
+ghost use Rattle.fdd_star.specs.Named.{Gains};
 
-use fdd_differ::{Listed, unnamed};
 use fdd_nodes::Assignments;
 use fdd_store::{Id, Look, Store};
 use indexmap::IndexSet;
-use nk_values::{Lit, Packet};
+use nk_values::Lit;
 use std::alloc::{AllocError, Global};
 
 /// What is named by a diagram.
 #[derive(Drop)]
 pub(crate) struct Names {
-    /// A packet in range that has nothing which the diagram names.
-    pub(crate) other: Packet,
-    /// What the diagram assigns, and perhaps more.
+    /// What the diagram tests or assigns.
+    pub(crate) named: IndexSet<Lit>,
+    /// What it assigns.
     pub(crate) assigned: IndexSet<Lit>,
+    // The diagrams that were gone through.
+    done: IndexSet<Id>,
 }
 
-/// The names of a diagram.
-pub(crate) fn names_of(alloc: Global, store: &Store, p: Id) -> Result<Names, AllocError>
-    requires has { Has store.now p }
-    requires few { IsFew (tree_at store.now p) }
-    ensures range { IfOk result (λ n. IsInRange n.other) }
-    ensures fresh { IfOk result (λ n. IsFresh n.other (tree_at store.now p)) }
-    ensures assigned { IfOk result (λ n. Covers n.assigned.keys (tree_at store.now p)) }
-{
-    let mut names = IndexSet::new(alloc);
-    let mut assigned = IndexSet::new(alloc);
-    let mut done = IndexSet::new(alloc);
-    add_names(store, &mut names, &mut assigned, &mut done, p)?;
-    let other = unnamed(&Listed {
-        lits: names.as_slice(),
-    });
-    Ok(Names { other, assigned })
-}
+impl Names {
+    ghost use Rattle.std.specs.Prelude.{IfOk, OnOk};
+    ghost use Rattle.fdd_star.specs.Named.{AddsNames, AreNamed, HasNames};
+    ghost use Rattle.fdd_store.specs.Stores.{Has, tree_at};
 
-// Adds what a diagram names, and what it assigns. A shared one is gone through once.
-fn add_names(
-    store: &Store,
-    names: &mut IndexSet<Lit>,
-    assigned: &mut IndexSet<Lit>,
-    done: &mut IndexSet<Id>,
-    a: Id,
-) -> Result<(), AllocError>
-    requires has { Has store.now a }
-    requires done { AreNamed store.now done.old.keys names.old.keys }
-    requires covered { AreCovered store.now done.old.keys assigned.old.keys }
-    ensures done { OnOk result (AreNamed store.now done.new.keys names.new.keys) }
-    ensures names { OnOk result (Gains (NamesLit (tree_at store.now a)) names.old.keys names.new.keys) }
-    ensures assigned { OnOk result (Covering store.now a done.new.keys assigned.old.keys assigned.new.keys) }
-{
-    if done.contains(&a) {
-        return Ok(());
+    /// The names of a diagram.
+    pub(crate) fn of(alloc: Global, store: &Store, p: Id) -> Result<Names, AllocError>
+        requires { Has store.now p }
+        ensures { IfOk result (HasNames (tree_at store.now p)) }
+    {
+        let mut names = Names {
+            named: IndexSet::new(alloc),
+            assigned: IndexSet::new(alloc),
+            done: IndexSet::new(alloc),
+        };
+        names.add(store, p)?;
+        Ok(names)
     }
-    match store.look(a) {
-        Look::Leaf => {
-            add_copies(names, store.leaf(a).copies())?;
-            add_copies(assigned, store.leaf(a).copies())?;
+
+    // Adds the names of a diagram. A shared one is gone through once.
+    fn add(&mut self, store: &Store, a: Id) -> Result<(), AllocError>
+        requires has { Has store.now a }
+        requires done { AreNamed store.now self.old }
+        ensures { OnOk result (AddsNames store.now (tree_at store.now a) self.old self.new) }
+    {
+        if self.done.contains(&a) {
+            return Ok(());
         }
-        Look::Fork(l, yes, no) => {
-            names.insert(l)?;
-            add_names(store, names, assigned, done, yes)?;
-            add_names(store, names, assigned, done, no)?;
+        match store.look(a) {
+            Look::Leaf => {
+                let copies = store.leaf(a).copies();
+                add_copies(&mut self.named, copies)?;
+                add_copies(&mut self.assigned, copies)?;
+            }
+            Look::Fork(l, yes, no) => {
+                self.named.insert(l)?;
+                self.add(store, yes)?;
+                self.add(store, no)?;
+            }
         }
+        self.done.insert(a)?;
+        Ok(())
     }
-    done.insert(a)?;
-    Ok(())
 }
 
 fn add_copies(names: &mut IndexSet<Lit>, copies: &[Assignments]) -> Result<(), AllocError>

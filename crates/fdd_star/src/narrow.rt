@@ -1,12 +1,13 @@
 // Diagrams that are narrowed to what the turns from a cell can meet.
 ghost use Rattle.std.specs.Prelude.{IfOk};
 ghost use Rattle.fdd_nodes.specs.Names.{IsFew};
-ghost use Rattle.fdd_star.specs.Narrow.{AreSides, IsNarrowed, IsOn};
+ghost use Rattle.fdd_nodes.specs.declared.cell.Known.TheVariants.{No, Yes};
+ghost use Rattle.fdd_star.specs.Narrow.{AreBut, IsAt, IsNarrowed, IsOn};
 ghost use Rattle.fdd_store.specs.Looks.{Forked};
 ghost use Rattle.fdd_store.specs.Made.{IsMade};
 ghost use Rattle.fdd_store.specs.Stores.{Has, Grows, tree_at};
 
-use crate::cells::Cells;
+use crate::cells::add_led_to;
 use crate::shared::is_shared;
 use fdd_nodes::{Cell, Known};
 use fdd_store::{Id, Look, Store};
@@ -29,10 +30,9 @@ pub(crate) fn narrowed(
     requires has { Has store.old p }
     requires few { IsFew (tree_at store.old p) }
     ensures grows { Grows store.old store.new }
-    ensures has { IfOk result (Has store.new) }
-    ensures narrowed { IfOk result (λ r. IsNarrowed (tree_at store.old p) cell.now (tree_at store.new r)) }
+    ensures body { IfOk result (IsAt store.new (IsNarrowed (tree_at store.old p) cell.now)) }
 {
-    if *cell.generic() == *Cell::open().generic() {
+    if asked.len() < 2 || *cell == Cell::open() {
         return Ok(p);
     }
     let many = parts(alloc, store, assigned, p, asked)?;
@@ -58,12 +58,13 @@ fn on_reached(
     requires has { Has store.old p }
     requires few { IsFew (tree_at store.old p) }
     ensures grows { Grows store.old store.new }
-    ensures has { IfOk result (Has store.new) }
-    ensures narrowed { IfOk result (λ r. IsNarrowed (tree_at store.old p) cell.now (tree_at store.new r)) }
+    ensures body { IfOk result (IsAt store.new (IsNarrowed (tree_at store.old p) cell.now)) }
 {
-    match Cells::led_to(alloc, store, allowance, p, cell)? {
-        None => Ok(p),
-        Some(cells) => on_cells(alloc, store, p, &cells.all),
+    let mut cells = IndexSet::new(alloc);
+    if add_led_to(alloc, store, allowance, &mut cells, p, cell)? {
+        on_cells(alloc, store, p, cells.as_slice())
+    } else {
+        Ok(p)
     }
 }
 
@@ -97,8 +98,7 @@ fn on_cells(alloc: Global, store: &mut Store, a: Id, cells: &[Cell]) -> Result<I
     requires has { Has store.old a }
     requires few { IsFew (tree_at store.old a) }
     ensures grows { Grows store.old store.new }
-    ensures has { IfOk result (Has store.new) }
-    ensures on { IfOk result (λ r. IsOn cells.now (tree_at store.old a) (tree_at store.new r)) }
+    ensures on { IfOk result (IsAt store.new (IsOn cells.now (tree_at store.old a))) }
 {
     if cells.is_empty() {
         return Ok(a);
@@ -106,13 +106,15 @@ fn on_cells(alloc: Global, store: &mut Store, a: Id, cells: &[Cell]) -> Result<I
     match store.look(a) {
         Look::Leaf => Ok(a),
         Look::Fork(l, yes, no) => {
-            let sides = sides_of(alloc, cells, &l)?;
-            on_sides(alloc, store, a, l, yes, no, cells, &sides)
+            let there = cells_but(alloc, cells, &l, Known::No)?;
+            let away = cells_but(alloc, cells, &l, Known::Yes)?;
+            on_sides(alloc, store, a, l, yes, no, cells, &there, &away)
         }
     }
 }
 
-// The same of a test: it goes where no cell has packets on one of its sides, and stays where all are on both.
+// The same of a test, by the cells that have packets which hold it and those that have others: it goes where one of them
+// has none, and stays where both have all.
 #[cycle(on_cells)]
 fn on_sides(
     alloc: Global,
@@ -122,52 +124,41 @@ fn on_sides(
     yes: Id,
     no: Id,
     cells: &[Cell],
-    sides: &Sides,
+    there: &[Cell],
+    away: &[Cell],
 ) -> Result<Id, AllocError>
     requires fork { Forked store.old l yes no (tree_at store.old a) }
     requires has { Has store.old a }
     requires made { IsMade (tree_at store.old a) }
     requires few { IsFew (tree_at store.old a) }
-    requires sides { AreSides cells.now l sides.now.yes.items sides.now.no.items }
+    requires there { AreBut cells.now l No there.now }
+    requires away { AreBut cells.now l Yes away.now }
     ensures grows { Grows store.old store.new }
-    ensures has { IfOk result (Has store.new) }
-    ensures on { IfOk result (λ r. IsOn cells.now (tree_at store.old a) (tree_at store.new r)) }
+    ensures on { IfOk result (IsAt store.new (IsOn cells.now (tree_at store.old a))) }
 {
-    if sides.no.is_empty() {
-        return on_cells(alloc, store, yes, &sides.yes);
+    if away.is_empty() {
+        return on_cells(alloc, store, yes, there);
     }
-    if sides.yes.is_empty() {
-        return on_cells(alloc, store, no, &sides.no);
+    if there.is_empty() {
+        return on_cells(alloc, store, no, away);
     }
-    if sides.yes.len() == cells.len() && sides.no.len() == cells.len() {
+    if there.len() == cells.len() && away.len() == cells.len() {
         return Ok(a);
     }
-    let part = on_cells(alloc, store, yes, &sides.yes)?;
-    let rest = on_cells(alloc, store, no, &sides.no)?;
+    let part = on_cells(alloc, store, yes, there)?;
+    let rest = on_cells(alloc, store, no, away)?;
     store.choice(alloc, l, part, rest)
 }
 
-// Cells with packets that hold a literal, and those with packets that do not.
-#[derive(Drop)]
-struct Sides {
-    yes: Vec<Cell>,
-    no: Vec<Cell>,
-}
-
-fn sides_of(alloc: Global, cells: &[Cell], l: &Lit) -> Result<Sides, AllocError>
-    ensures { IfOk result (λ s. AreSides cells.now l.now s.yes.items s.no.items) }
+// The cells of some that do not know this of a literal.
+fn cells_but(alloc: Global, cells: &[Cell], l: &Lit, known: Known) -> Result<Vec<Cell>, AllocError>
+    ensures { IfOk result (λ r. AreBut cells.now l.now known r.items) }
 {
-    let mut yes = Vec::new(alloc);
-    let mut no = Vec::new(alloc);
+    let mut left = Vec::new(alloc);
     for cell in cells {
-        match cell.knows(l) {
-            Known::Yes => yes.push(*cell)?,
-            Known::No => no.push(*cell)?,
-            Known::Open => {
-                yes.push(*cell)?;
-                no.push(*cell)?;
-            }
+        if cell.knows(l) != known {
+            left.push(*cell)?;
         }
     }
-    Ok(Sides { yes, no })
+    Ok(left)
 }

@@ -8,11 +8,11 @@ use nk_values::{Lit, Packet};
 use std::alloc::{AllocError, Global};
 use std::collections::BTreeSet;
 
-/// The packets that are reached, each once and in the order of turns, with a copy that makes each of the cell's packet;
+/// The cells that are reached, each once and in the order of turns, with a copy that makes each of the first;
 /// and the tests that were asked on the way at fields which nothing fixes.
 #[derive(Drop)]
 pub(crate) struct Reach {
-    packets: IndexSet<Packet>,
+    cells: IndexSet<Cell>,
     pub(crate) copies: Vec<Assignments>,
     pub(crate) asked: BTreeSet<Lit>,
 }
@@ -71,15 +71,14 @@ impl Reach {
     fn start(alloc: Global, cell: &Cell) -> Result<Reach, AllocError>
         ensures { IfOk result (λ r. Starts cell.now r) }
     {
-        let mut packets = IndexSet::new(alloc);
-        packets.insert(*cell.generic())?;
-        let mut copies = Vec::new(alloc);
-        copies.push(Assignments::none(alloc))?;
-        Ok(Reach {
-            packets,
-            copies,
+        let mut all = Reach {
+            cells: IndexSet::new(alloc),
+            copies: Vec::new(alloc),
             asked: BTreeSet::new(alloc),
-        })
+        };
+        all.cells.insert(*cell)?;
+        all.copies.push(Assignments::none(alloc))?;
+        Ok(all)
     }
 
     // One turn more for the copies from a place on.
@@ -148,7 +147,7 @@ impl Reach {
         let here = cell.after(copy);
         self.note(&visit.asked)?;
         for next in store.leaf(visit.leaf).copies() {
-            self.add(alloc, *here.after(next).generic(), copy, next)?;
+            self.add(alloc, here.after(next), copy, next)?;
         }
         Ok(())
     }
@@ -156,7 +155,7 @@ impl Reach {
     // Notes tests that were asked.
     fn note(&mut self, asked: &[Lit]) -> Result<(), AllocError>
         ensures asked { OnOk result (AsksAll asked.now self.old self.new) }
-        ensures packets { self.new.packets ≡ self.old.packets }
+        ensures cells { self.new.cells ≡ self.old.cells }
         ensures copies { self.new.copies ≡ self.old.copies }
     {
         for l in asked {
@@ -165,17 +164,17 @@ impl Reach {
         Ok(())
     }
 
-    // Adds a packet that is made by one copy after another, where it is not there.
+    // Adds a cell that is made by one copy after another, where it is not there.
     fn add(
         &mut self,
         alloc: Global,
-        packet: Packet,
+        cell: Cell,
         copy: &Assignments,
         next: &Assignments,
     ) -> Result<(), AllocError>
-        ensures { OnOk result (Notes packet (after copy.now next.now) self.old self.new) }
+        ensures { OnOk result (Notes cell (after copy.now next.now) self.old self.new) }
     {
-        if self.packets.insert(packet)? {
+        if self.cells.insert(cell)? {
             self.copies.push(copy.followed_by(alloc, next)?)?;
         }
         Ok(())

@@ -1,34 +1,31 @@
 // The star of a diagram, cell by cell.
-ghost use Rattle.std.specs.Prelude.{◌≡◌, MatchResult, IfOk, OnOk};
+ghost use Rattle.std.specs.Prelude.{◌≡◌, MatchResult, OnOk};
 ghost use Rattle.nk_values.specs.Held.{put};
 ghost use Rattle.nk_values.specs.Lits.{lit_field};
-ghost use Rattle.nk_values.specs.Members.{SameMembers};
 ghost use Rattle.nk_values.specs.declared.packet.Packet.{Packet};
 ghost use Rattle.nk_values.specs.Packets.{IsInRange};
 ghost use Rattle.fdd_nodes.specs.Cells.{IsFresh, IsOpen, IsValid};
 ghost use Rattle.fdd_nodes.specs.Names.{IsFew};
 ghost use Rattle.fdd_star.specs.Faults.{IsErrorIn};
-ghost use Rattle.fdd_star.specs.Found.{AreFound};
+ghost use Rattle.fdd_star.specs.Found.{AreFound, IsPart};
 ghost use Rattle.fdd_star.specs.Named.{Covers};
 ghost use Rattle.fdd_star.specs.Narrow.{IsNarrowed};
-ghost use Rattle.fdd_star.specs.Reaches.{StarBut};
-ghost use Rattle.fdd_star.specs.Shared.{AreShared, IsLeft};
+ghost use Rattle.fdd_star.specs.Shared.{AreShared};
 ghost use Rattle.fdd_star.specs.Stars.{StarOf, IsErrorOf, IsShallow};
 ghost use Rattle.fdd_store.specs.Operations.{CofactorOf};
 ghost use Rattle.fdd_store.specs.Stores.{Has, Kept, Grows, Gives, tree_at};
 
 use crate::fault::StarError;
-use crate::names::{Names, names_of};
-use crate::narrow::narrowed;
-use crate::reach::Reach;
+use crate::names::Names;
+use crate::parts::Parts;
 use crate::shared::{Shared, is_shared};
 use crate::visits::Visits;
-use fdd_nodes::{Assignments, Cell, Leaf};
+use fdd_differ::{Listed, unnamed};
+use fdd_nodes::Cell;
 use fdd_store::{Id, Store};
 use indexmap::IndexSet;
 use nk_values::{Lit, Packet};
-use std::alloc::{AllocError, Global};
-use std::collections::BTreeSet;
+use std::alloc::Global;
 
 // How many places of diagrams may be gone through to narrow bodies, besides one for each four copies that were found.
 const FIRST_ALLOWANCE: usize = 1_048_576;
@@ -38,7 +35,7 @@ const FIRST_ALLOWANCE: usize = 1_048_576;
 #[derive(Drop)]
 pub(crate) struct Found {
     pub(crate) visits: Visits,
-    allowance: usize,
+    pub(crate) allowance: usize,
 }
 
 impl Found {
@@ -67,7 +64,10 @@ pub fn star(alloc: Global, store: &mut Store, p: Id) -> Result<Id, StarError>
     ensures star { MatchResult result (λ r. Gives store.new r (StarOf (tree_at store.old p))) (λ e. IsErrorOf (tree_at store.old p) e) }
     ensures never_deep { OnOk result (IsShallow (tree_at store.old p)) }
 {
-    let Names { other, assigned } = names_of(alloc, store, p)?;
+    let names = Names::of(alloc, store, p)?;
+    let other = unnamed(&Listed {
+        lits: names.named.as_slice(),
+    });
     let mut found = Found::new(alloc);
     let mut missed = IndexSet::new(alloc);
     let cell = Cell::open();
@@ -77,7 +77,7 @@ pub fn star(alloc: Global, store: &mut Store, p: Id) -> Result<Id, StarError>
         &mut found,
         &mut missed,
         &other,
-        &assigned,
+        &names.assigned,
         p,
         &cell,
     )
@@ -103,52 +103,27 @@ fn part_in(
     requires fresh { IsFresh other.now (tree_at store.old p) }
     requires assigned { Covers assigned.now.keys (tree_at store.old p) }
     ensures grows { Grows store.old store.new }
-    ensures found { OnOk result (AreFound store.new found.new) }
-    ensures missed { OnOk result (missed.new.keys ≡ missed.old.keys) }
-    ensures star { MatchResult result (λ r. Gives store.new r (StarBut (tree_at store.old p) cell.now missed.old.keys)) (λ e. IsErrorIn (tree_at store.old p) cell.now other.now e) }
+    ensures part { MatchResult result (IsPart store.new (tree_at store.old p) cell.now missed.old.keys found.new missed.new.keys) (λ e. IsErrorIn (tree_at store.old p) cell.now other.now e) }
 {
-    let Reach { copies, asked, .. } = Reach::of(alloc, store, &mut found.visits, other, p, cell)?;
-    found.allowance = found.allowance.saturating_add(copies.len() / 4);
-    let mut left = left_of(alloc, missed, asked)?;
-    let body = narrowed(alloc, store, &mut found.allowance, assigned, p, cell, &left)?;
-    let leaf = gathered(alloc, copies)?;
-    let mut all = store.put_leaf(alloc, leaf)?;
-    let mut shared = Shared::new(alloc);
-    while let Some(l) = left.pop() {
+    let mut parts = Parts::of(alloc, store, found, missed, other, assigned, p, cell)?;
+    while let Some(l) = parts.left.pop() {
         missed.truncate(missed.len().saturating_sub(1));
-        shared.move_to(l.field());
+        parts.shared.move_to(l.field());
         let part = part_of(
             alloc,
             store,
             found,
             missed,
-            &mut shared,
+            &mut parts.shared,
             other,
             assigned,
-            body,
+            parts.body,
             cell,
             &l,
         )?;
-        all = store.choice(alloc, l, part, all)?;
+        parts.all = store.choice(alloc, l, part, parts.all)?;
     }
-    Ok(all)
-}
-
-// Adds the tests that were asked to those that are missed, and lists the ones that were not there.
-fn left_of(
-    alloc: Global,
-    missed: &mut IndexSet<Lit>,
-    mut asked: BTreeSet<Lit>,
-) -> Result<Vec<Lit>, AllocError>
-    ensures { IfOk result (λ r. IsLeft missed.old.keys asked.keys missed.new.keys r.items) }
-{
-    let mut left = Vec::new(alloc);
-    while let Some(l) = asked.pop_first() {
-        if missed.insert(l)? {
-            left.push(l)?;
-        }
-    }
-    Ok(left)
+    Ok(parts.all)
 }
 
 // The star where a literal holds of a field that the cell leaves open: that of a literal of which the body leaves the same,
@@ -177,10 +152,8 @@ fn part_of(
     requires assigned { Covers assigned.now.keys (tree_at store.old body) }
     requires is_open { IsOpen cell.now (lit_field l.now) }
     ensures grows { Grows store.old store.new }
-    ensures found { OnOk result (AreFound store.new found.new) }
-    ensures missed { OnOk result (missed.new.keys ≡ missed.old.keys) }
+    ensures part { MatchResult result (IsPart store.new (tree_at store.old body) (put l.now cell.now) missed.old.keys found.new missed.new.keys) (λ e. IsErrorIn (tree_at store.old body) (put l.now cell.now) other.now e) }
     ensures shared { OnOk result (AreShared store.new (tree_at store.old body) cell.now missed.old.keys shared.new) }
-    ensures star { MatchResult result (λ r. Gives store.new r (StarBut (tree_at store.old body) (put l.now cell.now) missed.old.keys)) (λ e. IsErrorIn (tree_at store.old body) (put l.now cell.now) other.now e) }
 {
     let left = store.cofactor(alloc, body, *l)?;
     if let Some(part) = shared.parts.get(&left) {
@@ -217,16 +190,4 @@ fn inner_of(store: &Store, body: Id, left: Id, l: &Lit) -> Id
     } else {
         left
     }
-}
-
-// The leaf of some copies. They are sorted first, since it takes little time where they rise.
-fn gathered(alloc: Global, mut copies: Vec<Assignments>) -> Result<Leaf, AllocError>
-    ensures { IfOk result (λ r. SameMembers r copies.items) }
-{
-    copies.sort_unstable();
-    let mut leaf = Leaf::empty(alloc);
-    for copy in copies {
-        leaf.put(copy)?;
-    }
-    Ok(leaf)
 }

@@ -7,29 +7,19 @@ ghost use Rattle.fdd_store.specs.Stores.{Has, tree_at};
 use fdd_store::{Id, Store};
 use indexmap::{IndexMap, IndexSet};
 use nk_values::{Field, Lit};
-use std::alloc::{AllocError, Global};
+use std::alloc::AllocError;
 
 /// The stars where literals of one field hold, by what these leave of a body: its cofactors.
 #[derive(Drop)]
 pub(crate) struct Shared {
-    field: Field,
+    pub(crate) field: Field,
     pub(crate) parts: IndexMap<Id, Id>,
 }
 
 impl Shared {
-    ghost use Rattle.std.specs.Prelude.{◌≡◌, [], OnOk};
+    ghost use Rattle.std.specs.Prelude.{◌≡◌, OnOk};
     ghost use Rattle.indexmap.specs.IndexMap.{insert_entry};
     ghost use Rattle.fdd_star.specs.Shared.{MovesTo, id_eq};
-
-    /// None yet.
-    pub(crate) fn new(alloc: Global) -> Shared
-        ensures { result.parts.entries ≡ [] }
-    {
-        Shared {
-            field: Field::Sw,
-            parts: IndexMap::new(alloc),
-        }
-    }
 
     /// Moves on to a field, and forgets the parts of another one.
     pub(crate) fn move_to(&mut self, field: Field)

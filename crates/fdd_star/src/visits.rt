@@ -1,7 +1,6 @@
 // Where packets come to in a diagram.
-ghost use Rattle.std.specs.Prelude.{◌≡◌, IfOk, OnOk};
-ghost use Rattle.fdd_nodes.specs.Trees.{Leaf, leaf_at};
-ghost use Rattle.fdd_star.specs.Asks.{AsksMore, ComesTo, IsVisitOf};
+ghost use Rattle.std.specs.Prelude.{IfOk, OnOk};
+ghost use Rattle.fdd_star.specs.Asks.{IsVisitOf, Walks};
 ghost use Rattle.fdd_store.specs.Stores.{Has, Kept, tree_at};
 
 use crate::keys::Key;
@@ -46,7 +45,7 @@ impl Visits {
     {
         self.known.get(&Key {
             diagram,
-            packet: *here.generic(),
+            cell: *here,
         })
     }
 
@@ -59,7 +58,7 @@ impl Visits {
         }
         let key = Key {
             diagram,
-            packet: *here.generic(),
+            cell: *here,
         };
         self.known.insert(key, visit)?;
         Ok(())
@@ -83,9 +82,8 @@ pub(crate) fn visit_of(
 
 // The leaf on the path of a cell's packet. Notes the tests of fields that the cell leaves open.
 fn walk(store: &Store, a: Id, here: &Cell, asked: &mut Vec<Lit>) -> Result<Id, AllocError>
-    requires has { Has store.now a }
-    ensures leaf { IfOk result (ComesTo store.now (tree_at store.now a) here.now) }
-    ensures asked { OnOk result (AsksMore (tree_at store.now a) here.now asked.old.items asked.new.items) }
+    requires { Has store.now a }
+    ensures { IfOk result (Walks store.now (tree_at store.now a) here.now asked.old.items asked.new.items) }
 {
     match store.look(a) {
         Look::Leaf => Ok(a),

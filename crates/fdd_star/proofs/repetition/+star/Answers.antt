@@ -1,5 +1,7 @@
 use Rattle.std.specs.Prelude.{IfSome}
-use Rattle.std.proofs.Common.{Bor, Option, ℕ, inl, refl, rules, List, [], ◌∷◌, sym, ap, subst, arith, ◌∙◌}
+use Rattle.std.proofs.Common.{Bor, Option, ℕ, inl, refl, rules, List, [], ◌∷◌, ◌++◌, length, length-append, sym, ap, subst, arith, ◌∙◌}
+use Rattle.std.proofs.lemmas.Bool.{false≢true}
+use Rattle.std.proofs.lemmas.List.{append-nil}
 use Rattle.nk_values.specs.declared.field.Field.{Field}
 use Rattle.nk_values.specs.declared.lit.Lit.{Lit}
 use Rattle.nk_values.specs.declared.packet.Packet.{Packet}
@@ -17,12 +19,12 @@ use Rattle.fdd_star.specs.Narrow.{IsNarrowed}
 use Rattle.fdd_star.specs.Reaches.{StarBut}
 use Rattle.fdd_star.specs.Shared.{AreShared, IsShared, MovesTo}
 use Rattle.fdd_star.proofs.FaultLaws.{fault_narrowed, fault_within, fresh_within}
-use Rattle.fdd_star.proofs.FoundLaws.{found_grown, visits_grown, stays, stayed}
+use Rattle.fdd_star.proofs.FoundLaws.{found_grown, stays, stayed}
 use Rattle.fdd_star.proofs.KeptLaws.{found_right}
 use Rattle.fdd_star.proofs.NarrowLaws.{narrowed_within, star_narrowed}
 use Rattle.fdd_star.proofs.FieldLaws.{id_eq, same_id}
-use Rattle.fdd_star.proofs.SharedLaws.{shared_grown, shared_kept, shared_none, shared_of, shared_moved, took_last}
-use Rattle.fdd_star.proofs.StarLaws.{choice_few, few_within, star_as, star_leaf, star_more}
+use Rattle.fdd_star.proofs.SharedLaws.{none_left, shared_grown, shared_kept, shared_of, shared_moved, took_last}
+use Rattle.fdd_star.proofs.StarLaws.{choice_few, few_within, star_more}
 use Rattle.fdd_star.proofs.TurnLaws.{in_same}
 use Rattle.fdd_store.specs.Operations.{CofactorOf, LeavesOut}
 use Rattle.fdd_store.specs.Stores.{Gives, tree_at}
@@ -31,101 +33,108 @@ use Rattle.fdd_star.proofs.repetition.+star.Goals as goal
 use Rattle.fdd_star.proofs.repetition.+star.Goals.{part_of-then-is_shared+in_ok-keep, part_of-else-is_shared}
 
 pub part_in-loop-l-init : goal.part_in-loop-l-init
-part_in-loop-l-init t c =
-    let p = tree_at c.args.store.now c.args.p in
-    let reach = c.in_ok-copies.ensures.reach in
-    let left = c.in_ok-left.ensures in
-    let grown = grows_on _ _ _ c.in_ok-body.ensures.grows c.in_ok-all.ensures.grows in (
-      gives_as _ _ _ _ (λ x e. subst (StarBut p c.args.cell.now c.left_of.new.missed.keys) (sym e) (star_as p c.args.cell.now _ _ _ (λ m i _. left.has m i) (star_leaf _ _ _ _ reach c.in_ok-leaf.ensures))) c.in_ok-all.ensures.place,
-      left.joined,
-      (λ m k. (reach.is_open m (left.only m k), reach.tests m (left.only m k))),
-      record { visits = visits_grown _ _ _ grown c.in_ok-copies.ensures.visits },
-      grown,
-      has_grown _ _ _ c.in_ok-all.ensures.grows c.in_ok-body.ensures.has,
-      stays (IsNarrowed p c.args.cell.now) _ _ _ c.in_ok-all.ensures.grows c.in_ok-body.ensures.has c.in_ok-body.ensures.narrowed,
-      shared_none _ _ _ _ c.new-shared.result c.new-shared.ensures,
-    )
+part_in-loop-l-init t c = (c.in_ok-parts.ensures.grows, c.in_ok-parts.ensures.found, c.in_ok-parts.ensures.parts)
 
 pub part_in-part_of-requires : goal.part_in-part_of-requires
 part_in-part_of-requires t c =
-    let i = c.loop-l.invariant in
-    let names = i.6.names in
-    let turns = subst (λ (f : Field). MovesTo f c.loop-l.shared c.move_to.new.self) c.field.ensures c.move_to.ensures in
-    let took = took_last _ _ _ _ _ c.in-Some.l _ i.1 c.in-Some.ensures.items c.truncate.ensures.keys (let s = c.saturating_sub.ensures in let n = c.len-in-Some.ensures.len in omega (arith, s, n)) in
-    let there = i.2 c.in-Some.l (in_same _ _ _ (sym c.in-Some.ensures.items) (in-right c.pop.new.self.items (c.in-Some.l ∷ []) c.in-Some.l (inl refl))) in (
+    let i = c.loop-l.invariant.2 in
+    let names = i.body.is.names in
+    let turns = subst (λ (f : Field). MovesTo f c.loop-l.parts.shared c.move_to.new.self) c.field.ensures c.move_to.ensures in
+    let took = took_last _ _ _ _ _ c.in-Some.l _ i.missed c.in-Some.ensures.items c.truncate.ensures.keys (let s = c.saturating_sub.ensures in let n = c.len.ensures.len in omega (arith, s, n)) in
+    let there = i.asked c.in-Some.l (in_same _ _ _ (sym c.in-Some.ensures.items) (in-right c.pop.new.self.items (c.in-Some.l ∷ []) c.in-Some.l (inl refl))) in (
       omega arith,
       (
-        i.5,
+        i.body.has,
         (
           few_within _ _ c.requires.few names,
           (
             c.requires.valid,
-            (i.3, (shared_moved _ _ _ _ _ c.in-Some.l _ _ took.1 turns i.7, (turns.field, (c.requires.range, (fresh_within _ _ _ names c.requires.fresh, ((λ m w. c.requires.assigned m (names.assigns m w)), there.0)))))),
+            (c.loop-l.invariant.1, (shared_moved _ _ _ _ _ c.in-Some.l _ _ took.1 turns i.shared, (turns.field, (c.requires.range, (fresh_within _ _ _ names c.requires.fresh, ((λ m w. c.requires.assigned m (names.assigns m w)), there.0)))))),
           ),
         ),
       ),
     )
 
 pub part_in-returns-in_err-part-clause-grows : goal.part_in-returns-in_err-part-clause-grows
-part_in-returns-in_err-part-clause-grows t c = grows_on _ _ _ c.loop-l.invariant.4 c.in_err-part.ensures.grows
+part_in-returns-in_err-part-clause-grows t c = grows_on _ _ _ c.loop-l.invariant.0 c.in_err-part.ensures.grows
 
-pub part_in-returns-in_err-part-clause-star : goal.part_in-returns-in_err-part-clause-star
-part_in-returns-in_err-part-clause-star t c =
+pub part_in-returns-in_err-part-clause-part : goal.part_in-returns-in_err-part-clause-part
+part_in-returns-in_err-part-clause-part t c =
     let p = tree_at c.args.store.now c.args.p in
-    let i = c.loop-l.invariant in
-    let there = i.2 c.in-Some.l (in_same _ _ _ (sym c.in-Some.ensures.items) (in-right c.pop.new.self.items (c.in-Some.l ∷ []) c.in-Some.l (inl refl))) in
+    let i = c.loop-l.invariant.2 in
+    let there = i.asked c.in-Some.l (in_same _ _ _ (sym c.in-Some.ensures.items) (in-right c.pop.new.self.items (c.in-Some.l ∷ []) c.in-Some.l (inl refl))) in
     let w = fault_within p c.in-Some.l c.args.cell.now c.args.other.now c.in_err-part.field-0.0 there.1 there.0
-    (fault_narrowed p _ (put c.in-Some.l c.args.cell.now) c.args.other.now c.in_err-part.field-0.0 (narrowed_within p _ c.args.cell.now c.in-Some.l there.0 i.6) c.in_err-part.ensures.star) in
+    (fault_narrowed p _ (put c.in-Some.l c.args.cell.now) c.args.other.now c.in_err-part.field-0.0 (narrowed_within p _ c.args.cell.now c.in-Some.l there.0 i.body.is) c.in_err-part.ensures.part) in
     search (rules, w)
+
+pub part_in-choice-requires-clause-has_a : goal.part_in-choice-requires-clause-has_a
+part_in-choice-requires-clause-has_a t c = c.in_ok-part.ensures.part.star.has
+
+pub part_in-choice-requires-clause-has_b : goal.part_in-choice-requires-clause-has_b
+part_in-choice-requires-clause-has_b t c = has_grown _ _ _ c.in_ok-part.ensures.grows c.loop-l.invariant.2.all.has
 
 pub part_in-choice-requires-clause-few : goal.part_in-choice-requires-clause-few
 part_in-choice-requires-clause-few t c =
-    let i = c.loop-l.invariant in
-    let there = i.2 c.in-Some.l (in_same _ _ _ (sym c.in-Some.ensures.items) (in-right c.pop.new.self.items (c.in-Some.l ∷ []) c.in-Some.l (inl refl))) in
-    choice_few (tree_at c.args.store.now c.args.p) _ _ _ c.requires.few there.1 (star_narrowed (tree_at c.args.store.now c.args.p) _ _ _ _ (narrowed_within _ _ c.args.cell.now c.in-Some.l there.0 i.6) c.in_ok-part.ensures.star.is).names (gives_grown _ _ _ _ c.in_ok-part.ensures.grows i.0).is.names
+    let i = c.loop-l.invariant.2 in
+    let there = i.asked c.in-Some.l (in_same _ _ _ (sym c.in-Some.ensures.items) (in-right c.pop.new.self.items (c.in-Some.l ∷ []) c.in-Some.l (inl refl))) in
+    choice_few (tree_at c.args.store.now c.args.p) _ _ _ c.requires.few there.1 (star_narrowed (tree_at c.args.store.now c.args.p) _ _ _ _ (narrowed_within _ _ c.args.cell.now c.in-Some.l there.0 i.body.is) c.in_ok-part.ensures.part.star.is).names (gives_grown _ _ _ _ c.in_ok-part.ensures.grows i.all).is.names
 
-pub part_in-returns-in_err-all-2-clause-grows : goal.part_in-returns-in_err-all-2-clause-grows
-part_in-returns-in_err-all-2-clause-grows t c = grows_on _ _ _ c.loop-l.invariant.4 (grows_on _ _ _ c.in_ok-part.ensures.grows c.in_err-all-2.ensures.grows)
+pub part_in-returns-in_err-parts-2-clause-grows : goal.part_in-returns-in_err-parts-2-clause-grows
+part_in-returns-in_err-parts-2-clause-grows t c = grows_on _ _ _ c.loop-l.invariant.0 (grows_on _ _ _ c.in_ok-part.ensures.grows c.in_err-parts-2.ensures.grows)
 
 pub part_in-loop-l-preserved : goal.part_in-loop-l-preserved
 part_in-loop-l-preserved t c =
     let p = tree_at c.args.store.now c.args.p in
     let l = c.in-Some.l in
-    let i = c.loop-l.invariant in
-    let there = i.2 l (in_same _ _ _ (sym c.in-Some.ensures.items) (in-right c.pop.new.self.items (l ∷ []) l (inl refl))) in
-    let more = grows_on _ _ _ c.in_ok-part.ensures.grows c.in_ok-all-2.ensures.grows in
-    let rest = gives_grown _ _ _ _ c.in_ok-part.ensures.grows i.0 in
-    let missed = c.in_ok-part.ensures.missed in
-    let took = took_last _ _ _ _ _ c.in-Some.l _ i.1 c.in-Some.ensures.items c.truncate.ensures.keys (let s = c.saturating_sub.ensures in let n = c.len-in-Some.ensures.len in omega (arith, s, n)) in
-    let part = star_narrowed (tree_at c.args.store.now c.args.p) _ _ _ _ (narrowed_within _ _ c.args.cell.now c.in-Some.l there.0 i.6) c.in_ok-part.ensures.star.is in
-    let shared = shared_grown _ _ _ _ _ c.part_of.new.shared c.in_ok-all-2.ensures.grows c.in_ok-part.ensures.shared in (
-      gives_as _ _ _ _ (λ x w. subst (λ (ls : List Lit). StarBut p c.args.cell.now ls x) (sym missed) (star_more p _ _ _ l _ _ x there.1 there.0 took.1 part rest.is w)) c.in_ok-all-2.ensures.place,
-      missed ∙ took.0,
-      (λ m k. i.2 m (in_same _ _ _ (sym c.in-Some.ensures.items) (in-left c.pop.new.self.items (l ∷ []) m k))),
-      found_grown _ _ _ c.in_ok-all-2.ensures.grows c.in_ok-part.ensures.found,
-      grows_on _ _ _ i.4 more,
-      has_grown _ _ _ more i.5,
-      stays (IsNarrowed p c.args.cell.now) _ _ _ more i.5 i.6,
-      stays (λ b. AreShared c.choice.new.self b c.args.cell.now c.part_of.new.missed.keys c.part_of.new.shared) _ _ _ more i.5
-          (subst (λ (ls : List Lit). AreShared c.choice.new.self (tree_at c.loop-l.store c.in_ok-body.body) c.args.cell.now ls c.part_of.new.shared) (sym missed) shared),
+    let i = c.loop-l.invariant.2 in
+    let there = i.asked l (in_same _ _ _ (sym c.in-Some.ensures.items) (in-right c.pop.new.self.items (l ∷ []) l (inl refl))) in
+    let more = grows_on _ _ _ c.in_ok-part.ensures.grows c.in_ok-parts-2.ensures.grows in
+    let rest = gives_grown _ _ _ _ c.in_ok-part.ensures.grows i.all in
+    let missed = c.in_ok-part.ensures.part.missed in
+    let took = took_last _ _ _ _ _ c.in-Some.l _ i.missed c.in-Some.ensures.items c.truncate.ensures.keys (let s = c.saturating_sub.ensures in let n = c.len.ensures.len in omega (arith, s, n)) in
+    let part = star_narrowed (tree_at c.args.store.now c.args.p) _ _ _ _ (narrowed_within _ _ c.args.cell.now c.in-Some.l there.0 i.body.is) c.in_ok-part.ensures.part.star.is in
+    let shared = shared_grown _ _ _ _ _ c.part_of.new.shared c.in_ok-parts-2.ensures.grows c.in_ok-part.ensures.shared in (
+      grows_on _ _ _ c.loop-l.invariant.0 more,
+      found_grown _ _ _ c.in_ok-parts-2.ensures.grows c.in_ok-part.ensures.part.found,
+      record {
+        all = gives_as _ _ _ _ (λ x w. subst (λ (ls : List Lit). StarBut p c.args.cell.now ls x) (sym missed) (star_more p _ _ _ l _ _ x there.1 there.0 took.1 part rest.is w)) c.in_ok-parts-2.ensures.place;
+        missed = missed ∙ took.0;
+        asked = λ m k. i.asked m (in_same _ _ _ (sym c.in-Some.ensures.items) (in-left c.pop.new.self.items (l ∷ []) m k));
+        body = record { has = has_grown _ _ _ more i.body.has; is = stays (IsNarrowed p c.args.cell.now) _ _ _ more i.body.has i.body.is };
+        shared = stays (λ b. AreShared c.choice.new.self b c.args.cell.now c.part_of.new.missed.keys c.part_of.new.shared) _ _ _ more i.body.has
+            (subst (λ (ls : List Lit). AreShared c.choice.new.self (tree_at c.loop-l.store c.loop-l.parts.body) c.args.cell.now ls c.part_of.new.shared) (sym missed) shared);
+      },
     )
 
-pub part_of-returns-in-Some-clause-found : goal.part_of-returns-in-Some-clause-found
-part_of-returns-in-Some-clause-found t c = found_grown _ _ _ c.in_ok-left.ensures.grows c.requires.found
+pub part_in-returns-clause-grows : goal.part_in-returns-clause-grows
+part_in-returns-clause-grows t c = c.loop-l.invariant.0
+
+pub part_in-returns-clause-part : goal.part_in-returns-clause-part
+part_in-returns-clause-part t c =
+    let i = c.loop-l.invariant.2 in
+    let none = none_left c.loop-l.parts.left.items (λ b. false≢true (c.in_default.ensures.variant.1 (let k = c.loop-l.parts.left.ok in omega (arith, b, k)))) in
+    let missed = i.missed ∙ ap (λ (ls : List Lit). c.args.missed.now.keys ++ ls) none ∙ append-nil _ in
+    record { star = gives_as _ _ _ _ (λ x w. subst (λ (ls : List Lit). StarBut (tree_at c.args.store.now c.args.p) c.args.cell.now ls x) missed w) i.all; found = c.loop-l.invariant.1; missed = missed }
+
+pub part_in-loop-l-smaller : goal.part_in-loop-l-smaller
+part_in-loop-l-smaller t c = let e = ap length c.in-Some.ensures.items ∙ length-append c.pop.new.self.items (c.in-Some.l ∷ []) in omega (arith, e)
 
 pub part_of-returns-in-Some-clause-shared : goal.part_of-returns-in-Some-clause-shared
 part_of-returns-in-Some-clause-shared t c = shared_grown _ _ _ _ _ c.args.shared.now c.in_ok-left.ensures.grows c.requires.shared
 
-pub part_of-returns-in-Some-clause-star : goal.part_of-returns-in-Some-clause-star
-part_of-returns-in-Some-clause-star t c =
+pub part_of-returns-in-Some-clause-part : goal.part_of-returns-in-Some-clause-part
+part_of-returns-in-Some-clause-part t c =
     let k = c.cofactor.new.self in
     let P = IsShared k (tree_at c.args.store.now c.args.body) c.args.cell.now c.args.missed.now.keys c.args.shared.now.field in
     let kept = shared_grown _ _ _ _ _ c.args.shared.now c.in_ok-left.ensures.grows c.requires.shared in
     let here = subst (λ (o : Option (Bor ℕ)). IfSome o (λ v. P c.in_ok-left.left v.now)) c.in-Some.is (found_right id_eq same_id P _ _ _ kept c.get.ensures.value) in
-    here.star c.args.l.now (sym c.requires.field) c.in_ok-left.ensures.place.is
+    record { star = here.star c.args.l.now (sym c.requires.field) c.in_ok-left.ensures.place.is; found = found_grown _ _ _ c.in_ok-left.ensures.grows c.requires.found; missed = refl }
 
 pub part_of-inner_of-inner-requires-clause-left : goal.part_of-inner_of-inner-requires-clause-left
 part_of-inner_of-inner-requires-clause-left t c = stays (λ b. CofactorOf c.args.l.now b (tree_at c.cofactor.new.self c.in_ok-left.left)) _ _ _ c.in_ok-left.ensures.grows c.requires.has c.in_ok-left.ensures.place.is
+
+pub part_of-inner_of-inner-requires-clause-has : goal.part_of-inner_of-inner-requires-clause-has
+part_of-inner_of-inner-requires-clause-has t c = has_grown _ _ _ c.in_ok-left.ensures.grows c.requires.has
 
 pub part_of-part_in-requires : goal.part_of-part_in-requires
 part_of-part_in-requires t c =
@@ -154,12 +163,24 @@ part_of-part_in-requires t c =
       ),
     )
 
-pub part_of-returns-in_err-part-clause-star : goal.part_of-returns-in_err-part-clause-star
-part_of-returns-in_err-part-clause-star t c =
+pub part_of-returns-in_err-part-clause-grows : goal.part_of-returns-in_err-part-clause-grows
+part_of-returns-in_err-part-clause-grows t c = grows_on _ _ _ c.in_ok-left.ensures.grows c.in_err-part.ensures.grows
+
+pub part_of-is_shared-requires : goal.part_of-is_shared-requires
+part_of-is_shared-requires t c = has_grown _ _ _ (grows_on _ _ _ c.in_ok-left.ensures.grows c.in_ok-part.ensures.grows) c.requires.has
+
+pub part_of-returns-in_err-keep-clause-grows : goal.part_of-returns-in_err-keep-clause-grows
+part_of-returns-in_err-keep-clause-grows t c = grows_on _ _ _ c.in_ok-left.ensures.grows c.in_ok-part.ensures.grows
+
+pub part_of-returns-clause-grows : goal.part_of-returns-clause-grows
+part_of-returns-clause-grows t c = grows_on _ _ _ c.in_ok-left.ensures.grows c.in_ok-part.ensures.grows
+
+pub part_of-returns-in_err-part-clause-part : goal.part_of-returns-in_err-part-clause-part
+part_of-returns-in_err-part-clause-part t c =
     let cell = put c.args.l.now c.args.cell.now in
     let g = c.args.other.now in
     let e = c.in_err-part.field-0.0 in
-    let inner = subst (λ (q : Packet). IsErrorIn (tree_at c.cofactor.new.self c.inner_of-inner.result) q g e) c.with.ensures c.in_err-part.ensures.star in
+    let inner = subst (λ (q : Packet). IsErrorIn (tree_at c.cofactor.new.self c.inner_of-inner.result) q g e) c.with.ensures c.in_err-part.ensures.part in
     let w = stayed (λ x. IsErrorIn x cell g e) _ _ _ c.in_ok-left.ensures.grows c.requires.has (fault_narrowed _ _ cell g e (c.inner_of-inner.ensures.inner c.args.cell.now) inner) in
     search (rules, w)
 
@@ -169,10 +190,10 @@ whole t c =
     let cell = put c.args.l.now c.args.cell.now in
     let ls = c.args.missed.now.keys in
     gives_as _ _ _ _ (λ r x. stayed (λ b. StarBut b cell ls r) _ _ _ c.in_ok-left.ensures.grows c.requires.has
-    (star_narrowed (tree_at k c.args.body) _ cell ls r (c.inner_of-inner.ensures.inner c.args.cell.now) (subst (λ (q : Packet). StarBut (tree_at k c.inner_of-inner.result) q ls r) c.with.ensures x))) c.in_ok-part.ensures.star
+    (star_narrowed (tree_at k c.args.body) _ cell ls r (c.inner_of-inner.ensures.inner c.args.cell.now) (subst (λ (q : Packet). StarBut (tree_at k c.inner_of-inner.result) q ls r) c.with.ensures x))) c.in_ok-part.ensures.part.star
 
-pub part_of-returns-clause-star : goal.part_of-returns-clause-star
-part_of-returns-clause-star t c = whole t c
+pub part_of-returns-clause-part : goal.part_of-returns-clause-part
+part_of-returns-clause-part t c = record { star = whole t c; found = c.in_ok-part.ensures.part.found; missed = c.in_ok-part.ensures.part.missed }
 
 pub part_of-returns-clause-shared : goal.part_of-returns-clause-shared
 part_of-returns-clause-shared t c =

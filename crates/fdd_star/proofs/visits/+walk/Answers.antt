@@ -1,19 +1,26 @@
-use Rattle.std.proofs.Common.{sym, subst}
-use Rattle.fdd_nodes.specs.Trees.{Tree}
-use Rattle.fdd_star.specs.Asks.{AsksMore}
-use Rattle.fdd_star.proofs.GrowLaws.{on_ok, asks_then, asks_else, asks_open}
+use Rattle.std.proofs.Common.{arith}
+use Rattle.fdd_store.proofs.ForkLaws.{fall_then, fall_else}
+use Rattle.fdd_star.proofs.GrowLaws.{walks_leaf, walks_then, walks_else, walks_open}
+use Rattle.fdd_star.proofs.NarrowLaws.{ok_on}
 use Rattle.fdd_star.proofs.visits.+walk.Goals as goal
 
-pub returns-in-Yes-clause-asked : goal.returns-in-Yes-clause-asked
-returns-in-Yes-clause-asked t c =
-    on_ok c.walk.result _ _ c.walk.ensures.asked (λ a. subst (λ (x : Tree). AsksMore x c.args.here.now c.args.asked.now.items c.walk.new.asked.items) (sym c.in-Fork.ensures.look.is) (asks_then _ _ _ _ _ _ c.in-Yes.ensures a))
+pub walk-requires : goal.walk-requires
+walk-requires t c = (let w = fall_then _ c.in-Fork.l _ _ _ _ c.in-Fork.ensures.look c.in-Fork.ensures.made in omega (arith, w), c.in-Fork.ensures.look.has_then)
 
-pub returns-in-No-clause-asked : goal.returns-in-No-clause-asked
-returns-in-No-clause-asked t c =
-    on_ok c.walk-in-No.result _ _ c.walk-in-No.ensures.asked
-    (λ a. subst (λ (x : Tree). AsksMore x c.args.here.now c.args.asked.now.items c.walk-in-No.new.asked.items) (sym c.in-Fork.ensures.look.is) (asks_else _ _ _ _ _ _ c.in-No.ensures a))
+pub walk-requires-in-No : goal.walk-requires-in-No
+walk-requires-in-No t c = (let w = fall_else _ c.in-Fork.l _ _ _ _ c.in-Fork.ensures.look c.in-Fork.ensures.made in omega (arith, w), c.in-Fork.ensures.look.has_else)
 
-pub returns-in_ok-push-in-Open-clause-asked : goal.returns-in_ok-push-in-Open-clause-asked
-returns-in_ok-push-in-Open-clause-asked t c =
-    on_ok c.walk-in-Open.result _ _ c.walk-in-Open.ensures.asked
-    (λ a. subst (λ (x : Tree). AsksMore x c.args.here.now c.args.asked.now.items c.walk-in-Open.new.asked.items) (sym c.in-Fork.ensures.look.is) (asks_open _ _ _ _ _ _ _ c.in-Open.ensures c.in_ok-push-in-Open.ensures.items a))
+pub walk-requires-in-Open : goal.walk-requires-in-Open
+walk-requires-in-Open t c = (let w = fall_else _ c.in-Fork.l _ _ _ _ c.in-Fork.ensures.look c.in-Fork.ensures.made in omega (arith, w), c.in-Fork.ensures.look.has_else)
+
+pub returns-in-Leaf : goal.returns-in-Leaf
+returns-in-Leaf t c = walks_leaf _ _ _ _ c.requires c.in-Leaf.ensures.look
+
+pub returns-in-Yes : goal.returns-in-Yes
+returns-in-Yes t c = ok_on c.walk.result _ _ (λ r w. walks_then _ _ _ _ _ _ _ _ r c.in-Fork.ensures.look.is c.in-Yes.ensures w) c.walk.ensures
+
+pub returns-in-No : goal.returns-in-No
+returns-in-No t c = ok_on c.walk-in-No.result _ _ (λ r w. walks_else _ _ _ _ _ _ _ _ r c.in-Fork.ensures.look.is c.in-No.ensures w) c.walk-in-No.ensures
+
+pub returns-in_ok-push-in-Open : goal.returns-in_ok-push-in-Open
+returns-in_ok-push-in-Open t c = ok_on c.walk-in-Open.result _ _ (λ r w. walks_open _ _ _ _ _ _ _ _ r c.in-Fork.ensures.look.is _ c.in-Open.ensures c.in_ok-push-in-Open.ensures.items w) c.walk-in-Open.ensures

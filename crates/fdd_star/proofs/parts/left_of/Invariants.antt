@@ -1,6 +1,6 @@
 use Rattle.std.proofs.Common.{length}
 use Rattle.fdd_star.proofs.SharedLaws.{Lists}
-use Rattle.fdd_star.proofs.repetition.left_of.Given as goal
+use Rattle.fdd_star.proofs.parts.left_of.Given as goal
 
 abbrev pub invariant-loop-l : goal.invariant-loop-l
 invariant-loop-l l = Lists l.fn.missed.keys l.fn.asked.keys l.missed.keys l.asked.keys l.left.items

@@ -1,0 +1,5 @@
+use Rattle.fdd_star.proofs.StarLaws.{same_sorted}
+use Rattle.fdd_star.proofs.parts.gathered.Goals as goal
+
+pub returns : goal.returns
+returns c = same_sorted _ _ _ c.sort_unstable.ensures.permutation c.in_ok-put_all.ensures

@@ -1,0 +1,122 @@
+// The parts of a cell.
+ghost use Rattle.std.specs.Prelude.{◌≡◌, [], IfOk, OnOk};
+ghost use Rattle.nk_values.specs.Members.{SameMembers};
+ghost use Rattle.fdd_star.specs.Shared.{IsLeft};
+
+use crate::fault::StarError;
+use crate::narrow::narrowed;
+use crate::reach::Reach;
+use crate::repetition::Found;
+use crate::shared::Shared;
+use fdd_nodes::{Assignments, Cell, Leaf};
+use fdd_store::{Id, Store};
+use indexmap::{IndexMap, IndexSet};
+use nk_values::{Field, Lit, Packet};
+use std::alloc::{AllocError, Global};
+use std::collections::BTreeSet;
+
+/// The star in a cell as it is made, part by part: one for each test that was asked of a field which the cell leaves open.
+#[derive(Drop)]
+pub(crate) struct Parts {
+    /// The star as far as it is made: where none of the literals holds whose parts are left.
+    pub(crate) all: Id,
+    /// The literals whose parts are left, the last one first.
+    pub(crate) left: Vec<Lit>,
+    /// Of which diagram they are the stars.
+    pub(crate) body: Id,
+    pub(crate) shared: Shared,
+}
+
+impl Parts {
+    ghost use Rattle.std.specs.Prelude.{MatchResult, OnOk};
+    ghost use Rattle.nk_values.specs.Packets.{IsInRange};
+    ghost use Rattle.fdd_nodes.specs.Cells.{IsFresh, IsValid};
+    ghost use Rattle.fdd_nodes.specs.Names.{IsFew};
+    ghost use Rattle.fdd_star.specs.Faults.{IsErrorIn};
+    ghost use Rattle.fdd_star.specs.Found.{AreFound};
+    ghost use Rattle.fdd_star.specs.Parts.{HasParts};
+    ghost use Rattle.fdd_store.specs.Stores.{Has, Grows, tree_at};
+
+    /// The packet of the cell alone: no part is made yet. The tests that were asked are added to the literals that are
+    /// missed.
+    pub(crate) fn of(
+        alloc: Global,
+        store: &mut Store,
+        found: &mut Found,
+        missed: &mut IndexSet<Lit>,
+        other: &Packet,
+        assigned: &IndexSet<Lit>,
+        p: Id,
+        cell: &Cell,
+    ) -> Result<Parts, StarError>
+        requires has { Has store.old p }
+        requires few { IsFew (tree_at store.old p) }
+        requires valid { IsValid cell.now }
+        requires found { AreFound store.old found.old }
+        requires range { IsInRange other.now }
+        requires fresh { IsFresh other.now (tree_at store.old p) }
+        ensures grows { Grows store.old store.new }
+        ensures found { OnOk result (AreFound store.new found.new) }
+        ensures parts { MatchResult result (HasParts store.new (tree_at store.old p) cell.now missed.old.keys missed.new.keys) (λ e. IsErrorIn (tree_at store.old p) cell.now other.now e) }
+    {
+        let Reach { copies, asked, .. } = Reach::of(
+            alloc,
+            store,
+            &mut found.visits,
+            other,
+            p,
+            cell,
+        )?;
+        found.allowance = found.allowance.saturating_add(copies.len() / 4);
+        let left = left_of(alloc, missed, asked)?;
+        let leaf = gathered(alloc, copies)?;
+        let all = store.put_leaf(alloc, leaf)?;
+        let body = narrowed(alloc, store, &mut found.allowance, assigned, p, cell, &left)?;
+        Ok(Parts {
+            all,
+            left,
+            body,
+            shared: Shared {
+                field: Field::Sw,
+                parts: IndexMap::new(alloc),
+            },
+        })
+    }
+}
+
+// Adds the tests that were asked to those that are missed, and lists the ones that were not there.
+fn left_of(
+    alloc: Global,
+    missed: &mut IndexSet<Lit>,
+    mut asked: BTreeSet<Lit>,
+) -> Result<Vec<Lit>, AllocError>
+    ensures { IfOk result (λ r. IsLeft missed.old.keys asked.keys missed.new.keys r.items) }
+{
+    let mut left = Vec::new(alloc);
+    while let Some(l) = asked.pop_first() {
+        if missed.insert(l)? {
+            left.push(l)?;
+        }
+    }
+    Ok(left)
+}
+
+// The leaf of some copies. They are sorted first, since it takes little time where they rise.
+fn gathered(alloc: Global, mut copies: Vec<Assignments>) -> Result<Leaf, AllocError>
+    ensures { IfOk result (λ r. SameMembers r copies.items) }
+{
+    copies.sort_unstable();
+    let mut leaf = Leaf::empty(alloc);
+    put_all(&mut leaf, copies)?;
+    Ok(leaf)
+}
+
+fn put_all(leaf: &mut Leaf, copies: Vec<Assignments>) -> Result<(), AllocError>
+    requires { leaf.old ≡ [] }
+    ensures { OnOk result (SameMembers leaf.new copies.items) }
+{
+    for copy in copies {
+        leaf.put(copy)?;
+    }
+    Ok(())
+}
