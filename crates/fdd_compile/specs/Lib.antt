@@ -5,7 +5,6 @@ pub mod Deep
 pub mod Faults
 pub mod Filters
 pub mod Folds
-pub mod Gains
 pub mod Guarded
 pub mod Leftmost
 pub mod Named
