@@ -74,7 +74,7 @@ fn a_diagram_answers(rt: HostRuntime) -> Result<(), Fail> {
 #[test]
 fn answers_are_the_copies(rt: HostRuntime) -> Result<(), Fail> {
     let alloc = rt.alloc();
-    let keeps = Leaf::of(alloc, Assignments::none(alloc))?;
+    let keeps = Leaf::of(alloc, Assignments::none(alloc)?)?;
     let a = Fdd::new(Node::Leaf(keeps));
     let answer = a.answer(alloc, &packet(1, 9))?;
     assert!(rt; answer.as_slice() == [packet(1, 9)].as_slice());

@@ -11,11 +11,14 @@ use std::alloc::{AllocError, Global};
 use std::cmp::Ordering;
 use std::hash::{Hash, Hasher};
 use std::marker::Model;
+use std::rc::Rc;
 
 /// The assignments of one copy, each field at most once, in field order. Clauses see the list of them.
+///
+/// They are shared with those that are copied of them, since many leaves have the same copies.
 #[derive(Drop)]
 pub struct Assignments {
-    lits: SmallVec<Lit, 4>,
+    lits: Rc<SmallVec<Lit, 4>>,
 }
 
 impl Model for Assignments {
@@ -25,9 +28,9 @@ impl Model for Assignments {
 
     ghost Value = { List Lit };
 
-    ghost view = { λ a. a.lits.items };
+    ghost view = { λ a. a.lits.value.items };
 
-    ghost invariant = { λ a. IsCopy a.lits.items };
+    ghost invariant = { λ a. IsCopy a.lits.value.items };
 }
 
 impl Assignments {
@@ -35,13 +38,19 @@ impl Assignments {
     ghost use Rattle.fdd_nodes.specs.Copies.{IsCopy};
     ghost use Rattle.fdd_nodes.specs.Trees.{apply};
 
-    /// No assignment.
-    pub fn none(alloc: Global) -> Assignments
-        ensures { result ≡ [] }
+    fn new(alloc: Global, lits: SmallVec<Lit, 4>) -> Result<Assignments, AllocError>
+        requires { IsCopy lits.items }
+        ensures { IfOk result (λ r. r ≡ lits.items) }
     {
-        Assignments {
-            lits: SmallVec::new(alloc),
-        }
+        let lits = Rc::new(alloc, lits)?;
+        Ok(Assignments { lits })
+    }
+
+    /// No assignment.
+    pub fn none(alloc: Global) -> Result<Assignments, AllocError>
+        ensures { IfOk result (λ r. r ≡ []) }
+    {
+        Assignments::new(alloc, SmallVec::new(alloc))
     }
 
     /// One assignment.
@@ -50,14 +59,14 @@ impl Assignments {
     {
         let mut lits = SmallVec::new(alloc);
         lits.push(l)?;
-        Ok(Assignments { lits })
+        Assignments::new(alloc, lits)
     }
 
-    /// The same assignments again.
-    pub fn copy(&self, alloc: Global) -> Result<Assignments, AllocError>
+    /// The same assignments again, which are shared.
+    pub fn copy(&self) -> Result<Assignments, AllocError>
         ensures { IfOk result (λ r. r ≡ self.now) }
     {
-        let lits = SmallVec::from_slice(alloc, self.lits.as_slice())?;
+        let lits = self.lits.clone()?;
         Ok(Assignments { lits })
     }
 
@@ -84,13 +93,16 @@ impl Assignments {
         assigned_in(self.lits.as_slice(), f)
     }
 
-    /// The assignments without those that a cell fixes.
+    /// The assignments without those that a cell fixes. They are shared where it fixes none.
     pub fn stripped(&self, alloc: Global, cell: &Cell) -> Result<Assignments, AllocError>
         ensures stripped { IfOk result (λ r. r ≡ strip cell.now self.now) }
         ensures copy { IsCopy self.now }
     {
-        let lits = unfixed(alloc, cell, self.lits.as_slice())?;
-        Ok(Assignments { lits })
+        if self.is_free_of(cell) {
+            return self.copy();
+        }
+        let kept = unfixed(alloc, cell, self.lits())?;
+        Assignments::new(alloc, kept)
     }
 
     /// These assignments, and then others.
@@ -98,13 +110,14 @@ impl Assignments {
         ensures after { IfOk result (λ r. r ≡ after self.now later.now) }
         ensures copy { IsCopy self.now }
     {
-        let lits = set_all(alloc, self.lits.as_slice(), later.lits.as_slice())?;
-        Ok(Assignments { lits })
+        let both = set_all(alloc, self.lits(), later.lits())?;
+        Assignments::new(alloc, both)
     }
 
     /// Whether a cell fixes none of these.
     pub fn is_free_of(&self, cell: &Cell) -> bool
-        ensures { IsTrue result ↔ IsFreeOf cell.now self.now }
+        ensures free { IsTrue result ↔ IsFreeOf cell.now self.now }
+        ensures copy { IsCopy self.now }
     {
         none_fixed(self.lits.as_slice(), cell)
     }

@@ -149,7 +149,7 @@ fn copied(alloc: Global, copies: &[Assignments]) -> Result<Vec<Assignments>, All
 {
     let mut all = Vec::with_capacity(alloc, copies.len())?;
     for c in copies {
-        all.push(c.copy(alloc)?)?;
+        all.push(c.copy()?)?;
     }
     Ok(all)
 }

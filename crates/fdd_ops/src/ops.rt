@@ -19,7 +19,7 @@ use std::rc::Rc;
 pub fn one(alloc: Global) -> Result<Fdd, AllocError>
     ensures { IfOk result (λ r. OneOf (tree_of r)) }
 {
-    let leaf = Leaf::of(alloc, Assignments::none(alloc))?;
+    let leaf = Leaf::of(alloc, Assignments::none(alloc)?)?;
     Ok(Fdd::new(Node::Leaf(leaf)))
 }
 
@@ -34,7 +34,7 @@ pub fn zero(alloc: Global) -> Fdd
 pub fn test(alloc: Global, l: Lit) -> Result<Fdd, AllocError>
     ensures { IfOk result (λ r. TestOf l (tree_of r)) }
 {
-    let keeps = Leaf::of(alloc, Assignments::none(alloc))?;
+    let keeps = Leaf::of(alloc, Assignments::none(alloc)?)?;
     let yes = Rc::new(alloc, Node::Leaf(keeps))?;
     let no = Rc::new(alloc, Node::Leaf(Leaf::empty(alloc)))?;
     Ok(Fdd::new(Node::Test(l, yes, no)))

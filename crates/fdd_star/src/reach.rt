@@ -77,7 +77,7 @@ impl Reach {
             asked: BTreeSet::new(alloc),
         };
         all.cells.insert(*cell)?;
-        all.copies.push(Assignments::none(alloc))?;
+        all.copies.push(Assignments::none(alloc)?)?;
         Ok(all)
     }
 
@@ -99,7 +99,7 @@ impl Reach {
         ensures grown { OnOk result (Grows (tree_at store.now p) cell.now (drop from (copies_of self.old)) self.old self.new) }
     {
         for i in from..self.copies.len() {
-            let copy = self.copies[i].copy(alloc)?;
+            let copy = self.copies[i].copy()?;
             self.step(alloc, store, visits, p, cell, &copy)?;
         }
         Ok(())

@@ -1,10 +1,8 @@
 // Leaves of unions and sequences.
-ghost use Rattle.std.specs.Prelude.{◌≡◌, [], IsTrue, IfOk, OnOk};
-ghost use Rattle.fdd_nodes.specs.Copies.{IsCopy, strip};
+ghost use Rattle.std.specs.Prelude.{[], IsTrue, IfOk, OnOk};
 ghost use Rattle.fdd_store.specs.Leaves.{Adds, AddsAfter, AddsBoth, AreFree, Follow};
 
 use fdd_nodes::{Assignments, Cell, Leaf};
-use nk_values::Lit;
 use std::alloc::{AllocError, Global};
 
 /// A leaf's copies without what a cell fixes.
@@ -24,18 +22,7 @@ fn are_free(copies: &[Assignments], cell: &Cell) -> bool
     ensures { IsTrue result → AreFree cell.now copies.now }
 {
     for c in copies {
-        if !is_free(c.lits(), cell) {
-            return false;
-        }
-    }
-    true
-}
-
-fn is_free(lits: &[Lit], cell: &Cell) -> bool
-    ensures { IsTrue result → strip cell.now lits.now ≡ lits.now }
-{
-    for l in lits {
-        if l.holds(cell.generic()) {
+        if !c.is_free_of(cell) {
             return false;
         }
     }

@@ -112,7 +112,7 @@ impl Store {
                     let _root = self.look(b);
                     return Ok(b);
                 }
-                let leaf = Leaf::of(alloc, copy.copy(alloc)?)?;
+                let leaf = Leaf::of(alloc, copy.copy()?)?;
                 let c = self.put_leaf(alloc, leaf)?;
                 self.push(alloc, c, b)
             }

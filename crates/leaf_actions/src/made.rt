@@ -69,7 +69,7 @@ pub fn actions(
     if climbs(cell, &routes) {
         return Ok(listed(alloc, cell, &routes, view)?);
     }
-    match first_apart(alloc, cell, &routes)? {
+    match first_apart(cell, &routes)? {
         Some(fault) => Err(ActionsError::Fault(fault)),
         None => unreachable!(),
     }

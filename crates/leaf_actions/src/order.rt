@@ -39,7 +39,7 @@ fn routes_of(
                 count: change_count(cell, copy),
                 port: port.pt,
                 kind: port.kind,
-                copy: copy.copy(alloc)?,
+                copy: copy.copy()?,
             })?;
         }
     }

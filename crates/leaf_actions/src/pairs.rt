@@ -6,18 +6,14 @@ use crate::fields::first_beyond;
 use crate::made::ActionsFault;
 use crate::route::Route;
 use fdd_nodes::Cell;
-use std::alloc::{AllocError, Global};
+use std::alloc::AllocError;
 
 // The earliest copy that is apart from a later one, with the earliest of these.
-pub(crate) fn first_apart(
-    alloc: Global,
-    cell: &Cell,
-    routes: &[Route],
-) -> Result<Option<ActionsFault>, AllocError>
+pub(crate) fn first_apart(cell: &Cell, routes: &[Route]) -> Result<Option<ActionsFault>, AllocError>
     ensures { IfOk result (λ o. o ≡ first_apart cell.now routes.now) }
 {
     for i in 0..routes.len() {
-        if let Some(found) = first_from(alloc, cell, &routes[i], &routes[i + 1..])? {
+        if let Some(found) = first_from(cell, &routes[i], &routes[i + 1..])? {
             return Ok(Some(found));
         }
     }
@@ -26,7 +22,6 @@ pub(crate) fn first_apart(
 
 // The first of some copies that is apart from another.
 fn first_from(
-    alloc: Global,
     cell: &Cell,
     a: &Route,
     routes: &[Route],
@@ -34,7 +29,7 @@ fn first_from(
     ensures { IfOk result (λ o. o ≡ first_from cell.now a.now routes.now) }
 {
     for b in routes {
-        if let Some(found) = apart(alloc, cell, a, b)? {
+        if let Some(found) = apart(cell, a, b)? {
             return Ok(Some(found));
         }
     }
@@ -42,12 +37,7 @@ fn first_from(
 }
 
 // Two copies, if each changes a field that the other does not.
-fn apart(
-    alloc: Global,
-    cell: &Cell,
-    a: &Route,
-    b: &Route,
-) -> Result<Option<ActionsFault>, AllocError>
+fn apart(cell: &Cell, a: &Route, b: &Route) -> Result<Option<ActionsFault>, AllocError>
     ensures { IfOk result (λ o. o ≡ apart cell.now a.now b.now) }
 {
     let Some(field_a) = first_beyond(cell, &a.copy, &b.copy) else {
@@ -57,8 +47,8 @@ fn apart(
         return Ok(None);
     };
     Ok(Some(ActionsFault {
-        a: a.copy(alloc)?,
-        b: b.copy(alloc)?,
+        a: a.copy()?,
+        b: b.copy()?,
         field_a,
         field_b,
     }))

@@ -3,7 +3,7 @@ ghost use Rattle.std.specs.Prelude.{◌≡◌, IfOk};
 
 use fdd_nodes::Assignments;
 use nk_values::PortKind;
-use std::alloc::{AllocError, Global};
+use std::alloc::AllocError;
 use std::cmp::Ordering;
 
 /// A copy with the declared port by which it leaves: how many header fields it sets that its path does not fix, the
@@ -18,14 +18,14 @@ pub struct Route {
 
 impl Route {
     /// The same route again.
-    pub fn copy(&self, alloc: Global) -> Result<Route, AllocError>
+    pub fn copy(&self) -> Result<Route, AllocError>
         ensures { IfOk result (λ r. r ≡ self.now) }
     {
         Ok(Route {
             count: self.count,
             port: self.port,
             kind: self.kind,
-            copy: self.copy.copy(alloc)?,
+            copy: self.copy.copy()?,
         })
     }
 }

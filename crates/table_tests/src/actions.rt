@@ -52,7 +52,7 @@ fn both(alloc: Global, a: Option<Assignments>, b: Option<Assignments>) -> Option
 
 // A copy as it came, and one that leaves by another port.
 fn every(alloc: Global) -> Option<Leaf> {
-    Leaf::of(alloc, Assignments::none(alloc)).ok()
+    Leaf::of(alloc, Assignments::none(alloc).ok()?).ok()
 }
 
 fn leaving(alloc: Global, pt: u64) -> Option<Leaf> {

@@ -6,4 +6,4 @@ use Rattle.fdd_store.proofs.PlainLaws.{one_of}
 use Rattle.fdd_ops.proofs.ops.one.Goals as goal
 
 pub returns : goal.returns
-returns c = subst OneOf (sym (c.new.ensures ∙ ap Leaf (c.in_ok-leaf.ensures ∙ ap (λ (x : List Lit). x ∷ []) c.none.ensures))) one_of
+returns c = subst OneOf (sym (c.new.ensures ∙ ap Leaf (c.in_ok-leaf.ensures ∙ ap (λ (x : List Lit). x ∷ []) c.in_ok-none.ensures))) one_of

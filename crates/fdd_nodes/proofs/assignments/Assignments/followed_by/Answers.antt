@@ -1,10 +1,9 @@
 use Rattle.std.proofs.Common.{List, sym, subst, ◌∙◌, ap}
 use Rattle.nk_values.specs.declared.lit.Lit.{Lit}
-use Rattle.fdd_nodes.specs.Copies.{IsCopy}
-use Rattle.fdd_nodes.specs.Copies.{after}
+use Rattle.fdd_nodes.specs.Copies.{IsCopy, after}
 use Rattle.fdd_nodes.proofs.AfterLaws.{after_copy}
 use Rattle.fdd_nodes.proofs.assignments.Assignments.followed_by.Goals as goal
 
-pub invariant_of-result : goal.invariant_of-result
-invariant_of-result c =
-    subst IsCopy (sym (c.in_ok-lits.ensures ∙ ap (λ (x : List Lit). after x c.as_slice-2.result.now) c.as_slice.ensures)) (after_copy c.self.inside.lits.items c.as_slice-2.result.now c.self.invariant)
+pub new-requires : goal.new-requires
+new-requires c =
+    subst IsCopy (sym (c.in_ok-both.ensures ∙ ap (λ (x : List Lit). after x c.lits-2.result.now) c.lits.ensures.list)) (after_copy c.args.self.now c.lits-2.result.now c.lits.ensures.copy)

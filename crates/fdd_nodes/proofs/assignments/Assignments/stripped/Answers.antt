@@ -1,9 +1,15 @@
-use Rattle.std.proofs.Common.{List, sym, subst, ◌∙◌, ap}
+use Rattle.std.proofs.Common.{◌≡◌, List, sym, subst, ◌∙◌, ap}
+use Rattle.std.proofs.lemmas.Result.{IfOk-weaker}
 use Rattle.nk_values.specs.declared.lit.Lit.{Lit}
 use Rattle.fdd_nodes.specs.Copies.{IsCopy, strip}
-use Rattle.fdd_nodes.proofs.StripLaws.{strip_copy}
+use Rattle.fdd_nodes.proofs.StripLaws.{strip_copy, strip_free}
 use Rattle.fdd_nodes.proofs.assignments.Assignments.stripped.Goals as goal
 
-pub invariant_of-result : goal.invariant_of-result
-invariant_of-result c =
-    subst IsCopy (sym (c.in_ok-lits.ensures ∙ ap (λ (x : List Lit). strip c.args.cell.now x) c.as_slice.ensures)) (strip_copy _ _ 0 c.self.invariant)
+pub returns-then-is_free_of-clause-stripped : goal.returns-then-is_free_of-clause-stripped
+returns-then-is_free_of-clause-stripped c =
+    let same = sym (strip_free _ _ (c.is_free_of.ensures.free.0 c.if-is_free_of.true)) in
+    IfOk-weaker c.copy.result (λ r. r ≡ c.args.self.now) (λ r. r ≡ strip c.args.cell.now c.args.self.now) (λ r e. e ∙ same) c.copy.ensures
+
+pub new-requires : goal.new-requires
+new-requires c =
+    subst IsCopy (sym (c.in_ok-kept.ensures ∙ ap (λ (x : List Lit). strip c.args.cell.now x) c.lits.ensures.list)) (strip_copy _ _ 0 c.lits.ensures.copy)
