@@ -21,11 +21,7 @@ pub(crate) fn first_apart(cell: &Cell, routes: &[Route]) -> Result<Option<Action
 }
 
 // The first of some copies that is apart from another.
-fn first_from(
-    cell: &Cell,
-    a: &Route,
-    routes: &[Route],
-) -> Result<Option<ActionsFault>, AllocError>
+fn first_from(cell: &Cell, a: &Route, routes: &[Route]) -> Result<Option<ActionsFault>, AllocError>
     ensures { IfOk result (λ o. o ≡ first_from cell.now a.now routes.now) }
 {
     for b in routes {
