@@ -1,5 +1,6 @@
 pub mod AfterLaws
 pub mod CellLaws
+pub mod GatherLaws
 pub mod MakesLaws
 pub mod NameLaws
 pub mod NormalLaws

@@ -1,7 +1,7 @@
 // Leaves: sets of copies.
-ghost use Rattle.std.specs.Prelude.{◌≡◌, ◌↔◌, IsTrue, IfOk, MatchOption};
+ghost use Rattle.std.specs.Prelude.{◌≡◌, ◌↔◌, [], IsTrue, IfOk, OnOk, MatchOption};
 ghost use Rattle.std.specs.List.Sorted.{IsStrictlySortedBy};
-ghost use Rattle.nk_values.specs.Members.{IsIn};
+ghost use Rattle.nk_values.specs.Members.{IsIn, SameMembers};
 ghost use Rattle.fdd_nodes.specs.Copies.{copy_cmp, IsPlace};
 ghost use Rattle.fdd_nodes.specs.Makes.{Makes, MakesAll, AreFreeOf};
 ghost use Rattle.fdd_nodes.specs.Trees.{outcomes};
@@ -48,6 +48,14 @@ impl Leaf {
         }
     }
 
+    /// The leaf with no copy, and with room for some.
+    pub fn with_capacity(alloc: Global, count: usize) -> Result<Leaf, AllocError>
+        ensures { IfOk result (λ r. r ≡ []) }
+    {
+        let copies = Vec::with_capacity(alloc, count)?;
+        Ok(Leaf { copies })
+    }
+
     /// The leaf with one copy.
     pub fn of(alloc: Global, copy: Assignments) -> Result<Leaf, AllocError>
         ensures { IfOk result (λ r. r ≡ copy ∷ []) }
@@ -55,6 +63,16 @@ impl Leaf {
         let mut copies = Vec::new(alloc);
         copies.push(copy)?;
         Ok(Leaf { copies })
+    }
+
+    /// The leaf of some copies. They are sorted first, since it takes little time where they rise.
+    pub fn gathered(alloc: Global, mut copies: Vec<Assignments>) -> Result<Leaf, AllocError>
+        ensures { IfOk result (λ r. SameMembers r copies.items) }
+    {
+        copies.sort_unstable();
+        let mut leaf = Leaf::with_capacity(alloc, copies.len())?;
+        put_all(&mut leaf, copies)?;
+        Ok(leaf)
     }
 
     /// The same leaf again.
@@ -142,6 +160,16 @@ fn place_for(copies: &[Assignments], copy: &Assignments) -> Option<usize>
         return Some(n);
     }
     copies.binary_search(copy).err()
+}
+
+fn put_all(leaf: &mut Leaf, copies: Vec<Assignments>) -> Result<(), AllocError>
+    requires { leaf.old ≡ [] }
+    ensures { OnOk result (SameMembers leaf.new copies.items) }
+{
+    for copy in copies {
+        leaf.put(copy)?;
+    }
+    Ok(())
 }
 
 fn copied(alloc: Global, copies: &[Assignments]) -> Result<Vec<Assignments>, AllocError>

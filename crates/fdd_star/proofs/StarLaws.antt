@@ -1,5 +1,5 @@
 -- The star of a diagram, cell by cell.
-use Rattle.std.proofs.Common.{◌≡◌, zero, suc, inl, inr, refl, ap, sym, ◌∙◌, subst, arith, List, [], ◌∷◌, ◌++◌}
+use Rattle.std.proofs.Common.{◌≡◌, inl, inr, refl, ap, sym, ◌∙◌, subst, arith, List, [], ◌∷◌, ◌++◌}
 use Rattle.std.proofs.lemmas.Bool.Decides.{eqb_tells}
 use Rattle.nk_values.specs.declared.field.Field.{Field}
 use Rattle.nk_values.specs.declared.packet.Packet.{Packet}
@@ -8,14 +8,10 @@ use Rattle.nk_values.specs.Held.{Holds, put}
 use Rattle.nk_values.specs.Lits.{lit_field, lit_value}
 use Rattle.nk_values.specs.Members.{IsIn, SameMembers}
 use Rattle.nk_values.specs.Packets.{get}
-use Rattle.nk_values.proofs.MemberLaws.{in-left, in-right, in-either}
+use Rattle.nk_values.proofs.MemberLaws.{in-either}
 use Rattle.nk_values.proofs.PacketLaws.{get-with_same, get-with_other, field_cases}
 use Rattle.fdd_nodes.specs.Trees.{Tree, Leaf, Node, apply, outcomes, IsSetBy, Tests}
 use Rattle.fdd_nodes.specs.Cells.{open_cell, fill, Agrees, IsOpen}
-use Rattle.fdd_nodes.specs.Copies.{Puts}
-use Rattle.std.specs.List.{Contains}
-use Rattle.std.specs.List.Sorted.{IsPermutation}
-use Rattle.std.proofs.lemmas.List.Sorted.{Contains-permutation, IsPermutation-sym}
 use Rattle.fdd_nodes.specs.Names.{literals, IsFew}
 use Rattle.fdd_nodes.proofs.CellLaws.{lit_not_free, agrees_with, open_agrees, get-open}
 use Rattle.fdd_nodes.proofs.MakesLaws.{source, outcome}
@@ -146,37 +142,3 @@ star_of p c ls r e none h = record {
 -- what has a star is not deep
 pub star_shallow : (p r : Tree) → StarOf p r → IsShallow p
 star_shallow p r s pk out d = d.late (s.made pk out (s.all d.made.0 pk out d.in_range d.made.2))
-
--- a leaf with one copy more
-
-pub same_itself : {X : Type 0} (xs : List X) → SameMembers xs xs
-same_itself xs = record { front = λ x h. h; back = λ x h. h }
-
-pub same_put : (cs ds es : List (List Lit)) (c : List Lit) → SameMembers cs ds → Puts c cs es → SameMembers es (ds ++ c ∷ [])
-same_put cs ds es c s p = record {
-  front = λ x h. elim (p.only x h) [ inl w ↦ in-left ds (c ∷ []) x (s.front x w) | inr e ↦ in-right ds (c ∷ []) x (inl e) ];
-  back = λ x h. elim (in-either ds (c ∷ []) x h) [
-    | inl w ↦ p.kept x (s.back x w)
-    | inr w ↦ elim w [ inl e ↦ subst (IsIn es) e p.has | inr n ↦ absurd n ]
-  ];
-}
-
--- the same elements in another order
-
-in_contains : {X : Type 0} (xs : List X) (x : X) → IsIn xs x → Contains xs x
-in_contains [] x h = absurd h
-in_contains (y ∷ ys) x h = elim h [
-  | inl e ↦ (0, omega arith, e)
-  | inr n ↦ let w = in_contains ys x n in (suc w.0, (let b = w.1 in omega (arith, b)), w.2)
-]
-
-contains_in : {X : Type 0} (xs : List X) (x : X) → Contains xs x → IsIn xs x
-contains_in [] x h = absurd (let b = h.1 in omega (arith, b))
-contains_in (y ∷ ys) x (zero, b, e) = inl e
-contains_in (y ∷ ys) x (suc k, b, e) = inr (contains_in ys x (k, omega (arith, b), e))
-
-pub same_sorted : {X : Type 0} (xs ys zs : List X) → IsPermutation xs ys → SameMembers zs ys → SameMembers zs xs
-same_sorted xs ys zs p s = record {
-  front = λ x h. contains_in xs x (Contains-permutation ys xs x (IsPermutation-sym xs ys p) (in_contains ys x (s.front x h)));
-  back = λ x h. s.back x (contains_in ys x (Contains-permutation xs ys x p (in_contains xs x h)));
-}

@@ -1,6 +1,5 @@
 // The parts of a cell.
-ghost use Rattle.std.specs.Prelude.{◌≡◌, [], IfOk, OnOk};
-ghost use Rattle.nk_values.specs.Members.{SameMembers};
+ghost use Rattle.std.specs.Prelude.{IfOk};
 ghost use Rattle.fdd_star.specs.Shared.{IsLeft};
 
 use crate::fault::StarError;
@@ -8,7 +7,7 @@ use crate::narrow::narrowed;
 use crate::reach::Reach;
 use crate::repetition::Found;
 use crate::shared::Shared;
-use fdd_nodes::{Assignments, Cell, Leaf};
+use fdd_nodes::{Cell, Leaf};
 use fdd_store::{Id, Store};
 use indexmap::{IndexMap, IndexSet};
 use nk_values::{Field, Lit, Packet};
@@ -69,7 +68,7 @@ impl Parts {
         )?;
         found.allowance = found.allowance.saturating_add(copies.len() / 4);
         let left = left_of(alloc, missed, asked)?;
-        let leaf = gathered(alloc, copies)?;
+        let leaf = Leaf::gathered(alloc, copies)?;
         let all = store.put_leaf(alloc, leaf)?;
         let body = narrowed(alloc, store, &mut found.allowance, assigned, p, cell, &left)?;
         Ok(Parts {
@@ -99,24 +98,4 @@ fn left_of(
         }
     }
     Ok(left)
-}
-
-// The leaf of some copies. They are sorted first, since it takes little time where they rise.
-fn gathered(alloc: Global, mut copies: Vec<Assignments>) -> Result<Leaf, AllocError>
-    ensures { IfOk result (λ r. SameMembers r copies.items) }
-{
-    copies.sort_unstable();
-    let mut leaf = Leaf::empty(alloc);
-    put_all(&mut leaf, copies)?;
-    Ok(leaf)
-}
-
-fn put_all(leaf: &mut Leaf, copies: Vec<Assignments>) -> Result<(), AllocError>
-    requires { leaf.old ≡ [] }
-    ensures { OnOk result (SameMembers leaf.new copies.items) }
-{
-    for copy in copies {
-        leaf.put(copy)?;
-    }
-    Ok(())
 }

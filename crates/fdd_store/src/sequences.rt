@@ -9,9 +9,9 @@ ghost use Rattle.fdd_store.specs.Stores.{Has, Grows, Gives, tree_at};
 
 use crate::call::Call;
 use crate::id::Id;
-use crate::leaves::{following, joined};
+use crate::leaves::following;
 use crate::store::{Look, Store};
-use fdd_nodes::{Assignments, Cell, Leaf};
+use fdd_nodes::{Assignments, Leaf};
 use nk_values::Field;
 use std::alloc::{AllocError, Global};
 
@@ -28,29 +28,16 @@ impl Store {
         }
     }
 
-    // A leaf after a leaf with one copy.
-    fn after_one(&self, alloc: Global, c: Id, b: Id) -> Result<Leaf, AllocError>
-        requires has_c { Has self.now c }
-        requires has_b { Has self.now b }
-        requires one { IsOne (tree_at self.now c) }
-        requires leaf { IsLeaf (tree_at self.now b) }
-        ensures { IfOk result (λ r. Follows (tree_at self.now c) (tree_at self.now b) (trees.Leaf r)) }
-    {
-        match self.leaf(c).copies() {
-            [copy] => following(alloc, &Cell::open(), copy, self.leaf(b)),
-            _ => unreachable!(),
-        }
-    }
-
-    fn push_leaf(&mut self, alloc: Global, c: Id, b: Id) -> Result<Id, AllocError>
-        requires has_c { Has self.old c }
+    // A leaf after a leaf.
+    fn follow_leaves(&mut self, alloc: Global, a: Id, b: Id) -> Result<Id, AllocError>
+        requires has_a { Has self.old a }
         requires has_b { Has self.old b }
-        requires one { IsOne (tree_at self.old c) }
-        requires leaf { IsLeaf (tree_at self.old b) }
+        requires leaf_a { IsLeaf (tree_at self.old a) }
+        requires leaf_b { IsLeaf (tree_at self.old b) }
         ensures grows { Grows self.old self.new }
-        ensures place { IfOk result (λ r. Gives self.new r (Follows (tree_at self.old c) (tree_at self.old b))) }
+        ensures place { IfOk result (λ r. Gives self.new r (Follows (tree_at self.old a) (tree_at self.old b))) }
     {
-        let all = self.after_one(alloc, c, b)?;
+        let all = following(alloc, self.leaf(a), self.leaf(b))?;
         self.put_leaf(alloc, all)
     }
 
@@ -81,7 +68,7 @@ impl Store {
         ensures place { IfOk result (λ r. Gives self.new r (Follows (tree_at self.old c) (tree_at self.old b))) }
     {
         match self.look(b) {
-            Look::Leaf => self.push_leaf(alloc, c, b),
+            Look::Leaf => self.follow_leaves(alloc, c, b),
             Look::Fork(m, t, e) => match self.set_by(c, m.field()) {
                 Some(n) => {
                     if n == m.value() {
@@ -134,10 +121,7 @@ impl Store {
         ensures place { IfOk result (λ r. Gives self.new r (Follows (tree_at self.old a) (tree_at self.old b))) }
     {
         match self.look(b) {
-            Look::Leaf => {
-                let all = leaf_after(alloc, self.leaf(a).copies(), self.leaf(b))?;
-                self.put_leaf(alloc, all)
-            }
+            Look::Leaf => self.follow_leaves(alloc, a, b),
             Look::Fork(_, _, _) => {
                 let leaf = self.leaf(a).copy(alloc)?;
                 self.gather(alloc, leaf.copies(), b)
@@ -176,22 +160,6 @@ impl Store {
                 let y = self.follow(alloc, e, b)?;
                 self.choose(alloc, l, x, y)
             }
-        }
-    }
-}
-
-// A leaf after each of some copies.
-fn leaf_after(alloc: Global, copies: &[Assignments], later: &Leaf) -> Result<Leaf, AllocError>
-    ensures { IfOk result (λ r. Follows (trees.Leaf copies.now) (trees.Leaf later.now) (trees.Leaf r)) }
-{
-    match copies {
-        [] => Ok(Leaf::empty(alloc)),
-        [copy] => following(alloc, &Cell::open(), copy, later),
-        _ => {
-            let (front, back) = copies.split_at(copies.len() / 2);
-            let x = leaf_after(alloc, front, later)?;
-            let y = leaf_after(alloc, back, later)?;
-            joined(alloc, &Cell::open(), &x, &y)
         }
     }
 }

@@ -15,10 +15,11 @@ ghost use Rattle.fdd_store.specs.Made.{IsMade};
 ghost use Rattle.fdd_store.specs.Stores.{Has, IsBelow, IsRight, IsStore, Grows, Gives, shape_tree, tree_at, trees as all_trees};
 
 use crate::call::Call;
+use crate::copies::SharedCopies;
 use crate::entry::{Entry, fields_set};
 use crate::id::Id;
 use crate::shape::Shape;
-use fdd_nodes::{Assignments, Fdd, Leaf, Node};
+use fdd_nodes::{Fdd, Leaf, Node};
 use indexmap::{IndexMap, IndexSet};
 use nk_values::{Field, Lit};
 use std::alloc::{AllocError, Global};
@@ -33,6 +34,7 @@ pub struct Store {
     shapes: IndexSet<Shape>,
     known: IndexMap<Call, Id>,
     entries: Vec<Entry>,
+    copies: SharedCopies,
 }
 
 impl Model for Store {
@@ -70,6 +72,7 @@ impl Store {
             shapes: IndexSet::new(alloc),
             known: IndexMap::new(alloc),
             entries: Vec::new(alloc),
+            copies: SharedCopies::new(alloc),
         }
     }
 
@@ -205,14 +208,14 @@ impl Store {
         ensures place { IfOk result (λ i. Gives self.new i (λ t. t ≡ trees.Leaf leaf)) }
         ensures err { OnErr result (self.new ≡ self.old) }
     {
-        tell_copies(leaf.copies());
-        let again = leaf.copy(alloc)?;
+        let shared = self.copies.leaf(alloc, &leaf)?;
+        let again = shared.copy(alloc)?;
         let entry = Entry {
             node: Rc::new(alloc, Node::Leaf(again))?,
             behind: Id::at(0),
-            sets: fields_set(leaf.copies()),
+            sets: fields_set(shared.copies()),
         };
-        self.put(Shape::Copies(leaf), entry)
+        self.put(Shape::Copies(shared), entry)
     }
 
     /// The diagram of a test that is not idle.
@@ -276,14 +279,5 @@ impl Store {
         self.shapes.truncate(size.shapes);
         self.known.truncate(size.known);
         self.entries.truncate(size.shapes);
-    }
-}
-
-/// Tells that each of some copies assigns a field at most once.
-fn tell_copies(copies: &[Assignments])
-    ensures { (x : List Lit) → IsIn copies.now x → IsCopy x }
-{
-    for c in copies {
-        let _lits = c.lits();
     }
 }

@@ -4,8 +4,8 @@ use Rattle.std.proofs.lemmas.Iterator.Adapters.{YieldsList-from_vec}
 use Rattle.std.proofs.lemmas.List.{map-id}
 use Rattle.nk_values.specs.Members.{SameMembers}
 use Rattle.nk_values.specs.declared.lit.Lit.{Lit}
-use Rattle.fdd_star.proofs.StarLaws.{same_itself, same_put}
-use Rattle.fdd_star.proofs.parts.put_all.Goals as goal
+use Rattle.fdd_nodes.proofs.GatherLaws.{same_itself, same_put}
+use Rattle.fdd_nodes.proofs.leaf.put_all.Goals as goal
 
 pub loop-copy-init : goal.loop-copy-init
 loop-copy-init c = subst (λ (xs : List (List Lit)). SameMembers xs []) (sym c.requires) (same_itself [])

@@ -1,5 +1,5 @@
-use Rattle.fdd_star.proofs.StarLaws.{same_sorted}
-use Rattle.fdd_star.proofs.parts.gathered.Goals as goal
+use Rattle.fdd_nodes.proofs.GatherLaws.{same_sorted}
+use Rattle.fdd_nodes.proofs.leaf.Leaf.gathered.Goals as goal
 
 pub returns : goal.returns
 returns c = same_sorted _ _ _ c.sort_unstable.ensures.permutation c.in_ok-put_all.ensures
