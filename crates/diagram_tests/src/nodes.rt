@@ -26,6 +26,19 @@ fn copies_rise_and_stand_once(rt: HostRuntime) -> Result<(), Fail> {
     Ok(())
 }
 
+#[test]
+fn gathered_copies_are_a_leaf(rt: HostRuntime) -> Result<(), Fail> {
+    let mut copies = Vec::new(rt.alloc());
+    copies.push(one(rt.alloc(), Field::EthDst, 2)?)?;
+    copies.push(one(rt.alloc(), Field::Pt, 5)?)?;
+    copies.push(one(rt.alloc(), Field::EthDst, 2)?)?;
+    let leaf = Leaf::gathered(rt.alloc(), copies)?;
+    assert!(rt; leaf == two_copies(rt.alloc())?);
+    let room = Leaf::with_capacity(rt.alloc(), 3)?;
+    assert_eq!(rt; room.copies().len(), 0);
+    Ok(())
+}
+
 // Some assignments and then one more.
 fn followed(alloc: Global, a: &Assignments, field: Field, value: u64) -> Result<Assignments, Fail> {
     let last = one(alloc, field, value)?;
