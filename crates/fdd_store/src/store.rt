@@ -201,14 +201,41 @@ impl Store {
         Ok(Id::at(place))
     }
 
+    // Where a node or a leaf stands, if it was put.
+    fn found(&self, shape: &Shape) -> Option<Id>
+        requires { IsBelow (length self.now.shapes) shape.now }
+        ensures { IfSome result (λ i. Gives self.now i (λ t. t ≡ shape_tree (all_trees self.now.shapes) shape.now)) }
+    {
+        match self.shapes.get_index_of(shape) {
+            None => None,
+            Some(place) => Some(Id::at(place)),
+        }
+    }
+
     /// The diagram that is a leaf.
-    #[tactic(auto, using(crate::proofs::EntryLaws::sets_leaf))]
     pub fn put_leaf(&mut self, alloc: Global, leaf: Leaf) -> Result<Id, AllocError>
         ensures grows { Grows self.old self.new }
         ensures place { IfOk result (λ i. Gives self.new i (λ t. t ≡ trees.Leaf leaf)) }
         ensures err { OnErr result (self.new ≡ self.old) }
     {
-        let shared = self.copies.leaf(alloc, &leaf)?;
+        let shape = Shape::Copies(leaf);
+        if let Some(place) = self.found(&shape) {
+            return Ok(place);
+        }
+        match shape {
+            Shape::Copies(leaf) => self.put_copies(alloc, &leaf),
+            Shape::Fork(_, _, _) => unreachable!(),
+        }
+    }
+
+    // Puts a leaf, of copies that are kept.
+    #[tactic(auto, using(crate::proofs::EntryLaws::sets_leaf))]
+    fn put_copies(&mut self, alloc: Global, leaf: &Leaf) -> Result<Id, AllocError>
+        ensures grows { Grows self.old self.new }
+        ensures place { IfOk result (λ i. Gives self.new i (λ t. t ≡ trees.Leaf leaf.now)) }
+        ensures err { OnErr result (self.new ≡ self.old) }
+    {
+        let shared = self.copies.leaf(alloc, leaf)?;
         let again = shared.copy(alloc)?;
         let entry = Entry {
             node: Rc::new(alloc, Node::Leaf(again))?,
