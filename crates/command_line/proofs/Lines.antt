@@ -9,10 +9,8 @@ use Rattle.clap.specs.Lexer.{long_of, short_of}
 use Rattle.clap.specs.Walk.{Names, Rule, Text, Walk, nothing_held, walk_from, walked, walked_from}
 use Rattle.clap.specs.Simple.{Shape, built, built_leaf, inherited, marked_built, names_of, new_app, new_shape, on_top, subcommand_of, with_leaf_noted, with_rule}
 use Rattle.clap.proofs.OnLiterals.{clap_on_literals}
-use Rattle.command_line.specs.declared.request.Command.{Command}
-use Rattle.command_line.specs.declared.request.Command.TheVariants.{Rules, Trace, Simulate}
-use Rattle.command_line.specs.declared.request.Request.TheVariants.{Workload}
-use Rattle.command_line.specs.Commands.{is_plain, word_of, workload_number}
+use Rattle.command_line.specs.declared.command.Command.TheVariants.{Generate}
+use Rattle.command_line.specs.Commands.{is_plain, workload_number}
 use Rattle.command_line.specs.Form.{asked_by, form, number}
 
 -- ---- faults one behind another
@@ -133,7 +131,7 @@ turn-one : (x y : Text) → bytes_eq x (45 ∷ 45 ∷ []) ≡ false → long_of 
 unfolding clap_on_literals
 turn-one x y a b c d e f = rw (a, b, c, d, e, f)
 
-found-number : (n x : Text) → bytes_eq x (45 ∷ 45 ∷ []) ≡ false → long_of x ≡ None → short_of x ≡ None → option_and_then asked_by (subcommand_of form (n ∷ codes "generate" ∷ x ∷ [])) ≡ option_map Workload (workload_number x)
+found-number : (n x : Text) → bytes_eq x (45 ∷ 45 ∷ []) ≡ false → long_of x ≡ None → short_of x ≡ None → option_and_then asked_by (subcommand_of form (n ∷ codes "generate" ∷ x ∷ [])) ≡ option_map Generate (workload_number x)
 unfolding clap_on_literals
 found-number n x a b c = rw (a, b, c)
 
@@ -153,7 +151,7 @@ number-alone n [] p e = absurd (no-kinds _ _ e)
 number-alone n (x ∷ []) p e = (x, refl, and-first _ _ p)
 number-alone n (x ∷ y ∷ zs) p e = absurd (many-words x y zs (and-first _ _ p) (and-first _ _ (and-second _ _ p)) (behind n (codes "generate") x (y ∷ zs) refl e))
 
-pub number-found : (n x : Text) → is_plain x ≡ true → option_and_then asked_by (subcommand_of form (n ∷ codes "generate" ∷ x ∷ [])) ≡ option_map Workload (workload_number x)
+pub number-found : (n x : Text) → is_plain x ≡ true → option_and_then asked_by (subcommand_of form (n ∷ codes "generate" ∷ x ∷ [])) ≡ option_map Generate (workload_number x)
 number-found n x p = found-number n x (not-dashes x p) (not-long x p) (not-short x p)
 
 pub number-faultless : (n x : Text) → is_plain x ≡ true → fault_of form (n ∷ codes "generate" ∷ x ∷ []) ≡ []
@@ -163,9 +161,11 @@ number-faultless n x p = number-taken n x (not-dashes x p) (not-long x p) (not-s
 
 -- The word behind the program's name, with what may stand behind it.
 pub data Taken (w : Text) (rest : List Text) : Type 0 where
-  command : (c : Command) → w ≡ word_of c → rest ≡ [] → Taken w rest
-  run : w ≡ codes "run" → rest ≡ [] → Taken w rest
-  workload : (x : Text) → w ≡ codes "generate" → rest ≡ x ∷ [] → is_plain x ≡ true → Taken w rest
+  for_rules : w ≡ codes "rules" → rest ≡ [] → Taken w rest
+  for_trace : w ≡ codes "trace" → rest ≡ [] → Taken w rest
+  for_simulate : w ≡ codes "simulate" → rest ≡ [] → Taken w rest
+  for_run : w ≡ codes "run" → rest ≡ [] → Taken w rest
+  for_generate : (x : Text) → w ≡ codes "generate" → rest ≡ x ∷ [] → is_plain x ≡ true → Taken w rest
 
 is-word : (a w : Text) → bytes_eq a w ≡ true → w ≡ a
 is-word a w e = sym ((bytes_eq-Decides a w).0 e)
@@ -175,11 +175,11 @@ with-word n w a rest e f = subst (λ (v : Text). fault_of form (n ∷ v ∷ rest
 
 taken-by : (n w : Text) (rest : List Text) (a b c d f : Bool) → bytes_eq (codes "rules") w ≡ a → bytes_eq (codes "trace") w ≡ b → bytes_eq (codes "simulate") w ≡ c → bytes_eq (codes "run") w ≡ d → bytes_eq (codes "generate") w ≡ f
     → is_plain w ≡ true → list_all is_plain rest ≡ true → fault_of form (n ∷ w ∷ rest) ≡ [] → Taken w rest
-taken-by n w rest true b c d f ea eb ec ed ef p q e = let is = is-word _ w ea in command Rules is (rules-alone n rest q (with-word n w _ rest is e))
-taken-by n w rest false true c d f ea eb ec ed ef p q e = let is = is-word _ w eb in command Trace is (trace-alone n rest q (with-word n w _ rest is e))
-taken-by n w rest false false true d f ea eb ec ed ef p q e = let is = is-word _ w ec in command Simulate is (simulate-alone n rest q (with-word n w _ rest is e))
-taken-by n w rest false false false true f ea eb ec ed ef p q e = let is = is-word _ w ed in run is (run-alone n rest q (with-word n w _ rest is e))
-taken-by n w rest false false false false true ea eb ec ed ef p q e = let is = is-word _ w ef in let h = number-alone n rest q (with-word n w _ rest is e) in workload h.0 is h.1 h.2
+taken-by n w rest true b c d f ea eb ec ed ef p q e = let is = is-word _ w ea in for_rules is (rules-alone n rest q (with-word n w _ rest is e))
+taken-by n w rest false true c d f ea eb ec ed ef p q e = let is = is-word _ w eb in for_trace is (trace-alone n rest q (with-word n w _ rest is e))
+taken-by n w rest false false true d f ea eb ec ed ef p q e = let is = is-word _ w ec in for_simulate is (simulate-alone n rest q (with-word n w _ rest is e))
+taken-by n w rest false false false true f ea eb ec ed ef p q e = let is = is-word _ w ed in for_run is (run-alone n rest q (with-word n w _ rest is e))
+taken-by n w rest false false false false true ea eb ec ed ef p q e = let is = is-word _ w ef in let h = number-alone n rest q (with-word n w _ rest is e) in for_generate h.0 is h.1 h.2
 taken-by n w rest false false false false false ea eb ec ed ef p q e = absurd (other-word n w rest ea eb ec ed ef p e)
 
 -- Words that are taken are these.

@@ -1,5 +1,5 @@
 -- What words ask for, and what they are taken for.
-use Rattle.std.proofs.Common.{◌≡◌, ◌∙◌, ◌==◌, ◌&&◌, inl, inr, ℕ, zero, suc, Bool, true, false, not, List, [], ◌∷◌, map, length, drop, All, Option, Some, None, IfSome, option_map, option_and_then, if◌then◌else◌, refl, sym, ap, ap₂, subst, codes, nat_le, nat_eq, String, string_bytes, arith}
+use Rattle.std.proofs.Common.{◌≡◌, ◌∙◌, ◌==◌, ◌&&◌, ℕ, zero, suc, Bool, true, false, not, List, [], ◌∷◌, map, length, drop, All, Option, Some, None, IfSome, option_map, option_and_then, if◌then◌else◌, refl, sym, ap, ap₂, subst, codes, nat_le, nat_eq, String, string_bytes, arith}
 use Rattle.std.specs.declared.alloc.Global.{Global}
 use Rattle.std.specs.List.{list_all}
 use Rattle.clap.specs.Faults.{fault_of}
@@ -8,13 +8,11 @@ use Rattle.std.proofs.lemmas.Bool.{eqb-true}
 use Rattle.clap.specs.Simple.{subcommand_of}
 use Rattle.clap.proofs.OnLiterals.{clap_on_literals}
 use Rattle.netkat_parser.specs.Numbers.{at_most}
-use Rattle.command_line.specs.declared.request.Command.{Command}
-use Rattle.command_line.specs.declared.request.Command.TheVariants.{Rules, Trace, Simulate}
-use Rattle.command_line.specs.declared.request.Request.{Request}
-use Rattle.command_line.specs.declared.request.Request.TheVariants.{Over, Run, Workload}
-use Rattle.command_line.specs.Commands.{is_plain, word_of, workload_number, Asks, AsksFor, AsksRun, AsksWorkload, IsCommandLine, IsPlain}
+use Rattle.command_line.specs.declared.command.Command.{Command}
+use Rattle.command_line.specs.declared.command.Command.TheVariants.{Rules, Trace, Simulate, Run, Generate}
+use Rattle.command_line.specs.Commands.{is_plain, workload_number, Asks, IsCommandLine, IsPlain, OneCommand}
 use Rattle.command_line.specs.Form.{asked_by, form}
-use Rattle.command_line.proofs.Lines.{Taken, command, run, workload, taken, number-found, number-faultless}
+use Rattle.command_line.proofs.Lines.{Taken, for_rules, for_trace, for_simulate, for_run, for_generate, taken, number-found, number-faultless}
 
 -- ---- numbers begin with a digit
 
@@ -35,80 +33,100 @@ plain-number (c ∷ cs) k e = plain-by c cs k (c == 45) refl e
 
 -- ---- what is asked for is found
 
-faultless-command : (c : Command) (n : Text) → fault_of form (n ∷ word_of c ∷ []) ≡ []
+faultless-rules : (n : Text) → fault_of form (n ∷ codes "rules" ∷ []) ≡ []
 unfolding clap_on_literals
-faultless-command Rules n = refl
-faultless-command Trace n = refl
-faultless-command Simulate n = refl
+faultless-rules n = refl
+
+faultless-trace : (n : Text) → fault_of form (n ∷ codes "trace" ∷ []) ≡ []
+unfolding clap_on_literals
+faultless-trace n = refl
+
+faultless-simulate : (n : Text) → fault_of form (n ∷ codes "simulate" ∷ []) ≡ []
+unfolding clap_on_literals
+faultless-simulate n = refl
 
 faultless-run : (n : Text) → fault_of form (n ∷ codes "run" ∷ []) ≡ []
 unfolding clap_on_literals
 faultless-run n = refl
 
-found-command : (c : Command) (n : Text) → option_and_then asked_by (subcommand_of form (n ∷ word_of c ∷ [])) ≡ Some (Over c)
+found-rules : (n : Text) → option_and_then asked_by (subcommand_of form (n ∷ codes "rules" ∷ [])) ≡ Some Rules
 unfolding clap_on_literals
-found-command Rules n = refl
-found-command Trace n = refl
-found-command Simulate n = refl
+found-rules n = refl
+
+found-trace : (n : Text) → option_and_then asked_by (subcommand_of form (n ∷ codes "trace" ∷ [])) ≡ Some Trace
+unfolding clap_on_literals
+found-trace n = refl
+
+found-simulate : (n : Text) → option_and_then asked_by (subcommand_of form (n ∷ codes "simulate" ∷ [])) ≡ Some Simulate
+unfolding clap_on_literals
+found-simulate n = refl
 
 found-run : (n : Text) → option_and_then asked_by (subcommand_of form (n ∷ codes "run" ∷ [])) ≡ Some Run
 unfolding clap_on_literals
 found-run n = refl
 
 -- words that ask for something have no fault
-pub faultless : (q : Request) (ws : List (String Global)) → AsksFor q ws → fault_of form (map string_bytes ws) ≡ []
-faultless (Over c) ws h = ap (fault_of form) h.1 ∙ faultless-command c h.0
+pub faultless : (c : Command) (ws : List (String Global)) → Asks c ws → fault_of form (map string_bytes ws) ≡ []
+faultless Rules ws h = ap (fault_of form) h.1 ∙ faultless-rules h.0
+faultless Trace ws h = ap (fault_of form) h.1 ∙ faultless-trace h.0
+faultless Simulate ws h = ap (fault_of form) h.1 ∙ faultless-simulate h.0
 faultless Run ws h = ap (fault_of form) h.1 ∙ faultless-run h.0
-faultless (Workload n) ws h = ap (fault_of form) h.2 ∙ number-faultless h.0 h.1 (plain-number h.1 n h.3)
+faultless (Generate n) ws h = ap (fault_of form) h.2 ∙ number-faultless h.0 h.1 (plain-number h.1 n h.3)
+
+-- what these words are taken for
+abbrev taken-for : List Text → Option Command
+taken-for ts = option_and_then asked_by (subcommand_of form ts)
 
 -- and are taken for it
-pub found : (q : Request) (ws : List (String Global)) → AsksFor q ws → option_and_then asked_by (subcommand_of form (map string_bytes ws)) ≡ Some q
-found (Over c) ws h = ap (λ (t : List Text). option_and_then asked_by (subcommand_of form t)) h.1 ∙ found-command c h.0
-found Run ws h = ap (λ (t : List Text). option_and_then asked_by (subcommand_of form t)) h.1 ∙ found-run h.0
-found (Workload n) ws h = ap (λ (t : List Text). option_and_then asked_by (subcommand_of form t)) h.2 ∙ number-found h.0 h.1 (plain-number h.1 n h.3) ∙ ap (option_map Workload) h.3
+pub found : (c : Command) (ws : List (String Global)) → Asks c ws → option_and_then asked_by (subcommand_of form (map string_bytes ws)) ≡ Some c
+found Rules ws h = ap taken-for h.1 ∙ found-rules h.0
+found Trace ws h = ap taken-for h.1 ∙ found-trace h.0
+found Simulate ws h = ap taken-for h.1 ∙ found-simulate h.0
+found Run ws h = ap taken-for h.1 ∙ found-run h.0
+found (Generate n) ws h = ap taken-for h.2 ∙ number-found h.0 h.1 (plain-number h.1 n h.3) ∙ ap (option_map Generate) h.3
 
 -- ---- what words are taken for they ask for
 
-as-number : (x : Text) (o : Option ℕ) (P : Request → Type 0) → workload_number x ≡ o → ((k : ℕ) → workload_number x ≡ Some k → P (Workload k)) → IfSome (option_map Workload o) P
+as-number : (x : Text) (o : Option ℕ) (P : Command → Type 0) → workload_number x ≡ o → ((k : ℕ) → workload_number x ≡ Some k → P (Generate k)) → IfSome (option_map Generate o) P
 as-number x None P e h = tt
 as-number x (Some k) P e h = h k e
 
-asks-taken : (ws : List (String Global)) (n w : Text) (rest : List Text) → map string_bytes ws ≡ n ∷ w ∷ rest → Taken w rest → IfSome (option_and_then asked_by (subcommand_of form (n ∷ w ∷ rest))) (λ q. AsksFor q ws)
-asks-taken ws n w rest e (command c is none) =
-    let f : n ∷ w ∷ rest ≡ n ∷ word_of c ∷ [] = ap₂ (λ a b. n ∷ a ∷ b) is none in
-    subst (λ (o : Option Request). IfSome o (λ q. AsksFor q ws)) (sym (ap (λ (t : List Text). option_and_then asked_by (subcommand_of form t)) f ∙ found-command c n)) (n, e ∙ f)
-asks-taken ws n w rest e (run is none) =
-    let f : n ∷ w ∷ rest ≡ n ∷ codes "run" ∷ [] = ap₂ (λ a b. n ∷ a ∷ b) is none in
-    subst (λ (o : Option Request). IfSome o (λ q. AsksFor q ws)) (sym (ap (λ (t : List Text). option_and_then asked_by (subcommand_of form t)) f ∙ found-run n)) (n, e ∙ f)
-asks-taken ws n w rest e (workload x is one p) =
+-- a word alone
+asks-alone : (ws : List (String Global)) (n w word : Text) (rest : List Text) (c : Command) → map string_bytes ws ≡ n ∷ w ∷ rest → w ≡ word → rest ≡ [] → option_and_then asked_by (subcommand_of form (n ∷ word ∷ [])) ≡ Some c
+    → (map string_bytes ws ≡ n ∷ word ∷ [] → Asks c ws) → IfSome (option_and_then asked_by (subcommand_of form (n ∷ w ∷ rest))) (λ d. Asks d ws)
+asks-alone ws n w word rest c e is none at asks =
+    let f : n ∷ w ∷ rest ≡ n ∷ word ∷ [] = ap₂ (λ a b. n ∷ a ∷ b) is none in
+    subst (λ (o : Option Command). IfSome o (λ d. Asks d ws)) (sym (ap taken-for f ∙ at)) (asks (e ∙ f))
+
+asks-taken : (ws : List (String Global)) (n w : Text) (rest : List Text) → map string_bytes ws ≡ n ∷ w ∷ rest → Taken w rest → IfSome (option_and_then asked_by (subcommand_of form (n ∷ w ∷ rest))) (λ c. Asks c ws)
+asks-taken ws n w rest e (for_rules is none) = asks-alone ws n w (codes "rules") rest Rules e is none (found-rules n) (λ f. (n, f))
+asks-taken ws n w rest e (for_trace is none) = asks-alone ws n w (codes "trace") rest Trace e is none (found-trace n) (λ f. (n, f))
+asks-taken ws n w rest e (for_simulate is none) = asks-alone ws n w (codes "simulate") rest Simulate e is none (found-simulate n) (λ f. (n, f))
+asks-taken ws n w rest e (for_run is none) = asks-alone ws n w (codes "run") rest Run e is none (found-run n) (λ f. (n, f))
+asks-taken ws n w rest e (for_generate x is one p) =
     let f : n ∷ w ∷ rest ≡ n ∷ codes "generate" ∷ x ∷ [] = ap₂ (λ a b. n ∷ a ∷ b) is one in
-    subst (λ (o : Option Request). IfSome o (λ q. AsksFor q ws)) (sym (ap (λ (t : List Text). option_and_then asked_by (subcommand_of form t)) f ∙ number-found n x p))
-    (as-number x (workload_number x) (λ q. AsksFor q ws) refl (λ k is'. (n, x, e ∙ f, is')))
+    subst (λ (o : Option Command). IfSome o (λ c. Asks c ws)) (sym (ap taken-for f ∙ number-found n x p))
+    (as-number x (workload_number x) (λ c. Asks c ws) refl (λ k is'. (n, x, e ∙ f, is')))
 
 -- no word, or the program's name alone
-short : (ws : List (String Global)) (ts : List Text) → map string_bytes ws ≡ ts → list_all is_plain (drop 1 ts) ≡ true → fault_of form ts ≡ [] → IfSome (option_and_then asked_by (subcommand_of form ts)) (λ q. AsksFor q ws)
+short : (ws : List (String Global)) (ts : List Text) → map string_bytes ws ≡ ts → list_all is_plain (drop 1 ts) ≡ true → fault_of form ts ≡ [] → IfSome (option_and_then asked_by (subcommand_of form ts)) (λ c. Asks c ws)
 unfolding clap_on_literals
 short ws [] e p f = tt
 short ws (n ∷ []) e p f = tt
 short ws (n ∷ w ∷ rest) e p f = asks-taken ws n w rest e (taken n w rest p f)
 
-pub asks : (ws : List (String Global)) → list_all is_plain (drop 1 (map string_bytes ws)) ≡ true → fault_of form (map string_bytes ws) ≡ [] → IfSome (option_and_then asked_by (subcommand_of form (map string_bytes ws))) (λ q. AsksFor q ws)
+pub asks : (ws : List (String Global)) → list_all is_plain (drop 1 (map string_bytes ws)) ≡ true → fault_of form (map string_bytes ws) ≡ [] → IfSome (option_and_then asked_by (subcommand_of form (map string_bytes ws))) (λ c. Asks c ws)
 asks ws p f = short ws (map string_bytes ws) refl p f
 
 -- ---- command lines
 
-pub request_of_line : (ws : List (String Global)) → IsCommandLine ws → (q : Request) × AsksFor q ws
-request_of_line ws (inl (inl (c, h))) = (Over c, h)
-request_of_line ws (inl (inr (n, h))) = (Workload n, h)
-request_of_line ws (inr h) = (Run, h)
-
 -- no word of a command line begins with a dash
-texts-plain : (q : Request) (ws : List (String Global)) → AsksFor q ws → list_all is_plain (drop 1 (map string_bytes ws)) ≡ true
-texts-plain (Over Rules) ws h = ap (λ (t : List Text). list_all is_plain (drop 1 t)) h.1
-texts-plain (Over Trace) ws h = ap (λ (t : List Text). list_all is_plain (drop 1 t)) h.1
-texts-plain (Over Simulate) ws h = ap (λ (t : List Text). list_all is_plain (drop 1 t)) h.1
+texts-plain : (c : Command) (ws : List (String Global)) → Asks c ws → list_all is_plain (drop 1 (map string_bytes ws)) ≡ true
+texts-plain Rules ws h = ap (λ (t : List Text). list_all is_plain (drop 1 t)) h.1
+texts-plain Trace ws h = ap (λ (t : List Text). list_all is_plain (drop 1 t)) h.1
+texts-plain Simulate ws h = ap (λ (t : List Text). list_all is_plain (drop 1 t)) h.1
 texts-plain Run ws h = ap (λ (t : List Text). list_all is_plain (drop 1 t)) h.1
-texts-plain (Workload n) ws h = ap (λ (t : List Text). list_all is_plain (drop 1 t)) h.2 ∙ ap (λ (b : Bool). b && true) (plain-number h.1 n h.3)
+texts-plain (Generate n) ws h = ap (λ (t : List Text). list_all is_plain (drop 1 t)) h.2 ∙ ap (λ (b : Bool). b && true) (plain-number h.1 n h.3)
 
 pub all_plain : (ws : List (String Global)) → All IsPlain ws → list_all is_plain (map string_bytes ws) ≡ true
 all_plain [] h = refl
@@ -141,33 +159,18 @@ behind_plain [] h = refl
 behind_plain (w ∷ ws) h = all_plain ws h
 
 pub line_plain : (ws : List (String Global)) → IsCommandLine ws → All IsPlain (drop 1 ws)
-line_plain ws h = let q = request_of_line ws h in line-behind ws (texts-plain q.0 ws q.1)
+line_plain ws h = line-behind ws (texts-plain h.0 ws h.1)
 
 pub line_faultless : (ws : List (String Global)) → IsCommandLine ws → fault_of form (map string_bytes ws) ≡ []
-line_faultless ws h = let q = request_of_line ws h in faultless q.0 ws q.1
+line_faultless ws h = faultless h.0 ws h.1
 
-some-request : (o : Option Request) (q : Request) → o ≡ None → o ≡ Some q → ⊥
-some-request o q e f = absurd (cc)
+some-command : (o : Option Command) (c : Command) → o ≡ None → o ≡ Some c → ⊥
+some-command o c e f = absurd (cc)
 
 pub line_found : (ws : List (String Global)) → option_and_then asked_by (subcommand_of form (map string_bytes ws)) ≡ None → IsCommandLine ws → ⊥
-line_found ws e h = let q = request_of_line ws h in some-request _ q.0 e (found q.0 ws q.1)
+line_found ws e h = some-command _ h.0 e (found h.0 ws h.1)
 
 -- ---- words ask for one thing
 
-pub one_request : (q r : Request) (ws : List (String Global)) → AsksFor q ws → AsksFor r ws → q ≡ r
-one_request q r ws h k = let a = found q ws h in let b = found r ws k in cc
-
-pub one_command : (c d : Command) (ws : List (String Global)) → Asks c ws → Asks d ws → c ≡ d
-one_command c d ws h k = let e = one_request (Over c) (Over d) ws h k in cc
-
-pub one_workload : (m n : ℕ) (ws : List (String Global)) → AsksWorkload m ws → AsksWorkload n ws → m ≡ n
-one_workload m n ws h k = let e = one_request (Workload m) (Workload n) ws h k in cc
-
-pub run_no_command : (c : Command) (ws : List (String Global)) → AsksRun ws → Asks c ws → ⊥
-run_no_command c ws h k = let e = one_request Run (Over c) ws h k in absurd (cc)
-
-pub workload_no_command : (c : Command) (n : ℕ) (ws : List (String Global)) → AsksWorkload n ws → Asks c ws → ⊥
-workload_no_command c n ws h k = let e = one_request (Workload n) (Over c) ws h k in absurd (cc)
-
-pub workload_no_run : (n : ℕ) (ws : List (String Global)) → AsksWorkload n ws → AsksRun ws → ⊥
-workload_no_run n ws h k = let e = one_request (Workload n) Run ws h k in absurd (cc)
+pub one_command_asked : OneCommand
+one_command_asked c d ws h k = let a = found c ws h in let b = found d ws k in cc

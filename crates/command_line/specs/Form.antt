@@ -3,9 +3,8 @@ use Rattle.std.specs.Prelude.{true, List, [], Option, Some, None, option_and_the
 use Rattle.std.specs.Str.{bytes_eq}
 use Rattle.clap.specs.Walk.{Row, Rule, Text, first_of}
 use Rattle.clap.specs.Simple.{App, new_app, new_rule, new_shape, with_rule, with_subcommand}
-use Rattle.command_line.specs.declared.request.Command.TheVariants.{Rules, Trace, Simulate}
-use Rattle.command_line.specs.declared.request.Request.{Request}
-use Rattle.command_line.specs.declared.request.Request.TheVariants.{Over, Run, Workload}
+use Rattle.command_line.specs.declared.command.Command.{Command}
+use Rattle.command_line.specs.declared.command.Command.TheVariants.{Rules, Trace, Simulate, Run, Generate}
 use Rattle.command_line.specs.Commands.{workload_number}
 
 -- the one positional
@@ -23,10 +22,10 @@ form = with_subcommand (with_subcommand (with_subcommand (with_subcommand (with_
     ((with_rule (new_app (codes "generate")) number).top)
 
 -- what was asked for, by the subcommand that was met and what was found there
-abbrev pub asked_by : Text × List Row → Option Request
-asked_by p = if bytes_eq p.0 (codes "rules") then Some (Over Rules)
-    else (if bytes_eq p.0 (codes "trace") then Some (Over Trace)
-    else (if bytes_eq p.0 (codes "simulate") then Some (Over Simulate)
+abbrev pub asked_by : Text × List Row → Option Command
+asked_by p = if bytes_eq p.0 (codes "rules") then Some Rules
+    else (if bytes_eq p.0 (codes "trace") then Some Trace
+    else (if bytes_eq p.0 (codes "simulate") then Some Simulate
     else (if bytes_eq p.0 (codes "run") then Some Run
-    else (if bytes_eq p.0 (codes "generate") then option_and_then (λ t. option_map Workload (workload_number t)) (first_of (codes "number") p.1)
+    else (if bytes_eq p.0 (codes "generate") then option_and_then (λ t. option_map Generate (workload_number t)) (first_of (codes "number") p.1)
     else None))))

@@ -1,4 +1,4 @@
-// The form of a command line, as `clap` reads it.
+//! The form of a command line, as `clap` reads it.
 ghost use Rattle.std.specs.Prelude.{◌≡◌, IfOk};
 ghost use Rattle.clap.specs.Words.{app_of, is_broken};
 ghost use Rattle.command_line.specs.Form.{form};

@@ -1,11 +1,11 @@
-// The words of a command line.
+//! The words of a command line.
 ghost use Rattle.std.specs.Prelude.{◌≡◌, IfOk, IfSome, IfNone, All, IsTrue, ◌↔◌, option_and_then};
 ghost use Rattle.clap.specs.Words.{first_of, subcommand_rows_of};
-ghost use Rattle.command_line.specs.Commands.{AsksFor, IsCommandLine, IsPlain, workload_number};
+ghost use Rattle.command_line.specs.Commands.{Asks, IsCommandLine, IsPlain, workload_number};
 ghost use Rattle.command_line.specs.Form.{asked_by};
 
 use crate::asking::form;
-use crate::request::{Command, Request};
+use crate::command::Command;
 use clap::ArgMatches;
 use clap::error::ErrorKind;
 use netkat_parser::numeral;
@@ -13,8 +13,8 @@ use std::alloc::{AllocError, Global};
 
 /// What the words ask for, if they are a command line: the program's name and the word of a command, and behind
 /// `generate` a number.
-pub fn asked<'a>(alloc: Global, words: &'a [String]) -> Result<Option<Request>, AllocError>
-    ensures some { IfOk result (λ r. IfSome r (λ q. AsksFor q words.now)) }
+pub fn asked<'a>(alloc: Global, words: &'a [String]) -> Result<Option<Command>, AllocError>
+    ensures some { IfOk result (λ r. IfSome r (λ c. Asks c words.now)) }
     ensures none { IfOk result (λ r. IfNone r (¬ (IsCommandLine words.now))) }
 {
     if words.is_empty() {
@@ -24,7 +24,7 @@ pub fn asked<'a>(alloc: Global, words: &'a [String]) -> Result<Option<Request>, 
         return Ok(None);
     }
     match form(alloc)?.try_get_matches_from(words) {
-        Ok(matches) => Ok(request_of(&matches)),
+        Ok(matches) => Ok(command_of(&matches)),
         Err(error) if error.kind() == ErrorKind::OutOfMemory => Err(AllocError),
         Err(_) => Ok(None),
     }
@@ -38,16 +38,16 @@ fn are_plain(words: &[String]) -> bool
 }
 
 // What was asked for, by the subcommand that the words name.
-fn request_of(matches: &ArgMatches) -> Option<Request>
+fn command_of(matches: &ArgMatches) -> Option<Command>
     ensures { result ≡ option_and_then asked_by (subcommand_rows_of matches.now) }
 {
     let (name, inner) = matches.subcommand()?;
     match name {
-        "rules" => Some(Request::Over(Command::Rules)),
-        "trace" => Some(Request::Over(Command::Trace)),
-        "simulate" => Some(Request::Over(Command::Simulate)),
-        "run" => Some(Request::Run),
-        "generate" => number_of(inner.get_str("number")?).map(Request::Workload),
+        "rules" => Some(Command::Rules),
+        "trace" => Some(Command::Trace),
+        "simulate" => Some(Command::Simulate),
+        "run" => Some(Command::Run),
+        "generate" => number_of(inner.get_str("number")?).map(Command::Generate),
         _ => None,
     }
 }

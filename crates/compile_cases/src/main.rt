@@ -9,7 +9,7 @@
 //! ports that set the four fields, beside sums at other ports which set ethDst by the numbers of one field each. The diagrams of
 //! rectangles share their parts: their tests are not counted, since each path has its own. What is made of a packet is told as a
 //! policy: the assignments that make each of its packets, `skip` for the packet itself and `drop` for none, or, where they are
-//! more than nine, how many they are.
+//! more than nine, how many they are. A packet that is made twice is told twice.
 #![tactic(auto)]
 
 mod policies;
@@ -17,13 +17,20 @@ mod told;
 
 use crate::policies::{packet_of, rectangle, rectangle_tests, star_of_rectangle, steps};
 use crate::told::{Tests, answer};
+use fdd_compile::Compiler;
 use nk_values::Packet;
 use std::alloc::{AllocError, Global};
 use std::io;
 
 fn main(rt: HostRuntime) -> io::Result<()> {
+    let text = io::read_to_string(rt.alloc(), rt.stdin())?;
+    let mut compiler = Compiler::new(rt.alloc());
+    tell(&rt, &mut compiler, &text)
+}
+
+// Tells the lines of a text, with one compiler for all policies.
+fn tell<R: Print + AllocGlobal>(rt: &R, compiler: &mut Compiler, text: &str) -> io::Result<()> {
     let alloc = rt.alloc();
-    let text = io::read_to_string(alloc, rt.stdin())?;
     let mut asked = Vec::new(alloc);
     for line in text.lines() {
         if line.starts_with("==") {
@@ -33,32 +40,38 @@ fn main(rt: HostRuntime) -> io::Result<()> {
             asked.push(packet_of(alloc, packet)?)?;
             println!(rt; "{line}")?;
         } else {
-            println!(rt; "{}", of_line(alloc, line, &asked)?)?;
+            println!(rt; "{}", of_line(alloc, compiler, line, &asked)?)?;
         }
     }
     Ok(())
 }
 
-fn of_line(alloc: Global, line: &str, asked: &[Packet]) -> Result<String, AllocError> {
+fn of_line(
+    alloc: Global,
+    compiler: &mut Compiler,
+    line: &str,
+    asked: &[Packet],
+) -> Result<String, AllocError> {
     if let Some(rest) = line.strip_prefix("steps ") {
         let (count, guard) = rest.split_once(" in ").unwrap_or((rest, "skip"));
-        return of_steps(alloc, count.parse().unwrap_or(0), guard, asked);
+        return of_steps(alloc, compiler, count.parse().unwrap_or(0), guard, asked);
     }
     if let Some(count) = line.strip_prefix("star of rectangle ") {
         let policy = star_of_rectangle(alloc, count.parse().unwrap_or(0))?;
-        return answer(alloc, &policy, asked, Tests::Uncounted);
+        return answer(alloc, compiler, &policy, asked, Tests::Uncounted);
     }
     match line.strip_prefix("rectangle ") {
         Some(count) => {
             let policy = rectangle(alloc, count.parse().unwrap_or(0))?;
-            answer(alloc, &policy, asked, Tests::Uncounted)
+            answer(alloc, compiler, &policy, asked, Tests::Uncounted)
         }
-        None => answer(alloc, line, asked, Tests::Counted),
+        None => answer(alloc, compiler, line, asked, Tests::Counted),
     }
 }
 
 fn of_steps(
     alloc: Global,
+    compiler: &mut Compiler,
     count: u64,
     guard: &str,
     asked: &[Packet],
@@ -67,8 +80,14 @@ fn of_steps(
         Some(numbers) => {
             let tests = rectangle_tests(alloc, numbers.parse().unwrap_or(0))?;
             let policy = steps(alloc, count, &tests)?;
-            answer(alloc, &policy, asked, Tests::Uncounted)
+            answer(alloc, compiler, &policy, asked, Tests::Uncounted)
         }
-        None => answer(alloc, &steps(alloc, count, guard)?, asked, Tests::Counted),
+        None => answer(
+            alloc,
+            compiler,
+            &steps(alloc, count, guard)?,
+            asked,
+            Tests::Counted,
+        ),
     }
 }

@@ -1,4 +1,4 @@
-// Packets and policies that lines stand for.
+//! Packets and policies that lines stand for.
 use netkat_parser::{ParseError, parse_policy};
 use nk_syntax::Pol;
 use nk_values::{Header, Packet};

@@ -1,11 +1,10 @@
-// Answers of diagrams, and faults, as they are printed.
-use fdd_compile::{CompileError, CompileFault, Compiled, compile, names_few};
+//! Answers of diagrams, and faults, as they are printed.
+use fdd_compile::{CompileError, CompileFault, Compiled, Compiler, names_few};
 use fdd_nodes::Node;
 use netkat_parser::{ParseError, parse_policy};
 use nk_syntax::Pol;
 use nk_values::{Field, IPV4_TYPE, Packet};
 use std::alloc::{AllocError, Global};
-use std::collections::BTreeSet;
 
 /// Whether the tests of a diagram are counted, path by path.
 #[derive(Clone, Copy, PartialEq)]
@@ -17,12 +16,13 @@ pub enum Tests {
 /// What is told of a policy.
 pub fn answer(
     alloc: Global,
+    compiler: &mut Compiler,
     policy: &str,
     asked: &[Packet],
     tests: Tests,
 ) -> Result<String, AllocError> {
     match parse_policy(alloc, policy.as_bytes()) {
-        Ok(pol) => compiled(alloc, &pol, asked, tests),
+        Ok(pol) => compiled(alloc, compiler, &pol, asked, tests),
         Err(ParseError::Fault(_)) => String::from_str(alloc, "no policy"),
         Err(ParseError::Memory) => Err(AllocError),
     }
@@ -30,6 +30,7 @@ pub fn answer(
 
 fn compiled(
     alloc: Global,
+    compiler: &mut Compiler,
     pol: &Pol,
     asked: &[Packet],
     tests: Tests,
@@ -37,7 +38,7 @@ fn compiled(
     if !names_few(alloc, pol)? {
         return String::from_str(alloc, "too many values");
     }
-    match compile(alloc, pol) {
+    match compiler.compile(alloc, pol) {
         Ok(done) => told(alloc, &done, asked, tests),
         Err(CompileError::Fault(fault)) => fault_text(alloc, fault),
         Err(CompileError::Memory) => Err(AllocError),
@@ -69,19 +70,20 @@ fn count(node: &Node) -> u64 {
     }
 }
 
-// Packets as a sum of what makes them, in the order of its texts.
+// Packets as a sum of what makes them, each as often as it is made, in the order of its texts.
 fn sum(alloc: Global, from: &Packet, made: &[Packet]) -> Result<String, AllocError> {
-    let mut texts = BTreeSet::new(alloc);
+    let mut texts = Vec::new(alloc);
     for to in made {
-        texts.insert(change(alloc, from, to)?)?;
+        texts.push(change(alloc, from, to)?)?;
     }
+    texts.sort()?;
     if texts.len() > 9 {
         return format!(in alloc; "{} packets", texts.len());
     }
     joined(alloc, &texts)
 }
 
-fn joined(alloc: Global, texts: &BTreeSet<String>) -> Result<String, AllocError> {
+fn joined(alloc: Global, texts: &[String]) -> Result<String, AllocError> {
     let mut sum = String::new(alloc);
     for text in texts {
         if !sum.is_empty() {

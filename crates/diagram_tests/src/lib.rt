@@ -9,3 +9,5 @@ mod names;
 mod nodes;
 #[cfg(test)]
 mod operations;
+#[cfg(test)]
+mod splits;

@@ -1,5 +1,5 @@
 -- Settings that are taken.
-use Rattle.std.proofs.Common.{◌≡◌, ◌≢◌, ℕ, ◌≤◌, Bool, true, false, not, ◌&&◌, ◌==◌, nat_le, List, [], ◌∷◌, length, map, None, Result, Ok, refl, ◌∙◌, subst, arith}
+use Rattle.std.proofs.Common.{◌≡◌, ◌≢◌, ℕ, ◌≤◌, Bool, true, false, not, ◌&&◌, ◌==◌, nat_le, List, [], ◌∷◌, length, map, None, Result, Ok, Err, refl, sym, ◌∙◌, subst, arith}
 use Rattle.std.proofs.lemmas.Bool.Decides.{nat_tests}
 use Rattle.std.proofs.lemmas.Bool.{eq-eqb, eqb-true}
 use Rattle.nk_values.specs.declared.fault.TextFault.{TextFault}
@@ -12,7 +12,10 @@ use Rattle.topology_model.specs.Lines.{fault_from}
 use Rattle.document_text.specs.Documents.{Accepted}
 use Rattle.document_text.specs.States.{State, has_edge, is_empty, doc_of_state}
 use Rattle.document_text.specs.Schedules.{refused_if}
-use Rattle.document_text.specs.Lines.{unset}
+use Rattle.document_text.specs.declared.fault.Stop.{Stop}
+use Rattle.document_text.specs.declared.fault.Stop.TheVariants as stop
+use Rattle.document_text.specs.Answers.{Becomes, Leads}
+use Rattle.document_text.specs.Lines.{unset, new_number}
 use Rattle.document_text.specs.Grammar.{finished, refused_at}
 
 within : (m n : ℕ) → m ≤ n → nat_le m n ≡ true
@@ -21,20 +24,19 @@ within m n h = grind (arith, nat_tests)
 apart : (m n : ℕ) → m ≢ n → (m == n) ≡ false
 apart m n h = grind (arith, nat_tests)
 
-pub in-range : (n high : ℕ) → 1 ≤ n → n ≤ high → not (nat_le 1 n && nat_le n high) ≡ false
-in-range n high l h = rw (within 1 n l, within n high h) refl
-
 pub stamps-in-range : (low high : ℕ) → 1 ≤ low → low ≤ high → high ≤ 4094 → not (nat_le 1 low && nat_le low high && nat_le high 4094) ≡ false
 stamps-in-range low high l m h = rw (within 1 low l, within low high m, within high 4094 h) refl
 
 pub two-stamps : (low high : ℕ) → low ≢ high → (low == high) ≡ false
 two-stamps low high h = apart low high h
 
--- what passes both tests
-pub unset-ok : (s : State) (given given' bad : Bool) (f : TextFault) (t : State) → given' ≡ given → ((r : Result State TextFault) → unset s given' r ≡ r) → bad ≡ false
-    → unset s given (refused_if bad f (Ok t)) ≡ Ok t
-unset-ok s given given' bad f t e tests b = subst (λ g. unset s g (refused_if bad f (Ok t)) ≡ Ok t) e (tests (refused_if bad f (Ok t)) ∙ rw b refl)
+-- a number that may not be given stops the line
+pub no-number : {U : Type 0} (s : State) (given given' : Bool) (most : ℕ) (ws : List (List ℕ)) (next : ℕ → Result State TextFault) (e : Stop) (r : Result U Stop) → given' ≡ given
+    → Leads (new_number s given' most ws) (Err e) → r ≡ Err e → Becomes (new_number s given most ws next) s s r
+no-number s given given' most ws next (stop.Fault f) r same h is = subst (λ x. Becomes (new_number s given most ws next) s s x) (sym is) (subst (λ g. new_number s g most ws next ≡ Err f) same (h next))
+no-number s given given' most ws next stop.Memory r same h is = subst (λ x. Becomes (new_number s given most ws next) s s x) (sym is) refl
 
+-- what passes all tests
 pub unset-ok-twice : (s : State) (given given' bad worse : Bool) (f g : TextFault) (t : State) → given' ≡ given → ((r : Result State TextFault) → unset s given' r ≡ r) → bad ≡ false → worse ≡ false
     → unset s given (refused_if bad f (refused_if worse g (Ok t))) ≡ Ok t
 unset-ok-twice s given given' bad worse f g t e tests b w =

@@ -70,6 +70,12 @@ Lets {A} tests (Ok u) = (r : Result A TextFault) → tests r ≡ r
 Lets {A} tests (Err (stop.Fault f)) = (r : Result A TextFault) → tests r ≡ Err f
 Lets tests (Err stop.Memory) = ⊤
 
+-- the tests give a number to what follows, or stop at a fault, unless memory ran out
+abbrev pub Leads : {A : Type 0} → ((ℕ → Result A TextFault) → Result A TextFault) → Result ℕ Stop → Type 0
+Leads {A} tests (Ok n) = (next : ℕ → Result A TextFault) → tests next ≡ next n
+Leads {A} tests (Err (stop.Fault f)) = (next : ℕ → Result A TextFault) → tests next ≡ Err f
+Leads tests (Err stop.Memory) = ⊤
+
 -- some port has no link, unless memory ran out; or none has
 abbrev pub FindsEdge : {U : Type 0} → Bool → Result U Stop → Type 0
 FindsEdge b (Ok u) = b ≡ true

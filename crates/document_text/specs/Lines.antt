@@ -70,21 +70,21 @@ abbrev pub two_numerals : List (List ℕ) → Option (ℕ × ℕ)
 two_numerals (a ∷ b ∷ []) = option_and_then (λ m. option_map (λ n. (m, n)) (numeral b)) (numeral a)
 two_numerals _ = None
 
+-- the number of a setting, from 1 to the greatest
+abbrev pub new_number : State → Bool → ℕ → List (List ℕ) → (ℕ → Result State TextFault) → Result State TextFault
+new_number s given most ws next =
+    formed (one_numeral ws) (λ n.
+    unset s given
+    (refused_if (not (nat_le 1 n && nat_le n most)) ValueRange
+    (next n)))
+
 -- `hops N`, 1 to 1,000
 abbrev pub hops_line : State → List (List ℕ) → Result State TextFault
-hops_line s ws =
-    formed (one_numeral ws) (λ n.
-    unset s (is_some s.hops)
-    (refused_if (not (nat_le 1 n && nat_le n 1000)) ValueRange
-    (Ok (record s { reached = Setting; hops = Some n }))))
+hops_line s ws = new_number s (is_some s.hops) 1000 ws (λ n. Ok (record s { reached = Setting; hops = Some n }))
 
 -- `capacity N`, 1 to 200,000
 abbrev pub capacity_line : State → List (List ℕ) → Result State TextFault
-capacity_line s ws =
-    formed (one_numeral ws) (λ n.
-    unset s (is_some s.capacity)
-    (refused_if (not (nat_le 1 n && nat_le n 200000)) ValueRange
-    (Ok (record s { reached = Setting; capacity = Some n }))))
+capacity_line s ws = new_number s (is_some s.capacity) 200000 ws (λ n. Ok (record s { reached = Setting; capacity = Some n }))
 
 -- `stamps LO HI`, two or more of 1 to 4094
 abbrev pub stamps_line : State → List (List ℕ) → Result State TextFault

@@ -1,8 +1,8 @@
-// The settings, and the line that begins a policy.
-ghost use Rattle.std.specs.Prelude.{◌≡◌, true, OnOk};
+//! The settings, and the line that begins a policy.
+ghost use Rattle.std.specs.Prelude.{◌≡◌, ◌≤◌, true, IfOk, OnOk};
 ghost use Rattle.document_text.specs.States.{State, has_edge};
-ghost use Rattle.document_text.specs.Lines.{unset, one_numeral, two_numerals, hops_line, capacity_line, stamps_line, policy_line};
-ghost use Rattle.document_text.specs.Answers.{texts, state_of, Becomes, Forms, Lets};
+ghost use Rattle.document_text.specs.Lines.{unset, one_numeral, two_numerals, new_number, hops_line, capacity_line, stamps_line, policy_line};
+ghost use Rattle.document_text.specs.Answers.{texts, state_of, Becomes, Forms, Leads, Lets};
 
 use crate::fault::Stop;
 use crate::reader::Reader;
@@ -16,7 +16,7 @@ const MOST_HOPS: u64 = 1000;
 
 const MOST_ROWS: u64 = 200_000;
 
-// Stops where a setting may not stand, or was given before.
+// Stops if a setting may not stand here, or was given before.
 fn unset(reader: &Reader, alloc: Global, given: bool) -> Result<(), Stop>
     ensures tests { Lets {A = State} (unset (state_of reader.now) given) result }
     ensures edge { OnOk result (has_edge reader.now.draft ≡ true) }
@@ -49,15 +49,32 @@ fn two_numerals(words: &[&[u8]]) -> Result<(u64, u64), Stop>
     }
 }
 
+// The number of a setting that was not given before, from 1 to `most`.
+fn new_number(
+    reader: &Reader,
+    alloc: Global,
+    words: &[&[u8]],
+    given: bool,
+    most: u64,
+) -> Result<u64, Stop>
+    ensures leads { Leads {A = State} (new_number (state_of reader.now) given most (texts words.now)) result }
+    ensures range { IfOk result (λ n. n ≤ most) }
+    ensures edge { OnOk result (has_edge reader.now.draft ≡ true) }
+{
+    let number = one_numeral(words)?;
+    unset(reader, alloc, given)?;
+    if number < 1 || number > most {
+        return Err(Stop::Fault(TextFault::ValueRange));
+    }
+    Ok(number)
+}
+
 /// Takes `hops N`.
 pub fn hops_line(reader: &mut Reader, alloc: Global, words: &[&[u8]]) -> Result<(), Stop>
     ensures { Becomes (hops_line (state_of reader.old) (texts words.now)) (state_of reader.old) (state_of reader.new) result }
 {
-    let hops = one_numeral(words)?;
-    unset(reader, alloc, reader.told.hops.is_some())?;
-    if hops < 1 || hops > MOST_HOPS {
-        return Err(Stop::Fault(TextFault::ValueRange));
-    }
+    let given = reader.told.hops.is_some();
+    let hops = new_number(reader, alloc, words, given, MOST_HOPS)?;
     reader.told.hops = Some(hops as u32);
     reader.told.reached = Kind::Setting;
     Ok(())
@@ -67,11 +84,8 @@ pub fn hops_line(reader: &mut Reader, alloc: Global, words: &[&[u8]]) -> Result<
 pub fn capacity_line(reader: &mut Reader, alloc: Global, words: &[&[u8]]) -> Result<(), Stop>
     ensures { Becomes (capacity_line (state_of reader.old) (texts words.now)) (state_of reader.old) (state_of reader.new) result }
 {
-    let capacity = one_numeral(words)?;
-    unset(reader, alloc, reader.told.capacity.is_some())?;
-    if capacity < 1 || capacity > MOST_ROWS {
-        return Err(Stop::Fault(TextFault::ValueRange));
-    }
+    let given = reader.told.capacity.is_some();
+    let capacity = new_number(reader, alloc, words, given, MOST_ROWS)?;
     reader.told.capacity = Some(capacity as u32);
     reader.told.reached = Kind::Setting;
     Ok(())
@@ -94,7 +108,7 @@ pub fn stamps_line(reader: &mut Reader, alloc: Global, words: &[&[u8]]) -> Resul
     Ok(())
 }
 
-/// Takes `policy`, behind which a policy's text begins.
+/// Takes `policy`, after which a policy's text begins.
 pub fn policy_line(reader: &mut Reader, alloc: Global, words: &[&[u8]]) -> Result<(), Stop>
     ensures { Becomes (policy_line (state_of reader.old) (texts words.now)) (state_of reader.old) (state_of reader.new) result }
 {

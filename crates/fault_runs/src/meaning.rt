@@ -46,7 +46,7 @@ pub fn histories(
     packet: &PacketLine,
 ) -> Result<Vec<Text>, AllocError> {
     let network = network(alloc, wiring, policy)?;
-    let start = History::new(alloc, packet.packet);
+    let start = History::new(packet.packet);
     let mut texts = Vec::new(alloc);
     for history in &some_results(alloc, &network, &start, TURNS)? {
         texts.push(history_text(alloc, history)?)?;

@@ -3,6 +3,7 @@
 
 mod build;
 mod compiled;
+mod compiler;
 mod fault;
 mod filters;
 mod folds;
@@ -11,7 +12,8 @@ mod leftmost;
 mod literal;
 mod named;
 
-pub use compiled::{Compiled, compile};
+pub use compiled::Compiled;
+pub use compiler::{Compiler, compile};
 pub use fault::CompileError;
 pub use leftmost::leftmost_fault;
 pub use named::names_few;

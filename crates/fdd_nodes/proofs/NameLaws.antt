@@ -7,7 +7,7 @@ use Rattle.nk_values.specs.declared.packet.Packet.{Packet}
 use Rattle.nk_values.specs.declared.lit.Lit.{Lit}
 use Rattle.nk_values.specs.Held.{Holds}
 use Rattle.nk_values.specs.Lits.{lit_field, lit_value}
-use Rattle.nk_values.specs.Members.{IsIn}
+use Rattle.nk_values.specs.Members.{IsIn, EachOnce}
 use Rattle.nk_values.specs.Packets.{get, IsInRange}
 use Rattle.nk_values.specs.Ranges.{place, least_value, least_literal, greatest, IsValue}
 use Rattle.nk_values.specs.Ranks.{lit_eq}
@@ -15,7 +15,7 @@ use Rattle.nk_values.proofs.LitLaws.{lit_eq-Decides}
 use Rattle.nk_values.proofs.MemberLaws.{in-left, in-right, in-either}
 use Rattle.fdd_nodes.specs.Trees.{Tree, Leaf, Node, Tests, IsSetBy, Assigns}
 use Rattle.fdd_nodes.specs.Cells.{IsFresh}
-use Rattle.fdd_nodes.specs.Names.{literals_of, literals, has_lit, distinct, EachOnce, Gathers, AreFew, IsFreshFor}
+use Rattle.fdd_nodes.specs.Names.{literals_of, literals, has_lit, distinct, Gathers, AreFew, IsFreshFor}
 
 -- a list without a number
 abbrev without : ℕ → List ℕ → List ℕ
@@ -272,7 +272,7 @@ distinct_once [] = tt
 distinct_once (l ∷ ls) = elim (told (has_lit l ls)) [
   | inl e ↦ subst (λ (b : Bool). EachOnce (cond b (distinct ls) (l ∷ distinct ls))) (sym e) (distinct_once ls)
   | inr e ↦ subst (λ (b : Bool). EachOnce (cond b (distinct ls) (l ∷ distinct ls))) (sym e)
-      ((λ k. let w : false ≡ true = sym e ∙ among_has l ls (distinct_among ls l k) in cc), distinct_once ls)
+      ((λ y k s. let w : false ≡ true = sym e ∙ among_has l ls (distinct_among ls l (subst (λ (z : Lit). IsIn (distinct ls) z) (sym s) k)) in cc), distinct_once ls)
 ]
 
 -- a list without a literal
@@ -309,7 +309,7 @@ pub once_shorter : (xs ys : List Lit) → EachOnce xs → ((m : Lit) → IsIn xs
 once_shorter [] ys o h = omega arith
 once_shorter (x ∷ xs) ys o h =
     let s = lacking_shorter x ys (h x (inl refl)) in
-    let r = once_shorter xs (lacking x ys) o.1 (λ m k. among_lacking x m ys (λ e. o.0 (subst (λ (z : Lit). IsIn xs z) e k)) (h m (inr k))) in
+    let r = once_shorter xs (lacking x ys) o.1 (λ m k. among_lacking x m ys (λ e. o.0 m k (sym e)) (h m (inr k))) in
     omega (arith, s, r)
 
 -- what names no more is counted no higher
@@ -351,9 +351,9 @@ gathers_there l ls h = record {
 }
 
 once_more : (ls : List Lit) (l : Lit) → EachOnce ls → (¬ IsIn ls l) → EachOnce (ls ++ l ∷ [])
-once_more [] l o n = ((λ k. k), tt)
+once_more [] l o n = ((λ y k. absurd k), tt)
 once_more (x ∷ ls) l o n = (
-  (λ k. elim (in-either ls (l ∷ []) x k) [ inl h ↦ o.0 h | inr h ↦ elim h [ inl e ↦ n (inl (sym e)) | inr z ↦ z ] ]),
+  (λ y k. elim (in-either ls (l ∷ []) y k) [ inl h ↦ o.0 y h | inr h ↦ elim h [ inl e ↦ (λ s. n (inl (s ∙ sym e))) | inr z ↦ absurd z ] ]),
   once_more ls l o.1 (λ k. n (inr k)),
 )
 

@@ -2,7 +2,7 @@
 use Rattle.std.specs.Prelude.{ℕ, ◌≤◌, ◌⊎◌, Bool, false, ◌||◌, List, [], ◌∷◌, ◌++◌, length, if◌then◌else◌}
 use Rattle.nk_values.specs.declared.packet.Packet.{Packet}
 use Rattle.nk_values.specs.declared.lit.Lit.{Lit}
-use Rattle.nk_values.specs.Members.{IsIn}
+use Rattle.nk_values.specs.Members.{IsIn, EachOnce}
 use Rattle.nk_values.specs.Packets.{IsInRange}
 use Rattle.nk_values.specs.Ranks.{lit_eq}
 use Rattle.fdd_nodes.specs.Trees.{Tree, Leaf, Node}
@@ -25,11 +25,6 @@ has_lit l (m ∷ ms) = lit_eq l m || has_lit l ms
 abbrev pub distinct : List Lit → List Lit
 distinct [] = []
 distinct (l ∷ ls) = if has_lit l ls then distinct ls else l ∷ distinct ls
-
--- no literal twice
-abbrev pub EachOnce : List Lit → Type 0
-EachOnce [] = Unit {0}
-EachOnce (l ∷ ls) = (¬ IsIn ls l) × EachOnce ls
 
 -- new has what old has, and the literals, and nothing else, and none twice
 pub record Gathers (ls old new : List Lit) : Type 0 where

@@ -1,6 +1,9 @@
 -- The first tests of diagrams.
-use Rattle.std.specs.Prelude.{◌≡◌, ◌≤◌, ◌<◌, ◌⊎◌, if◌then◌else◌, ◌==◌}
+use Rattle.std.specs.Prelude.{◌≡◌, ℕ, ◌≤◌, ◌<◌, ◌⊎◌, if◌then◌else◌, ◌==◌}
+use Rattle.nk_values.specs.declared.field.Field.{Field}
 use Rattle.nk_values.specs.declared.lit.Lit.{Lit}
+use Rattle.nk_values.specs.Lits.{lit_field, lit_value}
+use Rattle.nk_values.specs.Ranges.{place}
 use Rattle.nk_values.specs.Ranks.{rank}
 use Rattle.fdd_nodes.specs.Trees.{Tree, Leaf, Node}
 
@@ -37,3 +40,8 @@ then_part l (Node m t e) = if rank m == rank l then t else Node m t e
 abbrev pub else_part : Lit → Tree → Tree
 else_part l (Leaf cs) = Leaf cs
 else_part l (Node m t e) = if rank m == rank l then e else Node m t e
+
+-- where the tests of a field lead that stand first, if it holds n
+abbrev pub part_with : Field → ℕ → Tree → Tree
+part_with f n (Leaf cs) = Leaf cs
+part_with f n (Node l t e) = if place (lit_field l) == place f then (if lit_value l == n then t else part_with f n e) else Node l t e

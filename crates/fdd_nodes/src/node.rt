@@ -1,8 +1,8 @@
-// Diagrams as trees: tests, and leaves at their ends.
+//! Diagrams as trees: tests, and leaves at their ends.
 ghost use Rattle.std.specs.Prelude.{◌≡◌};
 
 use crate::leaf::Leaf;
-use nk_values::{Lit, Packet};
+use nk_values::{Field, Lit, Packet};
 use std::alloc::{AllocError, Global};
 use std::rc::Rc;
 
@@ -16,7 +16,7 @@ pub enum Node {
 impl Node {
     ghost use Rattle.std.specs.Prelude.{◌≤◌, ◌<◌, ◌↔◌, IsTrue, IfOk, MatchOption};
     ghost use Rattle.fdd_nodes.specs.declared.node.Node.{size-Node};
-    ghost use Rattle.fdd_nodes.specs.Roots.{IsLeaf, HasRoot, IsAfter, IsFirst, then_part, else_part};
+    ghost use Rattle.fdd_nodes.specs.Roots.{IsLeaf, HasRoot, IsAfter, IsFirst, then_part, else_part, part_with};
     ghost use Rattle.fdd_nodes.specs.Trees.{tree, leaf_at};
 
     /// The leaf on a packet's path.
@@ -56,6 +56,24 @@ impl Node {
         match self {
             Node::Leaf(_) => self,
             Node::Test(m, _, e) => { if m.is(l) { e } else { self } }
+        }
+    }
+
+    /// Where the tests of a field lead that stand first, if the field holds `n`.
+    pub fn part_with(&self, f: Field, n: u64) -> &Node
+        ensures { tree result.now ≡ part_with f n (tree self.now) }
+    {
+        match self {
+            Node::Leaf(_) => self,
+            Node::Test(l, t, e) => {
+                if l.field().place() != f.place() {
+                    self
+                } else if l.value() == n {
+                    t
+                } else {
+                    e.part_with(f, n)
+                }
+            }
         }
     }
 

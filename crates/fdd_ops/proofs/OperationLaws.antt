@@ -7,6 +7,7 @@ use Rattle.nk_values.proofs.MemberLaws.{in-left, in-right, in-either}
 use Rattle.fdd_nodes.specs.Trees.{Tree, Node, Tests, Assigns}
 use Rattle.fdd_nodes.specs.Names.{literals, IsFew, AreFew}
 use Rattle.fdd_nodes.proofs.NameLaws.{count_within, few_of_both, named, tests_literal, assigns_literal}
+use Rattle.fdd_split.specs.Split.{SplitOf}
 use Rattle.fdd_store.specs.Operations.{Through, IsPredicate, IsFieldFrom, UnionOf, SequenceOf, NegationOf, ChoiceOf, CofactorOf, ReductionOf}
 use Rattle.fdd_store.proofs.SameLaws.{same_trans}
 
@@ -45,6 +46,14 @@ module _ (a x : Tree) (g : ReductionOf a x) where
     normal = λ _. c.normal g.normal;
     tests = λ m w. g.tests m (c.tests m w);
     assigns = λ m w. g.assigns m (c.assigns m w);
+  }
+
+  pub split : (r : Tree) → SplitOf x r → SplitOf a r
+  split r s = record {
+    same = λ p. same_trans _ _ _ (s.same p) (g.answer p);
+    split = s.split;
+    tests = λ m w. elim (s.tests m w) [ inl v ↦ inl (g.tests m v) | inr v ↦ inr (g.assigns m v) ];
+    assigns = λ m w. g.assigns m (s.assigns m w);
   }
 
 -- two diagrams, brought into a store as x and y

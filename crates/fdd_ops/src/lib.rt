@@ -1,8 +1,9 @@
-//! Operations on diagrams of nodes: literals, union, sequence, negation and cofactor (ICFP 2015, section 3).
+//! Operations on diagrams of nodes: literals, union, sequence, negation and cofactor (ICFP 2015, section 3), and
+//! diagrams that give no packet twice.
 #![tactic(auto)]
 
 mod ops;
 mod parts;
 mod within;
 
-pub use ops::{assign, choice, cofactor, negate, one, sequence, test, union, zero};
+pub use ops::{assign, choice, cofactor, negate, one, sequence, split, test, union, zero};

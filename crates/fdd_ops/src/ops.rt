@@ -1,13 +1,15 @@
-// The operations on diagrams. Each result is normal, and names only literals that its arguments name.
-// Each is done in a store of its own, into which the arguments are brought path by path.
+//! The operations on diagrams. Each result names only literals that its arguments name. It is normal, except that of
+//! `split`.
+//! Each is done in a store of its own, into which the arguments are brought path by path.
 ghost use Rattle.std.specs.Prelude.{IfOk};
 ghost use Rattle.fdd_nodes.specs.Fdds.{tree_of};
 ghost use Rattle.fdd_nodes.specs.Names.{IsFew, AreFew};
 ghost use Rattle.fdd_nodes.specs.Normals.{IsNormal};
 ghost use Rattle.fdd_nodes.specs.Trees as trees;
+ghost use Rattle.fdd_split.specs.Split.{SplitOf};
 ghost use Rattle.fdd_store.specs.Operations.{IsPredicate, OneOf, ZeroOf, TestOf, AssignmentOf, UnionOf, ChoiceOf, SequenceOf, NegationOf, CofactorOf};
 
-use crate::parts::{is_field_from, part_of};
+use crate::parts::is_field_from;
 use crate::within;
 use fdd_nodes::{Assignments, Fdd, Leaf, Node};
 use fdd_store::Store;
@@ -60,7 +62,7 @@ pub fn union(alloc: Global, a: &Fdd, b: &Fdd) -> Result<Fdd, AllocError>
 
 /// The diagram that tests a literal (ICFP 2015, section 3): the first diagram where it holds, and else the second.
 ///
-/// The literal and the two diagrams name at most 4,000 literals together. The only error is want of memory.
+/// The literal and the two diagrams name at most 4,000 literals together. The only error is `AllocError`.
 pub fn choice(alloc: Global, l: Lit, a: &Fdd, b: Fdd) -> Result<Fdd, AllocError>
     requires few { IsFew (trees.Node l (tree_of a.now) (tree_of b)) }
     requires normal { IsNormal (tree_of b) }
@@ -93,9 +95,20 @@ pub fn cofactor(alloc: Global, a: &Fdd, l: Lit) -> Result<Fdd, AllocError>
     ensures { IfOk result (λ r. CofactorOf l (tree_of a.now) (tree_of r)) }
 {
     if is_field_from(a.root(), &l) {
-        let part = part_of(a.root(), &l).copy(alloc)?;
+        let part = a.root().part_with(l.field(), l.value()).copy(alloc)?;
         return Ok(Fdd::new(part));
     }
     let mut store = Store::new(alloc);
     within::cofactor(alloc, &mut store, a, l)
+}
+
+/// The split diagram that answers as a diagram: on a packet of its path no two copies of a leaf give one packet, and no
+/// test is idle.
+///
+/// The diagram need not be normal. The only error is `AllocError`.
+pub fn split(alloc: Global, a: &Fdd) -> Result<Fdd, AllocError>
+    ensures { IfOk result (λ r. SplitOf (tree_of a.now) (tree_of r)) }
+{
+    let mut store = Store::new(alloc);
+    within::split(alloc, &mut store, a)
 }

@@ -1,7 +1,7 @@
-// The parts of diagrams to which literals lead.
-ghost use Rattle.std.specs.Prelude.{◌≡◌, ◌↔◌, IsTrue};
+//! Whether the tests of a literal's field stand first.
+ghost use Rattle.std.specs.Prelude.{◌↔◌, IsTrue};
 ghost use Rattle.fdd_nodes.specs.Trees.{tree};
-ghost use Rattle.fdd_store.specs.Operations.{IsFieldFrom, part_at};
+ghost use Rattle.fdd_store.specs.Operations.{IsFieldFrom};
 
 use fdd_nodes::Node;
 use nk_values::Lit;
@@ -13,24 +13,5 @@ pub(crate) fn is_field_from(a: &Node, l: &Lit) -> bool
     match a {
         Node::Leaf(_) => true,
         Node::Test(m, _, _) => l.field().place() <= m.field().place(),
-    }
-}
-
-/// Where the tests of a literal's field at the front lead, as it stands.
-pub(crate) fn part_of<'a>(a: &'a Node, l: &Lit) -> &'a Node
-    ensures { tree result.now ≡ part_at l.now (tree a.now) }
-{
-    match a {
-        Node::Leaf(_) => a,
-        Node::Test(m, t, e) => {
-            if m.field().place() != l.field().place() {
-                return a;
-            }
-            if m.value() == l.value() {
-                t
-            } else {
-                part_of(e, l)
-            }
-        }
     }
 }

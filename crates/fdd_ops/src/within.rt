@@ -1,8 +1,9 @@
-// Operations on diagrams, done in a store into which they are brought.
+//! Operations on diagrams, done in a store into which they are brought.
 ghost use Rattle.std.specs.Prelude.{IfOk};
 ghost use Rattle.fdd_nodes.specs.Fdds.{tree_of};
 ghost use Rattle.fdd_nodes.specs.Names.{IsFew, AreFew};
 ghost use Rattle.fdd_nodes.specs.Trees as trees;
+ghost use Rattle.fdd_split.specs.Split.{SplitOf};
 ghost use Rattle.fdd_store.specs.Operations.{IsPredicate, IsFieldFrom, UnionOf, ChoiceOf, SequenceOf, NegationOf, CofactorOf, ReductionOf};
 ghost use Rattle.fdd_store.specs.Stores.{Gives};
 
@@ -70,6 +71,14 @@ pub(crate) fn cofactor(alloc: Global, store: &mut Store, a: &Fdd, l: Lit) -> Res
     let x = store.intern(alloc, a)?;
     let r = store.cofactor(alloc, x, l)?;
     store.tree(alloc, r)
+}
+
+/// The split diagram that answers as a diagram.
+pub(crate) fn split(alloc: Global, store: &mut Store, a: &Fdd) -> Result<Fdd, AllocError>
+    ensures { IfOk result (λ r. SplitOf (tree_of a.now) (tree_of r)) }
+{
+    let x = store.intern(alloc, a)?;
+    fdd_split::split(alloc, store, x)
 }
 
 // Two diagrams, brought into a store.

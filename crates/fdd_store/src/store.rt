@@ -147,6 +147,14 @@ impl Store {
         Ok(Fdd::new(root))
     }
 
+    /// A diagram as nodes, the same ones that the store has.
+    pub fn node(&self, a: Id) -> Result<Rc<Node>, AllocError>
+        requires { Has self.now a }
+        ensures { IfOk result (λ r. trees.tree r.value ≡ tree_at self.now a) }
+    {
+        self.entry(a).node.clone()
+    }
+
     /// Where the tests of a field at the front lead that do not hold.
     pub(crate) fn behind(&self, f: Field, a: Id) -> Id
         requires { Has self.now a }

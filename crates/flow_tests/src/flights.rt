@@ -24,7 +24,7 @@ fn copy(alloc: Global, sw: u64, arrival: usize) -> Flight {
         header: HEADER,
     };
     Flight {
-        history: History::new(alloc, packet),
+        history: History::new(packet),
         tag: Tag::none(),
         hops: 0,
         arrival,

@@ -1,9 +1,10 @@
 -- Laws of the meaning.
 use Rattle.std.specs.Prelude.{◌≡◌, ℕ, suc, map}
 use Rattle.nk_values.specs.Members.{Within}
-use Rattle.nk_values.specs.Trails.{Trail, start, renewed}
+use Rattle.nk_values.specs.Trails.{Trail, start, renewed, IsPast}
 use Rattle.nk_syntax.specs.Terms.{Term, Terms, Filter, Assign, Sum, Seq, Star, Dup, no_terms, term}
 use Rattle.history_meaning.specs.Meaning.{den}
+use Rattle.history_meaning.specs.Network.{Wiring, IsFuture}
 
 -- one turn more gives no fewer histories
 abbrev pub MoreTurnsMoreHistories : Type 0
@@ -26,3 +27,7 @@ abbrev mutual
 -- a policy without `dup` renews the newest packet of a history, by that packet alone
 abbrev pub FlatRenewsTheNewest : Type 0
 FlatRenewsTheNewest = (p : Term) → IsFlat p → (n : ℕ) (h : Trail) → den p n h ≡ map (λ (t : Trail). renewed h t.newest) (den p n (start h.newest))
+
+-- each future of a copy has the copy's history as its past, whatever the policy
+abbrev pub FuturesGoOn : Type 0
+FuturesGoOn = (w : Wiring) (p : Term) (copy h : Trail) → IsFuture w p copy h → IsPast copy h

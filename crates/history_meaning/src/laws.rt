@@ -1,5 +1,5 @@
-// Laws of the meaning, each the contract of a call that does nothing.
-ghost use Rattle.history_meaning.specs.Laws.{MoreTurnsMoreHistories, FlatRenewsTheNewest};
+//! Laws of the meaning, each the contract of a call that does nothing.
+ghost use Rattle.history_meaning.specs.Laws.{FlatRenewsTheNewest, FuturesGoOn, MoreTurnsMoreHistories};
 
 /// One more turn of each star gives no fewer histories, so a result under some number of turns is one
 /// under every greater number.
@@ -10,4 +10,9 @@ pub fn more_turns_more_histories()
 /// A policy without `dup` renews the newest packet of a history, by that packet alone.
 pub fn flat_renews_the_newest()
     ensures { FlatRenewsTheNewest }
+{}
+
+/// Each future of a copy has the copy's history as its past, whatever the policy: a hop only adds packets.
+pub fn futures_go_on()
+    ensures { FuturesGoOn }
 {}

@@ -1,6 +1,7 @@
 -- Lists of actions: what they are, and what they send.
 use Rattle.std.proofs.Common.{◌≡◌, ◌⊎◌, ℕ, inl, inr, refl, ap, sym, ◌∙◌, subst, arith, cond, Bool, true, false, ◌==◌, List, [], ◌∷◌, map, Option, Some, None}
 use Rattle.std.proofs.lemmas.Bool.{eqb-true}
+use Rattle.std.specs.List.Sorted.{IsPermutation}
 use Rattle.nk_values.specs.declared.action.Action.{Action}
 use Rattle.nk_values.specs.declared.field.Field.{Field}
 use Rattle.nk_values.specs.declared.field.Field.TheVariants.{Pt}
@@ -10,7 +11,6 @@ use Rattle.nk_values.specs.declared.sent.Sent.{Sent}
 use Rattle.nk_values.specs.Acts.{acted}
 use Rattle.nk_values.specs.Held.{put}
 use Rattle.nk_values.specs.Lits.{lit_field, lit_value}
-use Rattle.nk_values.specs.Members.{SameMembers}
 use Rattle.nk_values.specs.Packets.{get, with_value}
 use Rattle.nk_values.specs.Ranges.{IsLiteralOf}
 use Rattle.nk_values.specs.Tags.{IsVlanId}
@@ -92,7 +92,7 @@ acts_as w v cs as' t s ready = record {
       ap (λ (l : List Action). acted l (arriving v p)) ready.actions ∙
       ap (λ (q : Packet). acted (listed v (cell_on w) (cell_on w) v.kind ready.routes) (record { port = v.pt; header = q.header; tag = port_tag v.kind v.stamp })) (sym (fill_own (cell_on w) p a)) ∙
       known in
-      subst (λ (xs : List Sent). SameMembers xs (sendings v cs p)) (sym now) (sent_listed v (cell_on w) p cs ready.routes d ready.listing.all);
+      subst (λ (xs : List Sent). IsPermutation (sendings v cs p) xs) (sym now) (sent_listed v (cell_on w) p cs ready.routes d ready.listing.all);
 }
 
 -- where the copies do not climb some two are apart

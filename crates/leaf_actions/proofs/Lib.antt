@@ -6,4 +6,5 @@ pub mod Fits
 pub mod Fixed
 pub mod ActionLists
 pub mod Routed
+pub mod SentLaws
 pub mod Unique

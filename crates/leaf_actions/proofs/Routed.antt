@@ -8,12 +8,12 @@ use Rattle.std.specs.declared.cmp.Ordering.TheVariants.{Less, Equal, Greater}
 use Rattle.std.proofs.lemmas.Bool.{lt-ltb}
 use Rattle.std.proofs.lemmas.Bool.Decides.{leb_tells}
 use Rattle.std.proofs.lemmas.List.{map-append}
-use Rattle.std.proofs.lemmas.List.Sorted.{Contains-permutation, IsPermutation-sym}
+use Rattle.std.proofs.lemmas.List.Sorted.{Contains-permutation, IsPermutation-map, IsPermutation-sym}
 use Rattle.nk_values.specs.declared.packet.Packet.{Packet}
 use Rattle.nk_values.specs.declared.lit.Lit.{Lit}
 use Rattle.nk_values.specs.declared.field.Field.TheVariants.{Pt}
 use Rattle.nk_values.specs.declared.sent.Sent.{Sent}
-use Rattle.nk_values.specs.Members.{IsIn, SameMembers}
+use Rattle.nk_values.specs.Members.{IsIn}
 use Rattle.nk_values.specs.Packets.{with_value}
 use Rattle.nk_values.proofs.MemberLaws.{in-either}
 use Rattle.fdd_nodes.specs.Cells.{open_cell}
@@ -121,20 +121,6 @@ sent_all v x p (c ∷ cs) e =
     ap (λ (l : List Sent). l ++ map (sent_route v p) (routes_of v x cs)) (sent_one v x p c (port_in v.ports (out_of v c)) ∙ ap (λ n. sent_by_port v (apply c p) (port_in v.ports n)) (sym (out_at v p c e))) ∙
     ap (λ (l : List Sent). sent_by_port v (apply c p) (port_in v.ports (apply c p).pt) ++ l) (sent_all v x p cs e)
 
-in_map : {X Y : Type 0} (f : X → Y) (xs : List X) (y : Y) → IsIn (map f xs) y → (x : X) × IsIn xs x × (f x ≡ y)
-in_map f [] y h = absurd h
-in_map f (x ∷ xs) y (inl e) = (x, inl refl, e)
-in_map f (x ∷ xs) y (inr h) = let r = in_map f xs y h in (r.0, inr r.1, r.2)
-
-to_map : {X Y : Type 0} (f : X → Y) (xs : List X) (x : X) → IsIn xs x → IsIn (map f xs) (f x)
-to_map f [] x h = absurd h
-to_map f (y ∷ xs) x (inl e) = inl (ap f e)
-to_map f (y ∷ xs) x (inr h) = inr (to_map f xs x h)
-
--- listed copies send what all of them send
-pub sent_listed : (v : PortView) (x p : Packet) (cs : List (List Lit)) (rs : List Route) → p.pt ≡ v.pt → IsPermutation (routes_of v x cs) rs → SameMembers (map (sent_route v p) rs) (sendings v cs p)
-sent_listed v x p cs rs e h =
-    subst (λ (l : List Sent). SameMembers (map (sent_route v p) rs) l) (sent_all v x p cs e) (record {
-      front = λ y k. let r = in_map (sent_route v p) rs y k in subst (λ (z : Sent). IsIn (map (sent_route v p) (routes_of v x cs)) z) r.2 (to_map (sent_route v p) (routes_of v x cs) r.0 (in_original (routes_of v x cs) rs r.0 h r.1));
-      back = λ y k. let r = in_map (sent_route v p) (routes_of v x cs) y k in subst (λ (z : Sent). IsIn (map (sent_route v p) rs) z) r.2 (to_map (sent_route v p) rs r.0 (in_permuted (routes_of v x cs) rs r.0 h r.1));
-    })
+-- listed copies send what all of them send, in some order
+pub sent_listed : (v : PortView) (x p : Packet) (cs : List (List Lit)) (rs : List Route) → p.pt ≡ v.pt → IsPermutation (routes_of v x cs) rs → IsPermutation (sendings v cs p) (map (sent_route v p) rs)
+sent_listed v x p cs rs e h = subst (λ (l : List Sent). IsPermutation l (map (sent_route v p) rs)) (sent_all v x p cs e) (IsPermutation-map (sent_route v p) (routes_of v x cs) rs h)

@@ -2,9 +2,11 @@ pub mod Bare
 pub mod FutureLaws
 pub mod HopLaws
 pub mod Links
+pub mod Parting
 pub mod Parts
 pub mod Placing
 pub mod Reaching
-pub mod Runs
 pub mod Stepping
 pub mod WalkLaws
+pub mod Walked
+pub mod Ways

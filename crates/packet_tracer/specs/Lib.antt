@@ -2,3 +2,4 @@ pub mod Hops
 pub mod Laws
 pub mod Turns
 pub mod Walks
+pub mod Ways

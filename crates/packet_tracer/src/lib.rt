@@ -8,5 +8,5 @@ mod walking;
 
 pub use flight::{Flight, Hopped, Walk};
 pub use hopping::hop;
-pub use laws::hops_keep_futures;
+pub use laws::{hops_keep_futures, hops_part, walks_are_ways};
 pub use walking::walk;

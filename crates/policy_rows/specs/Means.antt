@@ -12,7 +12,7 @@ use Rattle.nk_values.specs.declared.rows.PortRows.{PortRows}
 use Rattle.nk_values.specs.declared.rows.Rows.{Rows}
 use Rattle.nk_values.specs.declared.sent.Sent.{Sent}
 use Rattle.nk_values.specs.Acts.{acted}
-use Rattle.nk_values.specs.Members.{IsIn}
+use Rattle.nk_values.specs.Members.{IsIn, EachOnce}
 use Rattle.nk_values.specs.Packets.{IsWellShaped}
 use Rattle.nk_values.specs.Patterns.{Incoming, any, vlan_number}
 use Rattle.nk_values.specs.Tables.{first}
@@ -47,6 +47,7 @@ pub record Answers (w : Wiring) (p : Term) (stamp : ℕ) (rows : List Row) (tag 
       (IsIn w.edges (standing (sent_packet pk.sw x)) × (x.tag ≡ None)) ⊎ ((b : Place) × IsIn w.links (standing (sent_packet pk.sw x), b) × (x.tag ≡ Some stamp))
   pub leaves : (q : Packet) → HasResult p pk q → IsIn w.edges (standing q) → IsIn (acted row.actions (incoming pk tag)) (sent_as q None)
   pub goes : (q : Packet) (b : Place) → HasResult p pk q → IsIn w.links (standing q, b) → IsIn (acted row.actions (incoming pk tag)) (sent_as q (Some stamp))
+  pub once : EachOnce (acted row.actions (incoming pk tag))
 
 -- the pattern that fixes a port and a tag, and nothing else
 abbrev pub port_pattern : ℕ → Option ℕ → Pattern

@@ -21,9 +21,9 @@ pub fn packet((sw, pt): (u64, u64), eth_dst: u64) -> Packet {
 
 // A history through these ports, oldest first.
 pub fn history(alloc: Global, ports: &[(u64, u64)]) -> Result<History, AllocError> {
-    let mut history = History::new(alloc, packet((1, 1), 0));
+    let mut history = History::new(packet((1, 1), 0));
     for port in ports {
-        history.double()?;
+        history.double(alloc)?;
         history.set_newest(packet(*port, 0));
     }
     Ok(history)
@@ -53,7 +53,7 @@ fn changed() -> Packet {
 #[test]
 fn fields_that_changed(rt: HostRuntime) -> Result<(), Fail> {
     let mut history = history(rt.alloc(), &[(1, 2), (2, 1)])?;
-    history.double()?;
+    history.double(rt.alloc())?;
     history.set_newest(changed());
     let text =
         "1:1>1:2>2:1>2:2{ethTyp=0x86dd,ethDst=12:34:56:78:9a:bc,ip4Dst=10.0.1.255,tcpDstPort=80}";

@@ -11,8 +11,8 @@ use Rattle.nk_values.specs.Members.{SameMembers}
 use Rattle.update_laws.specs.Traffic.{Arrived}
 use Rattle.report_text.specs.Copies.{open_line, copies_of, HasCopies}
 use Rattle.report_text.specs.Reports.{HasFate, IsArrivalText}
-use Rattle.report_text.specs.Traces.{Ascends}
-use Rattle.report_text.proofs.SortLaws.{lines_of}
+use Rattle.value_text.specs.Traces.{Ascends}
+use Rattle.value_text.proofs.SortLaws.{lines_of}
 
 -- the element at a place
 pub at_place : {X : Type 0} (xs : List X) (k : ℕ) (x : X) → k < length xs → x ≡ get_or xs k x → slice_get xs k ≡ Some x

@@ -16,8 +16,8 @@ use Rattle.report_text.specs.Causes.{state_text}
 use Rattle.report_text.specs.Copies.{copies_of}
 use Rattle.report_text.specs.Events.{events_text}
 use Rattle.report_text.specs.Reports.{arrival_text, IsArrivalText, IsReportText}
-use Rattle.report_text.specs.Traces.{Ascends, AreLinesOf, AreTexts}
-use Rattle.report_text.specs.Values.{line}
+use Rattle.value_text.specs.Traces.{Ascends, AreLinesOf, AreTexts}
+use Rattle.value_text.specs.Values.{line}
 
 -- ---- lines
 

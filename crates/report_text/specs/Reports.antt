@@ -9,8 +9,8 @@ use Rattle.update_coordinator.specs.declared.phase.Phase.{Phase}
 use Rattle.update_laws.specs.Traffic.{Arrived}
 use Rattle.world_core.specs.declared.event.Event.{Event}
 use Rattle.world_core.specs.Worlds.{WorldValue}
-use Rattle.report_text.specs.Values.{line, place_text}
-use Rattle.report_text.specs.Traces.{AreLinesOf, AreTexts}
+use Rattle.value_text.specs.Values.{line, place_text}
+use Rattle.value_text.specs.Traces.{AreLinesOf, AreTexts}
 use Rattle.report_text.specs.Events.{events_text}
 use Rattle.report_text.specs.Causes.{entry_text, state_text}
 use Rattle.report_text.specs.Copies.{copies_of}

@@ -1,16 +1,15 @@
-// The line of a generated workload.
-ghost use Rattle.std.specs.Prelude.{◌≡◌, ◌++◌, OnOk, IfOk, IfErr, string_bytes};
-ghost use Rattle.report_text.specs.Generated.{IsFinishedCount, IsGeneratedText, counts_text};
+//! The line of a generated workload.
+ghost use Rattle.std.specs.Prelude.{◌≡◌, ◌++◌, OnOk, IfOk, string_bytes};
+ghost use Rattle.report_text.specs.Generated.{finished_count, IsGeneratedText, counts_text};
 
-use crate::lines::lines;
-use crate::text::Text;
 use std::alloc::{AllocError, Global};
 use std::fmt::Write;
+use value_text::Text;
 use world_core::{Arrival, Event, World};
 
 /// How much there is of a workload that was driven to its end: `switches S policies K packets P events E finished F`.
 /// The packets are those of its document, the events those that were done, and the finished histories those of all
-/// packets that came in, equal ones of a packet once.
+/// packets that came in.
 pub fn generated_text(
     alloc: Global,
     packets: usize,
@@ -19,9 +18,9 @@ pub fn generated_text(
 ) -> Result<Text, AllocError>
     ensures { IfOk result (λ t. IsGeneratedText packets world.now events.now t) }
 {
-    let finished = count_finished(alloc, world.arrivals())?;
+    let finished = count_finished(world.arrivals());
     let switches = world.topology().switches().len();
-    let policies = world.versions().len();
+    let policies = world.version_count();
     let mut out = String::new(alloc);
     write!(
         out,
@@ -31,13 +30,13 @@ pub fn generated_text(
     Ok(Text::new(out))
 }
 
-// How many finished histories there are, equal ones of a packet once.
-fn count_finished(alloc: Global, arrivals: &[Arrival]) -> Result<u128, AllocError>
-    ensures { IfOk result (λ n. IsFinishedCount arrivals.now n) }
+// How many finished histories there are. None of a packet comes twice, so each has a line `done` of its own.
+fn count_finished(arrivals: &[Arrival]) -> u128
+    ensures { result ≡ finished_count arrivals.now }
 {
     let mut finished = 0;
     for arrival in arrivals {
-        finished += lines(alloc, "done ", arrival.finished())?.len() as u128;
+        finished += arrival.finished().len() as u128;
     }
-    Ok(finished)
+    finished
 }

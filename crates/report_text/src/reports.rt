@@ -1,20 +1,18 @@
 // The texts of reports.
 ghost use Rattle.std.specs.Prelude.{◌≡◌, ◌++◌, OnOk, IfOk, map, option_map, string_bytes};
-ghost use Rattle.report_text.specs.Values.{line};
-ghost use Rattle.report_text.specs.Traces.{Adds, AreTexts};
+ghost use Rattle.value_text.specs.Values.{line};
+ghost use Rattle.value_text.specs.Traces.{Adds, AreTexts};
 ghost use Rattle.report_text.specs.Reports.{arrival_text, HasFate, IsArrivalText, IsReportText, IsWorldReport};
 
 use crate::causes::{put_entry, put_state};
 use crate::copies::open_lines;
 use crate::events::put_events;
-use crate::lines::{lines, put_lines, sort_lines};
-use crate::text::Text;
-use crate::values::put_place;
 use flight_queues::Flights;
 use std::alloc::{AllocError, Global};
 use std::fmt::Write;
 use topology_model::Site;
 use update_coordinator::{Cause, Phase};
+use value_text::{Text, history_lines, put_lines, put_place, sort_lines};
 use world_core::{Arrival, Event, World};
 
 /// How a network stands: its switches, the phase of the updates and why they stand still, the copies in flight,
@@ -88,7 +86,7 @@ fn put_arrival(
 ) -> Result<(), AllocError>
     ensures { OnOk result (Adds (HasFate (map string_bytes copies.now) number arrival.now) (string_bytes out.old) (string_bytes out.new)) }
 {
-    let done = lines(alloc, "done ", arrival.finished())?;
+    let done = history_lines(alloc, "done ", arrival.finished())?;
     put_head(out, number, arrival)?;
     put_lines(out, &done)?;
     put_lines(out, copies)

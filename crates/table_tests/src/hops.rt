@@ -34,7 +34,7 @@ fn entering(alloc: Global, hops: u64) -> Flight {
         header,
     };
     Flight {
-        history: History::new(alloc, packet),
+        history: History::new(packet),
         tag: Tag::none(),
         hops,
         arrival: 0,
@@ -103,7 +103,7 @@ fn one_hop(rt: HostRuntime) -> Result<(), Fail> {
     assert_eq!(rt; (hopped.finished.len(), hopped.flights.len()), (1, 1));
     let back = hopped.finished.first().ok_or("a history")?;
     assert_eq!(rt; (back.newest().sw, back.newest().pt), (1, 1));
-    assert_eq!(rt; back.older().len(), 1);
+    assert_eq!(rt; back.older(rt.alloc())?.len(), 1);
     let flight = hopped.flights.first().ok_or("a copy in flight")?;
     let packet = flight.history.newest();
     assert_eq!(rt; (packet.sw, packet.pt, packet.header.eth_dst), (2, 1, 5));

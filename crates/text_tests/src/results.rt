@@ -62,7 +62,7 @@ fn takes_its_turns(rt: HostRuntime) -> Result<(), Fail> {
     let three = Lit::new(Field::EthDst, 3).ok_or("no literal")?;
     let port = Lit::new(Field::Pt, 2).ok_or("no literal")?;
     let pol = two_steps(alloc, [one, two, three], port)?;
-    let history = History::new(alloc, packet(1));
+    let history = History::new(packet(1));
     assert!(rt; digits(some_results(alloc, &pol, &history, 2)) == 21_22_23);
     assert!(rt; digits(some_results(alloc, &pol, &history, 1)) == 21_22);
     Ok(())

@@ -1,18 +1,21 @@
 -- One more switch.
-use Rattle.std.proofs.Common.{◌≡◌, ℕ, Bool, true, false, cond, ◌&&◌, ◌||◌, ◌==◌, ◌⊎◌, inl, inr, List, [], ◌∷◌, ◌++◌, length, map, refl, ap, sym, ◌∙◌, subst, Option, Some, None, option_map, is_some, length-append, arith}
+use Rattle.std.proofs.Common.{◌≡◌, ◌≢◌, ℕ, Bool, true, false, cond, ◌&&◌, ◌||◌, ◌==◌, ◌⊎◌, inl, inr, List, [], ◌∷◌, ◌++◌, length, map, refl, ap, sym, ◌∙◌, subst, Option, Some, None, option_map, is_some, length-append, arith}
 use Rattle.std.specs.List.{list_any, All}
 use Rattle.std.specs.Option.{option_flatten}
 use Rattle.std.proofs.lemmas.Bool.Decides.{Decides-eqb}
+use Rattle.std.proofs.lemmas.List.{map-append}
 use Rattle.std.proofs.lemmas.List.Elements.{All-head, All-tail}
 use Rattle.std.proofs.lemmas.List.Folds.{list_any-append}
 use Rattle.nk_values.specs.declared.field.Field.TheVariants.{Pt}
-use Rattle.nk_values.specs.Members.{IsIn}
+use Rattle.nk_values.specs.Members.{IsIn, EachOnce}
 use Rattle.nk_values.specs.Ranges.{IsValue}
 use Rattle.nk_values.proofs.MemberLaws.{in-left, in-either}
+use Rattle.nk_values.proofs.PairLaws.{pairs-append}
 use Rattle.history_meaning.specs.Network.{Place}
+use Rattle.history_meaning.proofs.Runs.{only}
 use Rattle.topology_model.specs.Layouts.{Layout, place_of, place_in, has_switch, has_port, far_end}
 use Rattle.topology_model.specs.Lines.{IsLineInRange, has_repeat}
-use Rattle.topology_model.specs.Wired.{NoRepeat, IsSite, IsSound}
+use Rattle.topology_model.specs.Wired.{IsSite, IsSound}
 use Rattle.topology_model.specs.declared.line.Site.{Site}
 use Rattle.topology_model.specs.declared.line.TopoLine.TheVariants.{Switch}
 use Rattle.topology_model.proofs.Positions.{position-other, position-new}
@@ -74,15 +77,11 @@ unnamed (s ∷ ss) sw e m = split (s.sw == sw) refl e m (unnamed ss sw)
     split false d k (inl h) f = let t : (s.sw == sw) ≡ true = (Decides-eqb s.sw sw).1 h in absurd (cc)
     split false d k (inr h) f = f k h
 
-pub differ_push : (sites : List Site) (sw : ℕ) (ports : List ℕ) → NoRepeat (map (λ s. s.sw) sites) → ¬ (IsIn (map (λ s. s.sw) sites) sw) → NoRepeat (map (λ s. s.sw) (sites ++ site sw ports ∷ []))
-differ_push [] sw ports d n = ((λ m. m), tt)
-differ_push (s ∷ ss) sw ports d n = ((λ m. d.0 (back ss m)), differ_push ss sw ports d.1 (λ m. n (inr m)))
-  where
-    back : (ss : List Site) → IsIn (map (λ s. s.sw) (ss ++ site sw ports ∷ [])) s.sw → IsIn (map (λ s. s.sw) ss) s.sw
-    back [] (inl e) = absurd (n (inl (sym e)))
-    back [] (inr m) = absurd m
-    back (x ∷ xs) (inl e) = inl e
-    back (x ∷ xs) (inr m) = inr (back xs m)
+pub differ_push : (sites : List Site) (sw : ℕ) (ports : List ℕ) → EachOnce (map (λ s. s.sw) sites) → ¬ (IsIn (map (λ s. s.sw) sites) sw) → EachOnce (map (λ s. s.sw) (sites ++ site sw ports ∷ []))
+differ_push sites sw ports d n =
+    let numbers : List ℕ = map (λ (s : Site). s.sw) sites in
+    subst (λ (ns : List ℕ). EachOnce ns) (sym (map-append (λ (s : Site). s.sw) sites (site sw ports ∷ [])))
+    (pairs-append (λ a b. a ≢ b) numbers (sw ∷ []) d ((λ y m. absurd m), tt) (λ a b m k same. n (subst (λ (i : ℕ). IsIn numbers i) (same ∙ sym (only sw b k)) m)))
 
 -- the test for numbers that come twice
 in_any : (ns : List ℕ) (n : ℕ) → IsIn ns n → list_any (λ m. m == n) ns ≡ true
@@ -94,13 +93,13 @@ in_any (x ∷ xs) n (inr m) = split (x == n) (in_any xs n m)
     split true h = refl
     split false h = h
 
-pub no_repeat : (ns : List ℕ) → has_repeat ns ≡ false → NoRepeat ns
+pub no_repeat : (ns : List ℕ) → has_repeat ns ≡ false → EachOnce ns
 no_repeat [] e = tt
 no_repeat (n ∷ ns) e = split (list_any (λ m. m == n) ns) refl e (no_repeat ns)
   where
-    split : (b : Bool) → list_any (λ m. m == n) ns ≡ b → (b || has_repeat ns) ≡ false → (has_repeat ns ≡ false → NoRepeat ns) → NoRepeat (n ∷ ns)
+    split : (b : Bool) → list_any (λ m. m == n) ns ≡ b → (b || has_repeat ns) ≡ false → (has_repeat ns ≡ false → EachOnce ns) → EachOnce (n ∷ ns)
     split true d k f = absurd (cc)
-    split false d k f = ((λ m. let t = in_any ns n m in absurd (cc)), f k)
+    split false d k f = ((λ y m e. let t = in_any ns n (subst (λ (i : ℕ). IsIn ns i) (sym e) m) in absurd (cc)), f k)
 
 -- what holds of each element
 each_in : {X : Type 0} (P : X → Type 0) (xs : List X) (x : X) → All P xs → IsIn xs x → P x

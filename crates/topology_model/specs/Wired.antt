@@ -1,22 +1,17 @@
 -- What holds of every topology.
-use Rattle.std.specs.Prelude.{◌≡◌, ◌≢◌, ℕ, ◌≤◌, List, [], ◌∷◌, length, map}
+use Rattle.std.specs.Prelude.{◌≡◌, ◌≢◌, ℕ, ◌≤◌, [], length, map}
 use Rattle.nk_values.specs.declared.field.Field.TheVariants.{Sw, Pt}
-use Rattle.nk_values.specs.Members.{IsIn}
+use Rattle.nk_values.specs.Members.{IsIn, EachOnce}
 use Rattle.nk_values.specs.Ranges.{IsValue}
 use Rattle.history_meaning.specs.Network.{Place, Wiring}
 use Rattle.topology_model.specs.Layouts.{Layout, edges_of}
 use Rattle.topology_model.specs.declared.line.Site.{Site}
 
--- no number comes twice
-abbrev pub NoRepeat : List ℕ → Type 0
-NoRepeat [] = Unit {0}
-NoRepeat (n ∷ ns) = ¬ (IsIn ns n) × NoRepeat ns
-
 -- a switch with at most 256 ports, no two with one number
 pub record IsSite (s : Site) : Type 0 where
   pub switch : IsValue Sw s.sw
   pub ports : (n : ℕ) → IsIn s.ports n → IsValue Pt n
-  pub differ : NoRepeat s.ports
+  pub differ : EachOnce s.ports
   pub few : length s.ports ≤ 256
 
 -- the port is declared
@@ -29,7 +24,7 @@ pub record IsDeclared (t : Layout) (a : Place) : Type 0 where
 -- At most 256 switches, no two with one number; links between declared ports, in both directions, at most one a port and none from a port to itself.
 pub record IsSound (t : Layout) : Type 0 where
   pub sites : (s : Site) → IsIn t.switches s → IsSite s
-  pub differ : NoRepeat (map (λ s. s.sw) t.switches)
+  pub differ : EachOnce (map (λ s. s.sw) t.switches)
   pub few : length t.switches ≤ 256
   pub declared : (a b : Place) → IsIn t.links (a, b) → IsDeclared t a
   pub both : (a b : Place) → IsIn t.links (a, b) → IsIn t.links (b, a)

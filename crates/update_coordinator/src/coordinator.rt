@@ -1,74 +1,91 @@
-// The coordinator.
+//! The coordinator, and the phases that it goes through.
 ghost use Rattle.update_coordinator.specs.Calls.{is_stamp};
-ghost use Rattle.std.specs.Prelude.{ℕ, IsTrue, ◌↔◌, IfOk, ◌≡◌, ◌<◌, ◌⊎◌, ◌≢◌, None, Some, Err, IfErr, OnOk, OnErr, IfNone, IfSome, length, option_map, slice_get, is_some};
+ghost use Rattle.std.specs.Prelude.{ℕ, IsTrue, ◌↔◌, IfOk, ◌≡◌, None, Some, OnOk, OnErr, IfSome, length, option_map};
 
 use crate::cause::Cause;
 use crate::phase::{Entry, Phase};
 use crate::refusal::Refusal;
-use crate::site::{Site, begin_batches, hear, send};
-use crate::starting::{rounds_of, sites_of, stamps_of};
-use barrier_tracker::{Heard, Tracker};
+use crate::site::Site;
+use crate::starting::{cursors_of, rounds_of, sites_of, spans_of};
+use barrier_tracker::Tracker;
 use nk_values::Rows;
-use openflow_wire::Message;
-use session_core::Move;
 use std::alloc::{AllocError, Global};
 use std::marker::Model;
+use update_plan::{Cursor, Span};
 
-/// Takes switches from one policy to the next, phase by phase (SIGCOMM 2012, section 5.1). Clauses see the phase,
-/// why it stands still, each policy's stamp and number of rounds, the switches, and the replies of the batch.
+/// Takes switches from one policy to the next, phase by phase (SIGCOMM 2012, section 5.1). It keeps the rows of all
+/// policies, and reads each flow mod off them when it is sent. Clauses see the phase, why it stands still, the rows of
+/// each policy, the switches, the replies of the batch, and how many sessions may still be lost without a halt.
 #[derive(Drop)]
 pub struct Coordinator {
-    phase: Phase,
-    halt: Option<Cause>,
-    stamps: Vec<u16>,
-    rounds: Vec<usize>,
-    sites: Vec<Site>,
-    replies: Tracker,
+    pub(crate) phase: Phase,
+    pub(crate) halt: Option<Cause>,
+    pub(crate) versions: Vec<Rows>,
+    // How many rounds each update has.
+    pub(crate) rounds: Vec<usize>,
+    pub(crate) sites: Vec<Site>,
+    // Where the ports of each switch stand in the rows.
+    pub(crate) spans: Vec<Span>,
+    // Where the batch of each switch is read on.
+    pub(crate) cursors: Vec<Cursor>,
+    pub(crate) replies: Tracker,
+    pub(crate) rejoins: usize,
 }
 
 impl Model for Coordinator {
     ghost use Rattle.update_coordinator.specs.Controls.{Control};
     ghost use Rattle.update_coordinator.specs.Kept.{IsControl};
+    ghost use Rattle.update_coordinator.specs.Batches.{rounds_of};
+    ghost use Rattle.update_coordinator.specs.Reading.{AreRead};
+    ghost use Rattle.std.specs.Prelude.{◌≡◌};
 
     ghost Value = { Control };
 
-    ghost view = { λ c. record { phase = c.phase; halt = c.halt; stamps = c.stamps.items; rounds = c.rounds.items; sites = c.sites.items; replies = c.replies } };
+    ghost view = { λ c. record { phase = c.phase; halt = c.halt; versions = c.versions.items; sites = c.sites.items; replies = c.replies; rejoins = c.rejoins } };
 
-    ghost invariant = { λ c. IsControl (record { phase = c.phase; halt = c.halt; stamps = c.stamps.items; rounds = c.rounds.items; sites = c.sites.items; replies = c.replies }) };
+    ghost invariant = { λ c. IsControl (record { phase = c.phase; halt = c.halt; versions = c.versions.items; sites = c.sites.items; replies = c.replies; rejoins = c.rejoins }) × (c.rounds.items ≡ rounds_of c.versions.items) × AreRead (record { phase = c.phase; halt = c.halt; versions = c.versions.items; sites = c.sites.items; replies = c.replies; rejoins = c.rejoins }) c.spans.items c.cursors.items };
 }
 
 impl Coordinator {
-    ghost use Rattle.update_coordinator.specs.Controls.{halted, in_phase};
-    ghost use Rattle.update_coordinator.specs.Hearing.{IsHeard, IsAnswered, IsLost};
-    ghost use Rattle.update_coordinator.specs.Sending.{IsSent, MaySend, Owes};
-    ghost use Rattle.update_coordinator.specs.Kept.{AreDone};
+    ghost use Rattle.std.specs.List.{AllByRecursion};
+    ghost use Rattle.std.specs.Prelude.{◌≤◌};
+    ghost use Rattle.policy_rows.specs.Limits.{AreWithinLimits, AreWritable};
     ghost use Rattle.update_coordinator.specs.Calls.{begun, drained, begin_refusal, drain_refusal, refusal_of};
     ghost use Rattle.update_coordinator.specs.Phases.{entry};
     ghost use Rattle.update_coordinator.specs.Starts.{start};
-    ghost use Rattle.policy_rows.specs.Limits.{AreWithinLimits, AreWritable};
-    ghost use Rattle.std.specs.Prelude.{◌≤◌};
-    ghost use Rattle.openflow_wire.specs.Writing.{Fits};
-    ghost use Rattle.std.specs.List.{AllByRecursion};
 
-    /// A coordinator of the updates to these policies, one behind the other, at the switches with these numbers.
+    /// A coordinator of the updates to these policies, one behind the other, at the switches with these numbers, of
+    /// which so many sessions may be lost without a halt.
     pub fn new(
         alloc: Global,
-        versions: &[Rows],
+        versions: Vec<Rows>,
         switches: &[u16],
+        rejoins: usize,
     ) -> Result<Coordinator, AllocError>
-        requires count { length versions.now ≤ 64 }
-        requires limits { AllByRecursion AreWithinLimits versions.now }
-        requires writable { AllByRecursion AreWritable versions.now }
-        ensures { IfOk result (λ c. c ≡ start versions.now switches.now) }
+        requires count { length versions.items ≤ 64 }
+        requires limits { AllByRecursion AreWithinLimits versions.items }
+        requires writable { AllByRecursion AreWritable versions.items }
+        requires rejoins { rejoins ≤ 1000 }
+        ensures { IfOk result (λ c. c ≡ start versions.items switches.now rejoins) }
     {
         Ok(Coordinator {
             phase: Phase::Opening,
             halt: None,
-            stamps: stamps_of(alloc, versions)?,
-            rounds: rounds_of(alloc, versions)?,
-            sites: sites_of(alloc, versions, switches)?,
+            rounds: rounds_of(alloc, &versions)?,
+            spans: spans_of(alloc, &versions, switches)?,
+            versions,
+            sites: sites_of(alloc, switches)?,
+            cursors: cursors_of(alloc, switches.len())?,
             replies: Tracker::new(alloc, switches.len())?,
+            rejoins,
         })
+    }
+
+    /// The rows of the policies, from the first on.
+    pub fn versions(&self) -> &[Rows]
+        ensures { result.now ≡ self.now.versions }
+    {
+        &self.versions
     }
 
     /// How many switches there are.
@@ -107,7 +124,7 @@ impl Coordinator {
             return false;
         }
         match self.phase {
-            Phase::Idle(policy) => policy < self.stamps.len(),
+            Phase::Idle(policy) => policy < self.versions.len(),
             _ => false,
         }
     }
@@ -124,7 +141,7 @@ impl Coordinator {
         let Phase::Idle(policy) = self.phase else {
             return Err(Refusal::NotIdle);
         };
-        if policy >= self.stamps.len() {
+        if policy >= self.versions.len() {
             return Err(Refusal::NothingLeft);
         }
         self.enter(Phase::Install(policy + 1));
@@ -140,7 +157,7 @@ impl Coordinator {
             return None;
         }
         match self.phase {
-            Phase::Drain(policy) => self.stamps.get(policy.saturating_sub(2)).copied(),
+            Phase::Drain(policy) => stamp_of(self.versions.get(policy.saturating_sub(2))),
             _ => None,
         }
     }
@@ -164,135 +181,30 @@ impl Coordinator {
         let Phase::Drain(policy) = self.phase else {
             return Err(Refusal::NotDraining);
         };
-        if !is_stamp(self.stamps.get(policy.saturating_sub(2)), stamp) {
+        if !is_stamp(self.versions.get(policy.saturating_sub(2)), stamp) {
             return Err(Refusal::NotDraining);
         }
         self.enter(Phase::Clean(policy));
         Ok(())
     }
-
-    /// Whether something may go to the switch at a place.
-    pub fn may_send(&self, place: usize) -> bool
-        requires { place < length self.now.sites }
-        ensures { IsTrue result ↔ MaySend place self.now }
-    {
-        self.halt.is_none() && self.sites[place].may_send()
-    }
-
-    /// Gives the next message to the switch at a place.
-    pub fn next_out(&mut self, place: usize) -> Option<Message>
-        requires { place < length self.old.sites }
-        ensures none { IfNone result (¬ (MaySend place self.old) × (self.new ≡ self.old)) }
-        ensures some { IfSome result (IsSent place self.old self.new) }
-        ensures fits { IfSome result Fits }
-    {
-        if self.halt.is_some() {
-            return None;
-        }
-        let message = send(&mut self.sites, place)?;
-        if let Message::BarrierRequest { xid } = &message {
-            self.replies.expect(place, *xid);
-        }
-        Some(message)
-    }
-
-    /// Whether the switch at a place owes a reply: it was asked for its features or got a barrier.
-    pub fn owes(&self, place: usize) -> bool
-        requires { place < length self.now.sites }
-        ensures { IsTrue result ↔ Owes place self.now }
-    {
-        self.sites[place].is_asked() || self.replies.owes(place)
-    }
-
-    /// Takes a message of the switch at a place.
-    pub fn heard(&mut self, place: usize, message: &Message) -> Result<Move, Refusal>
-        requires { place < length self.old.sites }
-        ensures ok { IfOk result (IsHeard place message.now self.old self.new) }
-        ensures refused { IfErr result (λ r. (r ≡ Refusal.Halted) × (self.old.halt ≢ None)) }
-        ensures err { OnErr result (self.new ≡ self.old) }
-    {
-        if self.halt.is_some() {
-            return Err(Refusal::Halted);
-        }
-        let sw = self.sites[place].sw();
-        let answer = hear(&mut self.sites, place, message);
-        match answer {
-            Move::Barrier(xid) => self.answered(place, xid),
-            Move::Failed(fault) => self.stand(Cause::Failed(sw, fault)),
-            Move::Greeted | Move::Up | Move::Echo | Move::Ignored => {}
-        }
-        Ok(answer)
-    }
-
-    /// Takes the news that the session with the switch at a place is lost.
-    pub fn lost(&mut self, place: usize) -> Result<(), Refusal>
-        requires { place < length self.old.sites }
-        ensures ok { OnOk result (IsLost place self.old self.new) }
-        ensures refused { IfErr result (λ r. (r ≡ Refusal.Halted) × (self.old.halt ≢ None)) }
-        ensures err { OnErr result (self.new ≡ self.old) }
-    {
-        if self.halt.is_some() {
-            return Err(Refusal::Halted);
-        }
-        let sw = self.sites[place].sw();
-        self.stand(Cause::Lost(sw));
-        Ok(())
-    }
-
-    /// Stands still from now on.
-    pub fn stop(&mut self, cause: Cause) -> Result<(), Refusal>
-        ensures ok { OnOk result ((self.old.halt ≡ None) × (self.new ≡ halted cause self.old)) }
-        ensures refused { IfErr result (λ r. (r ≡ Refusal.Halted) × (self.old.halt ≢ None)) }
-        ensures err { OnErr result (self.new ≡ self.old) }
-    {
-        if self.halt.is_some() {
-            return Err(Refusal::Halted);
-        }
-        self.stand(cause);
-        Ok(())
-    }
-
-    // Takes a barrier's reply.
-    fn answered(&mut self, place: usize, xid: u32)
-        requires { place < length self.old.sites }
-        ensures { IsAnswered place xid self.old self.new }
-    {
-        match self.replies.heard(place, xid) {
-            Heard::Last => {
-                let phase = self.phase.acknowledged(&self.rounds);
-                self.enter(phase);
-            }
-            Heard::More => {}
-            Heard::Stray => {}
-        }
-    }
-
-    // Stands still.
-    fn stand(&mut self, cause: Cause)
-        ensures { self.new ≡ halted cause self.old }
-    {
-        self.halt = Some(cause);
-    }
-
-    // A phase begins.
-    fn enter(&mut self, phase: Phase)
-        requires { AreDone self.old.sites }
-        ensures { self.new ≡ in_phase phase self.old }
-    {
-        self.replies.restart();
-        self.phase = phase;
-        if phase.works() {
-            begin_batches(&mut self.sites);
-        }
-    }
 }
 
 // Whether this is a policy's stamp.
-fn is_stamp(known: Option<&u16>, stamp: u16) -> bool
+fn is_stamp(known: Option<&Rows>, stamp: u16) -> bool
     ensures { result ≡ is_stamp (option_map (λ v. v.now) known.entry) stamp }
 {
     match known {
-        Some(v) => *v == stamp,
+        Some(v) => v.stamp == stamp,
         None => false,
+    }
+}
+
+// A policy's stamp, if there is one.
+fn stamp_of(known: Option<&Rows>) -> Option<u16>
+    ensures { result ≡ option_map (λ v. v.now.stamp) known.entry }
+{
+    match known {
+        Some(v) => Some(v.stamp),
+        None => None,
     }
 }

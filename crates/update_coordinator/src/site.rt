@@ -1,76 +1,65 @@
-// One switch, as the coordinator sees it.
-ghost use Rattle.std.specs.Prelude.{◌≡◌, ◌+◌, ◌<◌, ◌^◌, ◌≤◌, ◌-◌, suc, [], ◌∷◌, ◌++◌, length, IfNone, IfSome, IsTrue, ◌↔◌, ◌≢◌, ℕ, Some, map, slice_get, slice_set};
+//! One switch, as the coordinator sees it.
+ghost use Rattle.std.specs.Prelude.{◌≡◌, ◌+◌, ◌<◌, ◌^◌, true, false, IfNone, IfSome};
 ghost use Rattle.openflow_wire.specs.Writing.{Fits};
-ghost use Rattle.update_coordinator.specs.Controls.{with_batch};
+ghost use Rattle.update_coordinator.specs.Controls.{Change, Fence, message_of, sends_in};
 ghost use Rattle.update_coordinator.specs.Hearing.{still_asked};
-ghost use Rattle.update_coordinator.specs.Kept.{AreDone};
-ghost use Rattle.update_coordinator.specs.Controls as control;
-ghost use Rattle.update_coordinator.specs.Sites.{HearsAt, SendsAt};
 
 use nk_values::FlowMod;
 use openflow_wire::Message;
-use session_core::{Move, Session};
-use std::alloc::Global;
-use std::collections::VecDeque;
+use session_core::{Move, Session, SessionState};
 use std::marker::Model;
-use update_plan::Batch;
 
-/// What is to be sent to one switch: HELLO, the request for its features, flow mods and a barrier, in this order.
+/// How far one switch is: HELLO, the request for its features, flow mods and a barrier go to it, in this order. A switch
+/// that was lost and returned gets the batch of the phase once more, from its front on.
 #[derive(Drop)]
 pub struct Site {
     sw: u16,
     session: Session,
     sent: u64,
     asked: bool,
+    away: bool,
+    losses: usize,
     greets: bool,
     asks: bool,
-    batch: Batch,
-    fences: bool,
-    coming: VecDeque<Batch>,
+    sends: bool,
+    next: usize,
 }
 
 impl Model for Site {
     ghost use Rattle.update_coordinator.specs.Controls as control;
-    ghost use Rattle.update_coordinator.specs.Sites.{unsent_of, IsQuiet, HasNumbers, IsSendable, AreSendable};
-    ghost use Rattle.std.specs.List.{AllByRecursion};
+    ghost use Rattle.update_coordinator.specs.Sites.{IsQuiet, IsGone};
 
     ghost Value = { control.Site };
 
-    ghost view = { λ s. record { sw = s.sw; session = s.session; sent = s.sent; asked = s.asked; unsent = unsent_of s.greets s.asks s.batch s.fences; coming = s.coming.items } };
+    ghost view = { λ s. record { sw = s.sw; session = s.session; sent = s.sent; asked = s.asked; away = s.away; losses = s.losses; greets = s.greets; asks = s.asks; sends = s.sends; next = s.next } };
 
-    ghost invariant = { λ s. HasNumbers (record { sw = s.sw; session = s.session; sent = s.sent; asked = s.asked; unsent = unsent_of s.greets s.asks s.batch s.fences; coming = s.coming.items }) × IsQuiet s.session.state s.asks s.batch s.fences × AllByRecursion IsSendable s.batch × AreSendable s.coming.items };
+    ghost invariant = { λ s. IsQuiet s.session.state s.asks s.sends × IsGone s.away s.session.state s.greets };
 }
 
 impl Site {
-    ghost use Rattle.update_coordinator.specs.Controls.{with_batch};
+    ghost use Rattle.update_coordinator.specs.Controls.{gone, returned, begun_site};
     ghost use Rattle.update_coordinator.specs.Hearing.{met, told};
-    ghost use Rattle.update_coordinator.specs.Sending.{IsNext};
-    ghost use Rattle.update_coordinator.specs.Kept.{IsDone};
-    ghost use Rattle.update_coordinator.specs.Sites.{EndsBatch, AreSendable};
-    ghost use Rattle.openflow_wire.specs.Writing.{Fits};
+    ghost use Rattle.update_coordinator.specs.Sending.{went};
+    ghost use Rattle.update_coordinator.specs.Kept.{Known};
+    ghost use Rattle.update_coordinator.specs.Sites.{in_batch, has_orders, GreetsBy};
     ghost use Rattle.update_coordinator.specs.Starts.{new_site};
-    ghost use Rattle.nk_values.specs.declared.row.FlowMod.{FlowMod};
-    ghost use Rattle.std.specs.Prelude.{List};
-    ghost use Rattle.std.specs.List.{sum_by};
-    ghost use Rattle.update_coordinator.specs.Controls as control;
     ghost use Rattle.session_core.specs.Sessions.{move_of};
 
-    /// A switch from which nothing was heard and to which nothing was sent, with all its batches.
-    pub fn new(alloc: Global, sw: u16, batches: VecDeque<Batch>) -> Site
-        requires few { sum_by (λ (ms : List FlowMod). length ms + 1) batches.items + 3 < 2 ^ 32 }
-        requires sendable { AreSendable batches.items }
-        ensures { result ≡ new_site sw batches.items }
+    /// A switch from which nothing was heard and to which nothing was sent.
+    pub fn new(sw: u16) -> Site
+        ensures { result ≡ new_site sw }
     {
         Site {
             sw,
             session: Session::new(u64::from(sw)),
             sent: 0,
             asked: false,
+            away: false,
+            losses: 0,
             greets: true,
             asks: false,
-            batch: Batch::new(alloc),
-            fences: false,
-            coming: batches,
+            sends: false,
+            next: 0,
         }
     }
 
@@ -81,35 +70,70 @@ impl Site {
         self.sw
     }
 
-    /// Lets the next batch be sent.
-    pub fn begin_batch(&mut self)
-        requires { IsDone self.old }
-        ensures { self.new ≡ with_batch self.old }
+    /// Whether its session is lost.
+    pub fn is_away(&self) -> bool
+        ensures { result ≡ self.now.away }
     {
-        if let Some(batch) = self.coming.pop_front() {
-            self.batch = batch;
-            self.fences = true;
-        }
+        self.away
     }
 
-    /// Takes a message of the switch.
-    pub fn heard(&mut self, message: &Message) -> Move
+    /// How many flow mods of the batch went out in this session.
+    pub fn next(&self) -> usize
+        ensures { result ≡ self.now.next }
+    {
+        self.next
+    }
+
+    /// Takes the news that a phase begins, which has a batch or none: the batch is sent where the session is up.
+    pub fn begin_phase(&mut self, works: bool)
+        ensures { self.new ≡ begun_site works self.old }
+    {
+        self.sends = sends_in(works, self.session.state());
+        self.next = 0;
+    }
+
+    /// Takes a message of the switch, of which the barrier of the phase's batch was not heard if `due` says so.
+    pub fn heard(&mut self, message: &Message, due: bool) -> Move
+        requires { self.old.away ≡ false }
         ensures answer { result ≡ move_of self.old.session message.now }
-        ensures met { self.new ≡ met result (told message.now self.old) }
+        ensures met { self.new ≡ met due result (told message.now self.old) }
     {
         self.asked = still_asked(self.asked, message);
         let answer = self.session.take(message);
         match answer {
             Move::Greeted => self.asks = true,
             Move::Up => {
-                if let Some(batch) = self.coming.pop_front() {
-                    self.batch = batch;
-                    self.fences = true;
+                if due {
+                    self.next = 0;
+                    self.sends = true;
                 }
             }
             Move::Barrier(_) | Move::Echo | Move::Ignored | Move::Failed(_) => {}
         }
         answer
+    }
+
+    /// Takes the news that its session is lost: nothing is sent to it until it returns.
+    pub fn lose(&mut self)
+        requires { self.old.losses < 1000 }
+        ensures { self.new ≡ gone self.old }
+    {
+        self.session.again();
+        self.asked = false;
+        self.away = true;
+        self.losses += 1;
+        self.greets = false;
+        self.asks = false;
+        self.sends = false;
+    }
+
+    /// Takes the news that it is there again: it is greeted anew.
+    pub fn come_back(&mut self)
+        requires { self.old.away ≡ true }
+        ensures { self.new ≡ returned self.old }
+    {
+        self.away = false;
+        self.greets = true;
     }
 
     /// Whether the switch was asked for its features and did not tell them yet.
@@ -121,17 +145,23 @@ impl Site {
 
     /// Whether something is to be sent.
     pub fn may_send(&self) -> bool
-        ensures { IsTrue result ↔ (self.now.unsent ≢ []) }
+        ensures { result ≡ has_orders self.now.greets self.now.asks self.now.sends }
     {
-        self.greets || self.asks || self.batch.len() > 0 || self.fences
+        self.greets || self.asks || self.sends
     }
 
-    /// Gives the next message, with the next number.
-    pub fn next_out(&mut self) -> Option<Message>
-        ensures none { IfNone result ((self.old.unsent ≡ []) × (self.new ≡ self.old)) }
-        ensures some { IfSome result (IsNext self.old self.new) }
-        // A barrier is the last message of its batch.
-        ensures last { IfSome result (EndsBatch self.new) }
+    /// Whether the batch of the phase is what is to be sent next.
+    pub fn is_in_batch(&self) -> bool
+        ensures { result ≡ in_batch self.now.greets self.now.asks self.now.sends }
+    {
+        !self.greets && !self.asks && self.sends
+    }
+
+    /// Gives HELLO or the request for the features, with the next number, where they come first.
+    pub fn greet(&mut self) -> Option<Message>
+        requires small { self.old.sent + 1 < 2 ^ 32 }
+        ensures none { IfNone result ((self.old.greets ≡ false) × (self.old.asks ≡ false) × (self.new ≡ self.old)) }
+        ensures some { IfSome result (GreetsBy self.old self.new) }
         ensures fits { IfSome result Fits }
     {
         let xid = self.sent as u32 + 1;
@@ -146,17 +176,42 @@ impl Site {
             self.sent += 1;
             return Some(Message::FeaturesRequest { xid });
         }
-        if let Some(change) = self.batch.take_first() {
-            self.sent += 1;
-            return Some(Message::FlowMod { xid, change });
-        }
-        if self.fences {
-            self.fences = false;
-            self.sent += 1;
-            return Some(Message::BarrierRequest { xid });
-        }
         None
     }
+
+    /// Gives a flow mod of the batch, with the next number.
+    pub fn change(&mut self, change: FlowMod) -> Message
+        requires small { self.old.sent + 1 < 2 ^ 32 }
+        requires short { self.old.next < 130000 }
+        ensures message { result ≡ message_of (self.old.sent + 1) (Change change) }
+        ensures went { self.new ≡ went (Change change) self.old }
+    {
+        let xid = self.sent as u32 + 1;
+        self.next += 1;
+        self.sent += 1;
+        Message::FlowMod { xid, change }
+    }
+
+    /// Gives the number of the barrier that ends the batch.
+    pub fn fence(&mut self) -> u32
+        requires small { self.old.sent + 1 < 2 ^ 32 }
+        requires sends { self.old.sends ≡ true }
+        ensures known { Known self.old.session.state }
+        ensures xid { result ≡ self.old.sent + 1 }
+        ensures went { self.new ≡ went Fence self.old }
+    {
+        let xid = self.sent as u32 + 1;
+        self.sends = false;
+        self.sent += 1;
+        xid
+    }
+}
+
+// Whether a phase's batch is sent to a switch.
+fn sends_in(works: bool, state: SessionState) -> bool
+    ensures { result ≡ sends_in works state }
+{
+    works && matches!(state, SessionState::Up)
 }
 
 // Whether a switch still owes its features behind a message of it.
@@ -167,32 +222,4 @@ fn still_asked(asked: bool, message: &Message) -> bool
         Message::FeaturesReply { .. } => false,
         _ => asked,
     }
-}
-
-// Lets the next batch of each switch be sent.
-pub(crate) fn begin_batches(sites: &mut [Site])
-    requires { AreDone sites.old }
-    ensures { sites.new ≡ map with_batch sites.old }
-{
-    for site in sites.iter_mut() {
-        site.begin_batch();
-    }
-}
-
-// Takes a message of the switch at a place.
-pub(crate) fn hear(sites: &mut [Site], place: usize, message: &Message) -> Move
-    requires { place < length sites.old }
-    ensures { HearsAt place message.now result sites.old sites.new }
-{
-    sites[place].heard(message)
-}
-
-// Gives the next message to the switch at a place.
-pub(crate) fn send(sites: &mut [Site], place: usize) -> Option<Message>
-    requires { place < length sites.old }
-    ensures none { IfNone result ((sites.new ≡ sites.old) × ((s : control.Site) → slice_get sites.old place ≡ Some s → s.unsent ≡ [])) }
-    ensures some { IfSome result (SendsAt place sites.old sites.new) }
-    ensures fits { IfSome result Fits }
-{
-    sites[place].next_out()
 }

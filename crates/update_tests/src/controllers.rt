@@ -1,5 +1,6 @@
 // A coordinator of two policies at two switches, and what the switches answer.
-ghost use Rattle.std.specs.Prelude.{◌≡◌, ◌∷◌, [], IfOk};
+ghost use Rattle.std.specs.Prelude.{◌≡◌, ◌≤◌, ◌∷◌, [], IfOk, IfSome};
+ghost use Rattle.openflow_wire.specs.Writing.{Fits};
 ghost use Rattle.policy_rows.specs.Limits.{AreWithinLimits, AreWritable};
 ghost use Rattle.update_tests.specs.Rows.{one_row};
 
@@ -52,17 +53,31 @@ fn version(
     Ok(Rows { stamp, band, ports })
 }
 
-pub fn start(alloc: Global) -> Result<Coordinator, AllocError> {
+// Two policies, one behind the other.
+fn both(alloc: Global, first: Rows, second: Rows) -> Result<Vec<Rows>, AllocError>
+    ensures { IfOk result (λ v. v.items ≡ first ∷ second ∷ []) }
+{
+    let mut versions = Vec::new(alloc);
+    versions.push(first)?;
+    versions.push(second)?;
+    Ok(versions)
+}
+
+pub fn start(alloc: Global, rejoins: usize) -> Result<Coordinator, AllocError>
+    requires { rejoins ≤ 1000 }
+{
     let first = version(alloc, 1, Band::High, (1, 36000), (2, 36000))?;
     let second = version(alloc, 2, Band::Low, (1, 16000), (2, 16000))?;
-    Coordinator::new(alloc, &[first, second], &[1, 2])
+    Coordinator::new(alloc, both(alloc, first, second)?, &[1, 2], rejoins)
 }
 
 /// The same with both ports at the first switch, so that its batches have two flow mods.
-pub fn start_at_one(alloc: Global) -> Result<Coordinator, AllocError> {
+pub fn start_at_one(alloc: Global, rejoins: usize) -> Result<Coordinator, AllocError>
+    requires { rejoins ≤ 1000 }
+{
     let first = version(alloc, 1, Band::High, (1, 36000), (1, 35999))?;
     let second = version(alloc, 2, Band::Low, (1, 16000), (1, 15999))?;
-    Coordinator::new(alloc, &[first, second], &[1, 2])
+    Coordinator::new(alloc, both(alloc, first, second)?, &[1, 2], rejoins)
 }
 
 fn features(alloc: Global, xid: u32, datapath: u64) -> Option<Message> {
@@ -97,11 +112,14 @@ pub fn full(alloc: Global) -> Option<Message> {
     })
 }
 
-pub fn next_out(c: &mut Coordinator, place: usize) -> Option<Message> {
+// The next message to the switch at a place.
+pub fn next_out(alloc: Global, c: &mut Coordinator, place: usize) -> Option<Message>
+    ensures { IfSome result Fits }
+{
     if place >= c.switch_count() {
         return None;
     }
-    c.next_out(place)
+    c.next_out(alloc, place).ok()?
 }
 
 // The move of a message that was heard.
@@ -128,7 +146,7 @@ pub fn may_send(c: &Coordinator, place: usize) -> bool {
 // Sends all that may go to a switch, which answers at once. Gives how many messages went.
 pub fn serve(alloc: Global, c: &mut Coordinator, place: usize, sw: u64) -> u32 {
     for sent in 0..100 {
-        let Some(message) = next_out(c, place) else {
+        let Some(message) = next_out(alloc, c, place) else {
             return sent;
         };
         let reply = answer(alloc, sw, &message);

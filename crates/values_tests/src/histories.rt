@@ -19,11 +19,11 @@ fn packet(pt: u64) -> Packet {
 
 #[test]
 fn doubles_and_copies(rt: HostRuntime) -> Result<(), Fail> {
-    let mut history = History::new(rt.alloc(), packet(1));
-    history.double()?;
+    let mut history = History::new(packet(1));
+    history.double(rt.alloc())?;
     history.set_newest(packet(2));
-    let copy = history.copy(rt.alloc())?;
+    let copy = history.copy()?;
     assert_eq!(rt; *copy.newest(), packet(2));
-    assert_eq!(rt; copy.older(), [packet(1)].as_slice());
+    assert_eq!(rt; copy.older(rt.alloc())?.as_slice(), [packet(1)].as_slice());
     Ok(())
 }

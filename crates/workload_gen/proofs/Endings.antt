@@ -1,5 +1,5 @@
 -- Drawn runs of workloads end where all is done.
-use Rattle.std.proofs.Common.{◌≡◌, ℕ, zero, suc, ◌+◌, ◌-◌, ◌<◌, ◌≤◌, inl, inr, List, [], ◌∷◌, ◌++◌, length, map, drop, refl, sym, ◌∙◌, ap, subst, Option, None, Some, option_map, slice_get, slice_set, arith}
+use Rattle.std.proofs.Common.{◌≡◌, true, false, ℕ, zero, suc, ◌+◌, ◌-◌, ◌<◌, ◌≤◌, inl, inr, List, [], ◌∷◌, ◌++◌, length, map, drop, refl, sym, ◌∙◌, ap, subst, Option, None, Some, slice_get, slice_set, arith}
 use Rattle.std.proofs.lemmas.List.{length-map}
 use Rattle.nk_values.specs.declared.packet.Packet.{Packet}
 use Rattle.nk_values.specs.Members.{IsIn}
@@ -19,6 +19,8 @@ use Rattle.rand_pcg.specs.Lcg.{Lcg}
 use Rattle.update_coordinator.specs.declared.phase.Phase.{Phase}
 use Rattle.update_coordinator.specs.declared.phase.Phase.TheVariants as phase
 use Rattle.update_coordinator.specs.Calls.{drain_refusal}
+use Rattle.update_coordinator.specs.Controls.{Site as Seen}
+use Rattle.update_coordinator.specs.Starts.{new_site}
 use Rattle.update_laws.specs.Fleets.{End, Fleet}
 use Rattle.update_laws.proofs.Moving.{drains-at}
 use Rattle.update_laws.proofs.Places.{get-within, get-map}
@@ -29,7 +31,8 @@ use Rattle.world_core.specs.Laws.{HasRoom, IsStill, IsBarred, NoDeadEnd}
 use Rattle.world_core.specs.Settling.{NoneIs, hops_from}
 use Rattle.world_core.specs.Steps.{InFleet, IsEnabled, Stands, Step}
 use Rattle.world_core.specs.Ends.{new_end}
-use Rattle.world_core.specs.Worlds.{WorldValue, IsKept, numbers_of, stamps_of}
+use Rattle.world_core.proofs.Presence.{ArePresent}
+use Rattle.world_core.specs.Worlds.{WorldValue, IsKept, numbers_of}
 use Rattle.workload_gen.specs.Draws.{AreEnabled, IsDrawn, Drawn, Draws, applies_from, pending_at, arrival, draining, left_by, left_behind, report, tried, tried_at, tried_from, tried_last}
 use Rattle.workload_gen.specs.Documents.{document_of, generator, number_by, packet_count, policies, policy_count, seeded, switch_count, topology_lines}
 use Rattle.workload_gen.specs.Laws.{line_of, start_of, HasEnded}
@@ -43,9 +46,10 @@ use Rattle.workload_gen.proofs.Unhalted.{IsFree, IsDrivable, AreMute, free-step,
 
 -- ---- what is drawn was tried
 
--- an event that may be drawn while these packets are left: none that halts, and of arrivals that of the first of them
+-- an event that may be drawn while these packets are left: none that halts or loses a session, and of arrivals that of the first of them
 abbrev IsTried : List PacketLine → Event → Type 0
 IsTried lines (event.Lost s) = ⊥
+IsTried lines (event.Rejoin s) = ⊥
 IsTried lines (event.Stuck k) = ⊥
 IsTried lines (event.Foreign s side got) = ⊥
 IsTried lines (event.Arrive pk tag) = (line : PacketLine) × (rest : List PacketLine) × (lines ≡ line ∷ rest) × (line.packet ≡ pk) × (line.tag ≡ tag)
@@ -83,7 +87,7 @@ tried-report lines (Some stamp) = (tt, tt)
 
 are-tried : (lines : List PacketLine) (w : WorldValue) → AreTried lines (tried lines w)
 are-tried lines w =
-    let o = draining w.fleet.control.phase w.versions in
+    let o = draining w.fleet.control.phase w.fleet.control.versions in
     tried-both lines (tried_from w 0 (length w.topology.switches)) (hops_from 0 (length w.flights) ++ tried_last lines w) (tried-switches lines w 0 (length w.topology.switches))
     (tried-both lines (hops_from 0 (length w.flights)) (tried_last lines w) (tried-hops lines 0 (length w.flights))
     (tried-both lines (arrival lines) (event.Begin ∷ report o) (tried-arrival lines) (tt, tried-report lines o)))
@@ -102,6 +106,7 @@ drawn-tried lines w g e d = enabled-tried lines w (tried lines w) d.events _ e (
 
 drivable : (lines : List PacketLine) (e : Event) → IsTried lines e → IsDrivable e
 drivable lines (event.Lost s) t = t
+drivable lines (event.Rejoin s) t = t
 drivable lines (event.Stuck k) t = t
 drivable lines (event.Foreign s side got) t = t
 drivable lines _ t = tt
@@ -198,6 +203,7 @@ way-step room s versions all left w (event.Arrive pk tag) v t h o = way-arrive s
 way-step room s versions all left w (event.Hop k) v t h o = way-hop s k versions all left w v h (free-step room w (event.Hop k) v tt h o.free) o
 way-step room s versions all left w (event.Drained stamp) v t h o = way-in _ s versions all left w v h.step (free-step room w (event.Drained stamp) v tt h o.free) o
 way-step room s versions all left w (event.Lost p) v t h o = absurd t
+way-step room s versions all left w (event.Rejoin p) v t h o = absurd t
 way-step room s versions all left w (event.Stuck k) v t h o = absurd t
 way-step room s versions all left w (event.Foreign p side got) v t h o = absurd t
 
@@ -228,7 +234,7 @@ switch-in w s zero j e l m = absurd (omega (arith, l))
 switch-in w s (suc n) zero e l m = in-left (tried_at w s) (tried_from w (s + 1) n) e (subst (λ (i : ℕ). IsIn (tried_at w i) e) (omega arith) m)
 switch-in w s (suc n) (suc j) e l m = in-right (tried_at w s) (tried_from w (s + 1) n) e (switch-in w (s + 1) n j e (omega (arith, l)) (subst (λ (i : ℕ). IsIn (tried_at w i) e) (omega arith) m))
 
-module _ (lines : List PacketLine) (w : WorldValue) (long : length w.fleet.ends ≡ length w.topology.switches) (sites : length w.fleet.ends ≡ length w.fleet.control.sites) (stamps : w.fleet.control.stamps ≡ stamps_of w.versions) (over : NoneIs w (tried lines w)) where
+module _ (lines : List PacketLine) (w : WorldValue) (long : length w.fleet.ends ≡ length w.topology.switches) (sites : length w.fleet.ends ≡ length w.fleet.control.sites) (present : ArePresent w.fleet.control.sites) (over : NoneIs w (tried lines w)) where
   -- an event of a switch
   at-switch : (s : ℕ) (e : Event) → s < length w.fleet.ends → IsIn (tried_at w s) e → ¬ (IsEnabled w e)
   at-switch s e l m = none-of w (tried lines w) e over
@@ -249,8 +255,9 @@ module _ (lines : List PacketLine) (w : WorldValue) (long : length w.fleet.ends 
     apply = λ s k h. at-switch s (event.Apply s k) (of-end s _ h) (inr (inr (applies s k h))) h;
     take = λ s h. at-switch s (event.Take s) (of-end s _ h) (behind s (event.Take s) (inl refl)) h;
     send = λ s h. at-switch s (event.Send s) (sends s h) (behind s (event.Send s) (inr (inl refl))) h;
-    begin = last-of event.Begin (in-right (arrival lines) (event.Begin ∷ report (draining w.fleet.control.phase w.versions)) event.Begin (inl refl));
-    drained = λ stamp h. last-of (event.Drained stamp) (in-right (arrival lines) (event.Begin ∷ report (draining w.fleet.control.phase w.versions)) (event.Drained stamp) (inr (reported stamp h.0))) h;
+    begin = last-of event.Begin (in-right (arrival lines) (event.Begin ∷ report (draining w.fleet.control.phase w.fleet.control.versions)) event.Begin (inl refl));
+    drained = λ stamp h. last-of (event.Drained stamp) (in-right (arrival lines) (event.Begin ∷ report (draining w.fleet.control.phase w.fleet.control.versions)) (event.Drained stamp) (inr (reported stamp h.0))) h;
+    rejoin = λ s h. let none : true ≡ false = sym h.away ∙ present s h.site h.here in cc;
     hop = λ k h. none-of w (tried lines w) (event.Hop k) over
         (in-right (tried_from w 0 (length w.topology.switches)) (hops_from 0 (length w.flights) ++ tried_last lines w) (event.Hop k)
         (in-left (hops_from 0 (length w.flights)) (tried_last lines w) (event.Hop k)
@@ -269,12 +276,10 @@ module _ (lines : List PacketLine) (w : WorldValue) (long : length w.fleet.ends 
       sends : (s : ℕ) → IsEnabled w (event.Send s) → s < length w.fleet.ends
       sends s h = omega (arith, sites, get-within s w.fleet.control.sites h.site h.here)
 
-      reported : (stamp : ℕ) → drain_refusal w.fleet.control stamp ≡ None → IsIn (report (draining w.fleet.control.phase w.versions)) (event.Drained stamp)
+      reported : (stamp : ℕ) → drain_refusal w.fleet.control stamp ≡ None → IsIn (report (draining w.fleet.control.phase w.fleet.control.versions)) (event.Drained stamp)
       reported stamp h =
           let d = drains-at w.fleet.control stamp h in
-          let v = get-map (λ (v : Version). v.rows.stamp) (d.policy - 2) w.versions stamp (ap (λ (xs : List ℕ). slice_get xs (d.policy - 2)) (sym stamps) ∙ d.stamp_at) in
-          subst (λ (o : Option ℕ). IsIn (report o) (event.Drained stamp))
-          (sym (ap (λ (ph : Phase). draining ph w.versions) d.phase ∙ ap (λ (o : Option Version). option_map (λ x. x.rows.stamp) o) v.1 ∙ ap (λ (n : ℕ). Some n) v.2)) (inl refl)
+          subst (λ (o : Option ℕ). IsIn (report o) (event.Drained stamp)) (sym (ap (λ (ph : Phase). draining ph w.fleet.control.versions) d.phase ∙ d.stamp_at)) (inl refl)
 
 -- ---- the start
 
@@ -288,10 +293,13 @@ start-mute capacity numbers place e at m i r =
     let x = get-map (new_end capacity) place numbers e at in
     no-error (to.Hello 1 0) m e.back (ap (λ (z : End). z.back) (sym x.2)) (λ z. z) i r
 
+start-present : (numbers : List ℕ) → ArePresent (map new_site numbers)
+start-present numbers k s at = let x = get-map new_site k numbers s at in sym (ap (λ (y : Seen). y.away) x.2)
+
 begins : (n : ℕ) (versions : List Version) → IsKept (start_of (document_of n) versions) → map (λ (x : Version). term_of x.pol) versions ≡ (document_of n).policies →
     IsOnWay (switch_count n) versions (document_of n).packets (document_of n).packets (start_of (document_of n) versions)
 begins n versions kept pols = record {
-  free = record { kept = kept; room = omega arith; running = refl; mute = start-mute 200000 (numbers_of (document_of n).layout.switches) };
+  free = record { kept = kept; room = omega arith; running = refl; present = start-present (numbers_of (document_of n).layout.switches); mute = start-mute 200000 (numbers_of (document_of n).layout.switches) };
   line = record {
     topology = refl;
     policies = λ k v e. policies-at (switch_count n) k (policy_count n) (seeded n) (term_of v.pol)
@@ -313,10 +321,6 @@ as-long w k = sym (length-map w.fleet.ends (λ (e : End). e.switch.sw)) ∙ ap (
 as-many : (w : WorldValue) → IsKept w → length w.fleet.ends ≡ length w.fleet.control.sites
 unfolding IsKept
 as-many w k = k.fleet.ends
-
-same-stamps : (w : WorldValue) → IsKept w → w.fleet.control.stamps ≡ stamps_of w.versions
-unfolding IsKept
-same-stamps w k = k.stamps
 
 no-flight : (s : ℕ) (w : WorldValue) (fs : List Flight) → s ≤ 32 → w.limit ≡ 64 → AreNear s fs → w.flights ≡ fs → ((k : ℕ) → ¬ (IsEnabled w (event.Hop k))) → fs ≡ []
 no-flight s w [] few limit near e n = refl
@@ -351,9 +355,9 @@ kept-end room dead n versions events v kept pols draws = record {
     o = way-run room (switch_count n) versions (document_of n).packets (document_of n).packets (generator n) (start_of (document_of n) versions) events v draws.done (begins n versions kept pols)
 
     quiet : IsStill v
-    quiet = still (left_behind events (document_of n).packets) v (as-long v o.free.kept) (as-many v o.free.kept) (same-stamps v o.free.kept) draws.over
+    quiet = still (left_behind events (document_of n).packets) v (as-long v o.free.kept) (as-many v o.free.kept) o.free.present draws.over
 
     none : left_behind events (document_of n).packets ≡ []
     none = no-packet (switch_count n) v (left_behind events (document_of n).packets) o.line.topology o.guests
-        (λ e m. last-of (left_behind events (document_of n).packets) v (as-long v o.free.kept) (as-many v o.free.kept) (same-stamps v o.free.kept) draws.over e
-        (in-left (arrival (left_behind events (document_of n).packets)) (event.Begin ∷ report (draining v.fleet.control.phase v.versions)) e m))
+        (λ e m. last-of (left_behind events (document_of n).packets) v (as-long v o.free.kept) (as-many v o.free.kept) o.free.present draws.over e
+        (in-left (arrival (left_behind events (document_of n).packets)) (event.Begin ∷ report (draining v.fleet.control.phase v.fleet.control.versions)) e m))

@@ -117,4 +117,4 @@ versions-start n d vs e a = subst (λ (x : Doc). AreVersions x.layout vs) (sym e
 
 pub runs-end : HasRoom → NoDeadEnd → RunsEnd
 runs-end room dead n versions events v t a draws =
-    kept-end room dead n versions events v (start-kept (document_of n).layout versions 64 200000 t (starts n versions a) (omega arith)) a.policies draws
+    kept-end room dead n versions events v (start-kept (document_of n).layout versions (record { hops = 64; capacity = 200000; rejoins = 0 }) t (starts n versions a) (omega arith)) a.policies draws

@@ -1,14 +1,18 @@
 -- An event of a switch changes nothing at the others.
-use Rattle.std.proofs.Common.{◌≡◌, ◌≢◌, ℕ, zero, suc, ◌+◌, ◌-◌, ◌^◌, ◌<◌, ◌≤◌, ◌⊎◌, inl, inr, min, List, [], ◌∷◌, ◌++◌, length, take, refl, sym, ◌∙◌, ap, subst, Option, Some, slice_get, slice_set, arith}
+use Rattle.std.proofs.Common.{◌≡◌, ◌≢◌, ℕ, zero, suc, ◌+◌, ◌-◌, ◌^◌, ◌<◌, ◌≤◌, ◌⊎◌, inl, inr, min, List, [], ◌∷◌, ◌++◌, length, take, refl, sym, ◌∙◌, ap, subst, Option, None, Some, slice_get, slice_set, arith}
 use native.Mathlib.Decide.{ℕ_discrete}
 use Rattle.std.proofs.lemmas.List.{length-append}
 use Rattle.std.proofs.lemmas.Option.{slice_get_past}
 use Rattle.topology_model.specs.Layouts.{Layout}
-use Rattle.update_coordinator.specs.Controls.{Control}
+use Rattle.update_coordinator.specs.Controls.{Control, batch_at}
+use Rattle.update_coordinator.specs.Sending.{MaySend}
+use Rattle.update_coordinator.proofs.Orders.{some_orders, orders_some}
 use Rattle.update_laws.specs.Fleets.{End, Fleet}
-use Rattle.update_laws.proofs.Places.{put-set}
+use Rattle.update_laws.proofs.Places.{Put, get-some, get-within, put-set}
+use Rattle.update_laws.proofs.Wiring.{some-is}
 use Rattle.world_core.specs.declared.event.Event.{Event}
 use Rattle.world_core.specs.declared.event.Event.TheVariants as event
+use Rattle.world_core.specs.Ends.{HasSession}
 use Rattle.world_core.specs.Steps.{IsEnabled, Stands, Step}
 use Rattle.world_core.specs.Worlds.{WorldValue}
 use Rattle.workload_gen.specs.declared.sweep.Sweep.{Sweep}
@@ -31,6 +35,14 @@ turned s w v a = record { halt = sym a.halt; end_ = sym a.end_; site = sym a.sit
 stands-same : (s : ℕ) (w v : WorldValue) (Is : End → Type 0) → SameAt s w v → Stands s w Is → Stands s v Is
 stands-same s w v Is a h = record { end_ = h.end_; here = a.end_ ∙ h.here; is = h.is }
 
+session-same : (s : ℕ) (w v : WorldValue) → SameAt s w v → HasSession s w.fleet.control → HasSession s v.fleet.control
+session-same s w v a h = record { running = a.halt ∙ h.running; site = h.site; here = a.site ∙ h.here; there = h.there }
+
+-- whether something is to be sent does not depend on the batch
+sends-same : (s : ℕ) (w v : WorldValue) → SameAt s w v → MaySend s w.fleet.control → MaySend s v.fleet.control
+sends-same s w v a h =
+    record { running = a.halt ∙ h.running; site = h.site; here = a.site ∙ h.here; some = some_orders (batch_at v.fleet.control h.site) h.site (orders_some (batch_at w.fleet.control h.site) h.site h.some) }
+
 -- what can happen in the one world can in the other
 abbrev AreMoved : WorldValue → WorldValue → List Event → Type 0
 AreMoved w v [] = Unit {0}
@@ -52,8 +64,8 @@ applies-moved s k (suc n) w v a = (stands-same s w v _ a, stands-same s v w _ (t
 tried-moved : (s : ℕ) (w v : WorldValue) → SameAt s w v → AreMoved w v (tried_at w s)
 tried-moved s w v a =
     let b = turned s w v a in (
-      (λ h. (a.halt ∙ h.0, stands-same s w v _ a h.1)),
-      (λ h. (b.halt ∙ h.0, stands-same s v w _ b h.1)),
+      (λ h. (session-same s w v a h.0, stands-same s w v _ a h.1)),
+      (λ h. (session-same s v w b h.0, stands-same s v w _ b h.1)),
       (
         (λ h. stands-same s w v _ a h),
         (λ h. stands-same s v w _ b h),
@@ -61,8 +73,8 @@ tried-moved s w v a =
           (λ h. stands-same s w v _ a h),
           (λ h. stands-same s v w _ b h),
           (
-            (λ h. record { running = a.halt ∙ h.running; site = h.site; here = a.site ∙ h.here; some = h.some }),
-            (λ h. record { running = b.halt ∙ h.running; site = h.site; here = b.site ∙ h.here; some = h.some }),
+            (λ h. sends-same s w v a h),
+            (λ h. sends-same s v w b h),
             tt,
           ),
         ),
@@ -139,6 +151,7 @@ step-topology w (event.Arrive pk tag) v h = ap (λ (x : WorldValue). x.topology)
 step-topology w (event.Hop k) v h = ap (λ (x : WorldValue). x.topology) h.now
 step-topology w (event.Drained stamp) v h = ap (λ (x : WorldValue). x.topology) h.step.now
 step-topology w (event.Lost s) v h = ap (λ (x : WorldValue). x.topology) h.now
+step-topology w (event.Rejoin s) v h = ap (λ (x : WorldValue). x.topology) h.now
 step-topology w (event.Stuck k) v h = ap (λ (x : WorldValue). x.topology) h.now
 step-topology w (event.Foreign s side got) v h = ap (λ (x : WorldValue). x.topology) h.now
 
@@ -180,3 +193,24 @@ written-back zero [] ys e = refl
 written-back (suc n) [] ys e = absurd (omega (arith, e))
 written-back zero (x ∷ xs) ys e = absurd (omega (arith, e))
 written-back (suc n) (x ∷ xs) ys e = ap (λ zs. x ∷ zs) (written-back n xs ys (omega (arith, e)))
+
+-- what holds of each number of a list before a place holds of one more, once it holds there
+pub each-more : (P : ℕ → ℕ → Type 0) (xs : List ℕ) (i v : ℕ) → i < length xs → P i v → ((k n : ℕ) → k < i → slice_get xs k ≡ Some n → P k n) → (k n : ℕ) → k < i + 1 → slice_get (slice_set xs i v) k ≡ Some n → P k n
+each-more P xs i v l here below k n small at = elim (ℕ_discrete k i) [
+  | yes d ↦ subst (λ (j : ℕ). P j n) (sym d) (subst (λ (m : ℕ). P i m) (some-is v n (sym put.at ∙ ap (λ (j : ℕ). slice_get (slice_set xs i v) j) (sym d) ∙ at)) here)
+  | no d ↦ below k n (omega (arith, small, d)) (sym (put.others k d) ∙ at)
+]
+  where
+    put : Put i xs v (slice_set xs i v)
+    put = let old = get-some i xs l in put-set i xs old.0 v old.1
+
+-- and of each of them, where all are before it
+pub each-all : (P : ℕ → ℕ → Type 0) (xs : List ℕ) (i : ℕ) → length xs ≤ i → ((k n : ℕ) → k < i → slice_get xs k ≡ Some n → P k n) → (k n : ℕ) → slice_get xs k ≡ Some n → P k n
+each-all P xs i l below k n at = below k n (omega (arith, l, get-within k xs n at)) at
+
+-- and of each number of a longer list, where it holds of the one behind the others
+pub each-push : (P : ℕ → ℕ → Type 0) (xs : List ℕ) (v : ℕ) → P (length xs) v → ((k n : ℕ) → slice_get xs k ≡ Some n → P k n) → (k n : ℕ) → slice_get (xs ++ v ∷ []) k ≡ Some n → P k n
+each-push P [] v here below zero n at = subst (λ (m : ℕ). P 0 m) (some-is v n at) here
+each-push P [] v here below (suc k) n at = absurd (let none : None ≡ Some n = at in cc)
+each-push P (x ∷ xs) v here below zero n at = below 0 n at
+each-push P (x ∷ xs) v here below (suc k) n at = each-push (λ (j m : ℕ). P (suc j) m) xs v here (λ j m e. below (suc j) m e) k n at

@@ -17,8 +17,7 @@ use Rattle.history_meaning.specs.Network.{Place}
 use Rattle.history_meaning.specs.Plain.{HasResult}
 use Rattle.topology_model.specs.declared.line.TopoLine.{TopoLine}
 use Rattle.topology_model.specs.Lines.{layout_of, links_in}
-use Rattle.packet_tracer.proofs.Bare.{from-filter}
-use Rattle.packet_tracer.proofs.Runs.{only, from-chain}
+use Rattle.history_meaning.proofs.Runs.{only, from-filter, from-chain}
 use Rattle.workload_laws.specs.Workload.{numbers, exit, hop, hops_at, workload}
 use Rattle.workload_laws.proofs.Workloads.{in_map, in_numbers, hop_of}
 use Rattle.workload_gen.specs.Documents.{switch_line, link_line, topology_lines}

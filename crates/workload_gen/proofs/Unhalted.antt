@@ -1,8 +1,9 @@
 -- Nothing that is drawn halts the updates: where there is room for the rows of two versions no switch sends an ERROR.
 use Rattle.std.proofs.Common.{◌≡◌, ℕ, ◌≤◌, Bool, true, false, if◌then◌else◌, ◌==◌, inl, inr, List, [], ◌∷◌, ◌++◌, length, Option, None, Some, is_some, slice_get, slice_set, refl, sym, ◌∙◌, ap, subst, arith}
 use native.Mathlib.Decide.{ℕ_discrete}
+use Rattle.nk_values.specs.declared.row.FlowMod.{FlowMod}
 use Rattle.nk_values.specs.Members.{IsIn}
-use Rattle.nk_values.proofs.MemberLaws.{in-either}
+use Rattle.nk_values.proofs.MemberLaws.{in-either, in-left, in-right}
 use Rattle.openflow_wire.specs.declared.message.Message.{Message}
 use Rattle.openflow_wire.specs.declared.message.Message.TheVariants as to
 use Rattle.session_core.specs.declared.session.Move.{Move}
@@ -18,8 +19,8 @@ use Rattle.barrier_tracker.specs.declared.tracker.Awaited.{Awaited}
 use Rattle.update_coordinator.specs.declared.cause.Cause.{Cause}
 use Rattle.update_coordinator.specs.Controls.{Control}
 use Rattle.update_coordinator.specs.Hearing.{IsMoved}
-use Rattle.update_laws.specs.Wired.{Wire, answered}
-use Rattle.update_laws.specs.Stages.{Stage, Meeting, Asking, Telling, Clearing, Cleared, Sending, Waiting, Answered, Resting, IsAt, IsFullError, IsLine, state_of}
+use Rattle.update_laws.specs.Wired.{Wire, answered, told_back}
+use Rattle.update_laws.specs.Stages.{Stage, Away, Meeting, Asking, Telling, Sending, Waiting, Answered, Resting, IsFullError, IsLine, Said, Voice, state_of}
 use Rattle.update_laws.specs.Updates.{Setting, Phase}
 use Rattle.update_laws.specs.Fleets.{End, Fleet, wire_of, TakesAt, HearsAt, IsFleet}
 use Rattle.update_laws.proofs.Fleets.{Here, end-here}
@@ -32,6 +33,8 @@ use Rattle.world_core.specs.Laws.{HasRoom}
 use Rattle.world_core.specs.Steps.{InFleet, Step}
 use Rattle.world_core.specs.Worlds.{WorldValue, setting, IsKept}
 use Rattle.world_core.proofs.Kept.{line-at, step-keeps}
+use Rattle.world_core.proofs.Presence.{ArePresent, present-step}
+use Rattle.world_core.proofs.Sessions.{untold}
 
 -- the message is an ERROR
 abbrev pub IsError : Message → Type 0
@@ -47,22 +50,28 @@ no-error x m ms e n i r = of (subst (λ (ys : List Message). IsIn ys m) e i)
     of (inl d) = n (subst IsError (sym d) r)
     of (inr d) = d
 
-in-errors : (b : Bool) (st : Stage) (errors : List Message) (l : Wire) → IsAt b st errors l → (m : Message) → IsIn l.back m → IsError m → IsIn errors m
-in-errors b (Meeting n left) errors l a m i r = absurd (no-error (to.Hello 1 a.xid) m l.back a.back (λ x. x) i r)
-in-errors b (Asking n left) errors l a m i r = absurd (subst (λ (ys : List Message). IsIn ys m) a.back i)
-in-errors b Telling errors l a m i r = absurd (no-error (to.FeaturesReply a.xid l.switch.sw 0 1 1 1787 []) m l.back a.back (λ x. x) i r)
-in-errors b (Clearing n left held) errors l a m i r = subst (λ (ys : List Message). IsIn ys m) a.at.back i
-in-errors b (Cleared x held) errors l a m i r = subst (λ (ys : List Message). IsIn ys m) a.at.back i
-in-errors b (Sending n left held) errors l a m i r = subst (λ (ys : List Message). IsIn ys m) a.back i
-in-errors b (Waiting x held) errors l a m i r = subst (λ (ys : List Message). IsIn ys m) a.back i
-in-errors b (Answered x) errors l a m i r = elim (in-either errors (to.BarrierReply x ∷ []) m (subst (λ (ys : List Message). IsIn ys m) a.back i)) [
-  | inl j ↦ j
-  | inr j ↦ absurd (no-error (to.BarrierReply x) m (to.BarrierReply x ∷ []) refl (λ y. y) j r)
+-- what a switch says beside ERRORs is none
+said-none : (st : Stage) (sw : ℕ) (said : List Message) → Said st sw said → (m : Message) → IsIn said m → IsError m → ⊥
+said-none Away sw said w m i r = subst (λ (ys : List Message). IsIn ys m) w i
+said-none (Meeting n left) sw said w m i r = no-error (to.Hello 1 w.0) m said w.1 (λ x. x) i r
+said-none (Asking n left) sw said w m i r = subst (λ (ys : List Message). IsIn ys m) w i
+said-none Telling sw said w m i r = no-error (to.FeaturesReply w.0 sw 0 1 1 1787 []) m said w.1 (λ x. x) i r
+said-none (Sending n left) sw said w m i r = subst (λ (ys : List Message). IsIn ys m) w i
+said-none (Waiting x) sw said w m i r = subst (λ (ys : List Message). IsIn ys m) w i
+said-none (Answered x) sw said w m i r = no-error (to.BarrierReply x) m said w (λ y. y) i r
+said-none Resting sw said w m i r = subst (λ (ys : List Message). IsIn ys m) w i
+
+in-errors : (st : Stage) (sw : ℕ) (held : List FlowMod) (errors back : List Message) → Voice st sw held errors back → (m : Message) → IsIn back m → IsError m → IsIn errors m
+in-errors st sw held errors back v m i r = elim (in-either v.before (v.said ++ v.behind) m (subst (λ (ys : List Message). IsIn ys m) v.is i)) [
+  | inl j ↦ subst (λ (ys : List Message). IsIn ys m) (sym v.parts) (in-left v.before v.behind m j)
+  | inr j ↦ elim (in-either v.said v.behind m j) [
+    | inl k ↦ absurd (said-none st sw v.said v.what m k r)
+    | inr k ↦ subst (λ (ys : List Message). IsIn ys m) (sym v.parts) (in-right v.before v.behind m k)
+  ]
 ]
-in-errors b Resting errors l a m i r = absurd (subst (λ (ys : List Message). IsIn ys m) a.back i)
 
 full-error : (c : Setting) (ph : Phase) (h : Bool) (l : Wire) → IsLine c ph h l → (m : Message) → IsIn l.back m → IsError m → IsFullError m
-full-error c ph h l i m j r = i.full m (in-errors _ i.stage i.errors l i.at m j r)
+full-error c ph h l i m j r = i.full m (in-errors i.stage l.switch.sw i.held i.errors l.back i.voice m j r)
 
 -- what a switch answers at once is no such ERROR
 abbrev form-of : Message → ℕ
@@ -114,13 +123,12 @@ no-fault state.Up d (to.BarrierReply xid) l n z = absurd (cc)
 no-fault state.Up d m l n z = anywhere-no m n z
 
 live-at : (st : Stage) → IsLive (state_of st)
+live-at Away = tt
 live-at (Meeting n left) = tt
 live-at (Asking n left) = tt
 live-at Telling = tt
-live-at (Clearing n left held) = tt
-live-at (Cleared x held) = tt
-live-at (Sending n left held) = tt
-live-at (Waiting x held) = tt
+live-at (Sending n left) = tt
+live-at (Waiting x) = tt
 live-at (Answered x) = tt
 live-at Resting = tt
 
@@ -161,7 +169,7 @@ hears-on c place f g h i mute = ap (λ (z : Fleet). z.control.halt) h.now ∙ mo
     there = end-here c f i place h.old h.here
 
     l : Wire
-    l = wire_of h.heard.site there.reply h.old
+    l = wire_of f.control h.heard.site there.reply h.old
 
     line : IsLine c i.phase false l
     line = subst (λ (b : Bool). IsLine c i.phase b l) (ap (λ (o : Option Cause). is_some o) h.heard.running) (i.lines place h.heard.site there.reply h.old h.heard.here there.reply_at h.here)
@@ -185,23 +193,26 @@ hears-on c place f g h i mute = ap (λ (z : Fleet). z.control.halt) h.now ∙ mo
 
 -- ---- events
 
--- the updates have not halted, and nothing on its way halts them
+-- the updates have not halted, no switch is away, and nothing on its way halts them
 pub record IsFree (w : WorldValue) : Type 0 where
   pub kept : IsKept w
   pub room : 130000 ≤ w.capacity
   pub running : w.fleet.control.halt ≡ None
+  pub present : ArePresent w.fleet.control.sites
   pub mute : AreMute w.fleet.ends
 
--- all events but the loss of a session, a stuck copy, and bytes that are not the front of a channel
+-- all events but the loss and the return of a session, a stuck copy, and bytes that are not the front of a channel
 abbrev pub IsDrivable : Event → Type 0
 IsDrivable (event.Lost s) = ⊥
+IsDrivable (event.Rejoin s) = ⊥
 IsDrivable (event.Stuck k) = ⊥
 IsDrivable (event.Foreign s side got) = ⊥
 IsDrivable _ = Unit {0}
 
-free-in : (Does : Fleet → Fleet → Type 0) (w v : WorldValue) (h : InFleet Does w v) → IsFree w → IsKept v → h.fleet.control.halt ≡ None → AreMute h.fleet.ends → IsFree v
-free-in Does w v h f k running mute = record {
+free-in : (Does : Fleet → Fleet → Type 0) (w v : WorldValue) (h : InFleet Does w v) → IsFree w → IsKept v → ArePresent v.fleet.control.sites → h.fleet.control.halt ≡ None → AreMute h.fleet.ends → IsFree v
+free-in Does w v h f k present running mute = record {
   kept = k;
+  present = present;
   room = subst (λ (n : ℕ). 130000 ≤ n) (sym (ap (λ (x : WorldValue). x.capacity) h.now)) f.room;
   running = ap (λ (x : WorldValue). x.fleet.control.halt) h.now ∙ running;
   mute = subst (λ (x : WorldValue). AreMute x.fleet.ends) (sym h.now) mute;
@@ -211,7 +222,7 @@ full-of : (v : WorldValue) → IsKept v → (place : ℕ) (e : End) → slice_ge
 unfolding IsKept
 full-of v k place e here m i r =
     let l = line-at v k place e here in
-    full-error (setting v) k.fleet.phase (is_some v.fleet.control.halt) (wire_of l.0 l.1 e) l.2 m i r
+    full-error (setting v) k.fleet.phase (is_some v.fleet.control.halt) (wire_of v.fleet.control l.0 l.1 e) l.2 m i r
 
 -- a switch has taken a message
 takes-mute : (w v : WorldValue) (s : ℕ) (h : InFleet (TakesAt s) w v) → IsFree w → IsKept v → AreMute h.fleet.ends
@@ -246,23 +257,23 @@ heard-on w p g h mute k = hears-on (setting w) p w.fleet g h k.fleet mute
 -- so an event that is drawn leaves them, where no flow mod meets a full table
 pub free-step : HasRoom → (w : WorldValue) (e : Event) (v : WorldValue) → IsDrivable e → Step w e v → IsFree w → IsFree v
 free-step room w event.Begin v d s f =
-    free-in _ w v s f (step-keeps w event.Begin v s f.kept) (ap (λ (x : Fleet). x.control.halt) s.step.now ∙ f.running) (subst (λ (x : Fleet). AreMute x.ends) (sym s.step.now) f.mute)
+    free-in _ w v s f (step-keeps w event.Begin v s f.kept) (present-step w event.Begin v s refl f.present) (ap (λ (x : Fleet). x.control.halt) s.step.now ∙ f.running) (subst (λ (x : Fleet). AreMute x.ends) (sym s.step.now) f.mute)
 free-step room w (event.Send p) v d s f =
     let t = s.step in
-    free-in _ w v s f (step-keeps w (event.Send p) v s f.kept) (ap (λ (x : Fleet). x.control.halt) t.now ∙ ap (λ (x : Control). x.halt) t.sent.now ∙ f.running)
+    free-in _ w v s f (step-keeps w (event.Send p) v s f.kept) (present-step w (event.Send p) v s refl f.present) (ap (λ (x : Fleet). x.control.halt) t.now ∙ ap (λ (x : Control). x.halt) t.sent.now ∙ f.running)
     (subst (λ (x : Fleet). AreMute x.ends) (sym t.now) (mute-put p w.fleet.ends t.old (record t.old { there = t.old.there ++ t.message ∷ [] }) t.here (f.mute p t.old t.here) f.mute))
 free-step room w (event.Take p) v d s f =
     let k = step-keeps w (event.Take p) v s f.kept in
-    free-in _ w v s f k (ap (λ (x : Fleet). x.control.halt) s.step.now ∙ f.running) (takes-mute w v p s f k)
+    free-in _ w v s f k (present-step w (event.Take p) v s refl f.present) (ap (λ (x : Fleet). x.control.halt) s.step.now ∙ f.running) (takes-mute w v p s f k)
 free-step room w (event.Apply p n) v d s f =
     let t = s.step in
-    let back : (record t.old { back = answered t.answer t.old.back; switch = t.switch }).back ≡ t.old.back = ap (λ (o : Option Message). answered o t.old.back) (room w p n v f.kept f.room s) in
-    free-in _ w v s f (step-keeps w (event.Apply p n) v s f.kept) (ap (λ (x : Fleet). x.control.halt) t.now ∙ f.running)
-    (subst (λ (x : Fleet). AreMute x.ends) (sym t.now) (mute-put p w.fleet.ends t.old (record t.old { back = answered t.answer t.old.back; switch = t.switch }) t.here
+    let back : told_back t.site.away t.answer t.old.back ≡ t.old.back = ap (λ (o : Option Message). told_back t.site.away o t.old.back) (room w p n v f.kept f.room s) ∙ untold t.site.away t.old.back in
+    free-in _ w v s f (step-keeps w (event.Apply p n) v s f.kept) (present-step w (event.Apply p n) v s refl f.present) (ap (λ (x : Fleet). x.control.halt) t.now ∙ f.running)
+    (subst (λ (x : Fleet). AreMute x.ends) (sym t.now) (mute-put p w.fleet.ends t.old (record t.old { back = told_back t.site.away t.answer t.old.back; switch = t.switch }) t.here
     (λ m i. f.mute p t.old t.here m (subst (λ (ms : List Message). IsIn ms m) back i)) f.mute))
 free-step room w (event.Reply p) v d s f =
     let t = s.step in
-    free-in _ w v s f (step-keeps w (event.Reply p) v s f.kept) (ap (λ (x : Fleet). x.control.halt) t.now ∙ f.running)
+    free-in _ w v s f (step-keeps w (event.Reply p) v s f.kept) (present-step w (event.Reply p) v s refl f.present) (ap (λ (x : Fleet). x.control.halt) t.now ∙ f.running)
     (subst (λ (x : Fleet). AreMute x.ends) (sym t.now) (mute-put p w.fleet.ends t.old (record t.old { back = t.old.back ++ t.answer ∷ []; switch = t.switch }) t.here
     (λ m i r. elim (in-either t.old.back (t.answer ∷ []) m i) [
       | inl j ↦ f.mute p t.old t.here m j r
@@ -270,23 +281,26 @@ free-step room w (event.Reply p) v d s f =
     ]) f.mute))
 free-step room w (event.Heard p) v d s f =
     let t = s.step in
-    free-in _ w v s f (step-keeps w (event.Heard p) v s f.kept) (heard-on w p s.fleet t f.mute f.kept)
+    free-in _ w v s f (step-keeps w (event.Heard p) v s f.kept) (present-step w (event.Heard p) v s refl f.present) (heard-on w p s.fleet t f.mute f.kept)
     (subst (λ (x : Fleet). AreMute x.ends) (sym t.now) (mute-put p w.fleet.ends t.old (record t.old { back = t.rest }) t.here
     (λ m i. f.mute p t.old t.here m (subst (λ (ms : List Message). IsIn ms m) (sym t.front) (inr i))) f.mute))
 free-step room w (event.Arrive pk tag) v d s f = record {
   kept = step-keeps w (event.Arrive pk tag) v s f.kept;
+  present = present-step w (event.Arrive pk tag) v s refl f.present;
   room = subst (λ (x : WorldValue). 130000 ≤ x.capacity) (sym s.now) f.room;
   running = ap (λ (x : WorldValue). x.fleet.control.halt) s.now ∙ f.running;
   mute = subst (λ (x : WorldValue). AreMute x.fleet.ends) (sym s.now) f.mute;
 }
 free-step room w (event.Hop n) v d s f = record {
   kept = step-keeps w (event.Hop n) v s f.kept;
+  present = present-step w (event.Hop n) v s refl f.present;
   room = subst (λ (x : WorldValue). 130000 ≤ x.capacity) (sym s.now) f.room;
   running = ap (λ (x : WorldValue). x.fleet.control.halt) s.now ∙ f.running;
   mute = subst (λ (x : WorldValue). AreMute x.fleet.ends) (sym s.now) f.mute;
 }
 free-step room w (event.Drained stamp) v d s f =
-    free-in _ w v s.step f (step-keeps w (event.Drained stamp) v s f.kept) (ap (λ (x : Fleet). x.control.halt) s.step.step.now ∙ f.running) (subst (λ (x : Fleet). AreMute x.ends) (sym s.step.step.now) f.mute)
+    free-in _ w v s.step f (step-keeps w (event.Drained stamp) v s f.kept) (present-step w (event.Drained stamp) v s refl f.present) (ap (λ (x : Fleet). x.control.halt) s.step.step.now ∙ f.running) (subst (λ (x : Fleet). AreMute x.ends) (sym s.step.step.now) f.mute)
 free-step room w (event.Lost p) v d s f = absurd d
+free-step room w (event.Rejoin p) v d s f = absurd d
 free-step room w (event.Stuck n) v d s f = absurd d
 free-step room w (event.Foreign p side got) v d s f = absurd d

@@ -1,8 +1,8 @@
 -- Runs by drawn events: each word draws one of the events that can happen.
 use Rattle.std.specs.Prelude.{◌≡◌, ◌⊎◌, ℕ, zero, suc, ◌+◌, ◌-◌, ◌%◌, List, [], ◌∷◌, ◌++◌, length, drop, slice_get, Option, Some, None, option_map}
 use Rattle.rand_pcg.specs.Lcg.{Lcg}
+use Rattle.nk_values.specs.declared.rows.Rows.{Rows}
 use Rattle.document_text.specs.declared.document.PacketLine.{PacketLine}
-use Rattle.policy_rows.specs.declared.version.Version.{Version}
 use Rattle.update_coordinator.specs.declared.phase.Phase.{Phase}
 use Rattle.update_coordinator.specs.declared.phase.Phase.TheVariants.{Drain}
 use Rattle.update_laws.specs.Fleets.{End}
@@ -39,8 +39,8 @@ arrival [] = []
 arrival (line ∷ lines) = event.Arrive line.packet line.tag ∷ []
 
 -- the stamp that is drained is that of the policy before
-abbrev pub draining : Phase → List Version → Option ℕ
-draining (Drain i) versions = option_map (λ v. v.rows.stamp) (slice_get versions (i - 2))
+abbrev pub draining : Phase → List Rows → Option ℕ
+draining (Drain i) versions = option_map (λ r. r.stamp) (slice_get versions (i - 2))
 draining _ versions = None
 
 abbrev pub report : Option ℕ → List Event
@@ -49,7 +49,7 @@ report (Some stamp) = event.Drained stamp ∷ []
 
 -- an arrival, the beginning of an update, and the report that a stamp is drained
 abbrev pub tried_last : List PacketLine → WorldValue → List Event
-tried_last lines w = arrival lines ++ event.Begin ∷ report (draining w.fleet.control.phase w.versions)
+tried_last lines w = arrival lines ++ event.Begin ∷ report (draining w.fleet.control.phase w.fleet.control.versions)
 
 -- all of them: the switches in their order, the copies in theirs, and these
 abbrev pub tried : List PacketLine → WorldValue → List Event

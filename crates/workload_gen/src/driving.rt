@@ -1,4 +1,4 @@
-// Workloads driven to their end.
+//! Workloads driven to their end.
 ghost use Rattle.std.specs.Prelude.{IfOk};
 ghost use Rattle.workload_gen.specs.Laws.{IsRunOf};
 
@@ -8,7 +8,7 @@ use crate::drawing::draw;
 use crate::laws::runs_end;
 use document_text::Document;
 use std::alloc::{AllocError, Global};
-use world_core::{Event, World};
+use world_core::{Event, Settings, World};
 
 /// A workload that was driven to its end: how many packets it has, the world then, and the events that led to it.
 #[derive(Drop)]
@@ -34,7 +34,12 @@ pub fn drive(alloc: Global, number: u64) -> Result<Driven, AllocError>
     } = document;
     let _switches = topology.switches();
     let hops = u64::from(settings.hops);
-    let mut world = World::start(alloc, versions, topology, hops, settings.capacity as usize)?;
+    let settings = Settings {
+        hops,
+        capacity: settings.capacity as usize,
+        rejoins: 0,
+    };
+    let mut world = World::start(alloc, versions, topology, settings)?;
     let events = draw(alloc, &mut world, &packets, &mut rng)?;
     Ok(Driven {
         packets: packets.len(),

@@ -129,7 +129,7 @@ impl Sweep {
     // Passes the report that the stamp in drain is carried no more.
     fn drain(&mut self, world: &World)
         ensures number { self.new.number ≡ self.old.number }
-        ensures passed { Passes world.now (report (draining world.now.fleet.control.phase world.now.versions)) self.old self.new }
+        ensures passed { Passes world.now (report (draining world.now.fleet.control.phase world.now.fleet.control.versions)) self.old self.new }
     {
         if let Some(stamp) = draining(world) {
             self.event(world, Event::Drained(stamp));
@@ -193,12 +193,15 @@ impl Sweep {
 
 // The stamp that is to be drained, if one is.
 fn draining(world: &World) -> Option<u16>
-    ensures { result ≡ draining world.now.fleet.control.phase world.now.versions }
+    ensures { result ≡ draining world.now.fleet.control.phase world.now.fleet.control.versions }
 {
     match world.coordinator().phase() {
         Phase::Drain(policy) => {
-            let version = world.versions().get(policy.saturating_sub(2))?;
-            Some(version.rows.stamp)
+            let rows = world
+                .coordinator()
+                .versions()
+                .get(policy.saturating_sub(2))?;
+            Some(rows.stamp)
         }
         _ => None,
     }

@@ -11,7 +11,8 @@ use Rattle.fdd_nodes.specs.Paths.{cell_on}
 use Rattle.table_emitter.specs.declared.kinds.Kinds.{Kinds}
 use Rattle.table_emitter.specs.Entries.{Entry, entry_of, entries}
 use Rattle.table_emitter.specs.Kinds.{kinds_of}
-use Rattle.table_emitter.specs.Parts.{part_with, part_at}
+use Rattle.fdd_nodes.specs.Roots.{part_with}
+use Rattle.table_emitter.specs.Parts.{part_at}
 use Rattle.table_emitter.specs.Patterns.{cells_of}
 use Rattle.workload_laws.specs.Leaves.{AtLeaves}
 use Rattle.nk_values.specs.declared.field.Field.{Field}

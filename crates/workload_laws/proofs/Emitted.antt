@@ -18,7 +18,7 @@ use Rattle.fdd_nodes.specs.Paths.{Way, no_tests}
 use Rattle.fdd_nodes.specs.Trees.{Tree, Tests, IsSetBy}
 use Rattle.fdd_nodes.proofs.MakesLaws.{among_lists}
 use Rattle.fdd_nodes.proofs.SplitLaws.{ordered_weaken}
-use Rattle.fdd_compile.specs.Results.{DiagramOf}
+use Rattle.fdd_compile.specs.Results.{SplitDiagramOf}
 use Rattle.topology_model.specs.declared.line.Site.{Site}
 use Rattle.topology_model.specs.Layouts.{Layout}
 use Rattle.topology_model.specs.Wired.{IsTopology}
@@ -49,16 +49,20 @@ Exits o cs = (m : Lit) → IsSetBy cs m → IsAmong Pt o (lit_field m) (lit_valu
 
 -- rows are few
 
-goal_at : (s o : ℕ) (p : Term) (d : Tree) (sw n : ℕ) → Forwards s o p → DiagramOf p d → (m : Lit) → Tests (part_at sw n d) m → IsAmong EthDst s (lit_field m) (lit_value m)
-goal_at s o p d sw n f g m k = elim (f.tests (lit_field m) (lit_value m) (g.tests m (place_tests sw n d m k))) [
-  | inl e ↦
-      let z : place (lit_field m) ≡ 0 = ap place e.field in
-      let low = tests_from (step * 2) (part_at sw n d) m (part_from sw n d g.normal.ordered) k in
-      absurd (omega (arith, z, low, lit_small m))
-  | inr h ↦ h
-]
+goal_at : (s o : ℕ) (p : Term) (d : Tree) (sw n : ℕ) → Forwards s o p → SplitDiagramOf p d → (m : Lit) → Tests (part_at sw n d) m → IsAmong EthDst s (lit_field m) (lit_value m)
+goal_at s o p d sw n f g m k =
+    let low = tests_from (step * 2) (part_at sw n d) m (part_from sw n d g.split.ordered) k in
+    elim (g.tests m (place_tests sw n d m k)) [
+      | inl t ↦ elim (f.tests (lit_field m) (lit_value m) t) [
+        | inl e ↦ let z : place (lit_field m) ≡ 0 = ap place e.field in absurd (omega (arith, z, low, lit_small m))
+        | inr h ↦ h
+      ]
+      | inr a ↦
+          let z : place (lit_field m) ≡ 1 = ap place (f.assigns (lit_field m) (lit_value m) a).field in
+          absurd (omega (arith, z, low, lit_small m))
+    ]
 
-few_at : (s o : ℕ) (p : Term) (d : Tree) (site : Site) (n : ℕ) → Forwards s o p → DiagramOf p d → length (entries_at d site n) ≤ 2 * (s + 1)
+few_at : (s o : ℕ) (p : Term) (d : Tree) (site : Site) (n : ℕ) → Forwards s o p → SplitDiagramOf p d → length (entries_at d site n) ≤ 2 * (s + 1)
 few_at s o p d site n f g =
     let part = part_at site.sw n d in
     let one : TestsOne EthDst s part = record {
@@ -66,11 +70,11 @@ few_at s o p d site n f g =
       low = λ m k. (goal_at s o p d site.sw n f g m k).low;
       high = λ m k. (goal_at s o p d site.sw n f g m k).high;
     } in
-    let paths = few_paths EthDst s part (ordered_weaken part 0 (step * 2) (omega arith) (part_from site.sw n d g.normal.ordered)) one in
+    let paths = few_paths EthDst s part (ordered_weaken part 0 (step * 2) (omega arith) (part_from site.sw n d g.split.ordered)) one in
     let rows = few_entries no_tests part in
     omega (arith, paths, rows)
 
-few_on : (s o : ℕ) (p : Term) (d : Tree) (site : Site) (ns : List ℕ) → s ≤ 120 → Forwards s o p → DiagramOf p d → row_count d site ns ≤ 242 * length ns
+few_on : (s o : ℕ) (p : Term) (d : Tree) (site : Site) (ns : List ℕ) → s ≤ 120 → Forwards s o p → SplitDiagramOf p d → row_count d site ns ≤ 242 * length ns
 few_on s o p d site [] b f g = omega arith
 few_on s o p d site (n ∷ ns) b f g = let one = few_at s o p d site n f g in let rest = few_on s o p d site ns b f g in omega (arith, b, one, rest)
 
@@ -112,7 +116,7 @@ no_first o v d site n f bo few r x h =
     (entry_leaf AreCopies no_tests part h.entry (place_leaves AreCopies site.sw n d r) among)
     (entry_leaf (Exits o) no_tests part h.entry (place_leaves (Exits o) site.sw n d x) among) h.here
 
-no_fault : (s o : ℕ) (p : Term) (d : Tree) (t : Layout) (stamp : ℕ) (f : EmitFault) → s ≤ 120 → o ≤ 3000 → Forwards s o p → DiagramOf p d → AreRising d → IsTopology t → ¬ IsEmitFault d t stamp f
+no_fault : (s o : ℕ) (p : Term) (d : Tree) (t : Layout) (stamp : ℕ) (f : EmitFault) → s ≤ 120 → o ≤ 3000 → Forwards s o p → SplitDiagramOf p d → AreRising d → IsTopology t → ¬ IsEmitFault d t stamp f
 no_fault s o p d t stamp f bs bo fw g r top h = elim h.here [
   | inl k ↦
       let few = few_at s o p d h.site k.port fw g in

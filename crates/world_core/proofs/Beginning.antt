@@ -2,6 +2,7 @@
 use Rattle.std.proofs.Common.{◌≡◌, ◌≢◌, ℕ, suc, ◌≤◌, inl, List, [], ◌∷◌, length, map, refl, sym, ◌∙◌, ap, subst, Some, slice_get, arith}
 use Rattle.std.specs.List.{AllByRecursion}
 use Rattle.std.proofs.lemmas.List.{length-map}
+use Rattle.nk_syntax.specs.declared.pol.Pol.{Pol}
 use Rattle.nk_values.specs.declared.rows.Rows.{Rows}
 use Rattle.nk_values.specs.Members.{IsIn}
 use Rattle.history_meaning.specs.Network.{Place}
@@ -17,16 +18,15 @@ use Rattle.update_laws.specs.Settings.{AreVersions, setting_of}
 use Rattle.update_laws.specs.Fleets.{End, IsMade, IsNewEnd}
 use Rattle.update_laws.proofs.Beginnings.{made-start}
 use Rattle.update_laws.proofs.Landing.{start-traffic}
+use Rattle.update_laws.proofs.Parting.{start-apart}
 use Rattle.update_laws.proofs.Places.{get-map}
 use Rattle.update_laws.proofs.Starting.{start-fleet}
 use Rattle.update_laws.proofs.Wiring.{some-is}
 use Rattle.world_core.specs.Ends.{new_end}
-use Rattle.world_core.specs.Worlds.{numbers_of, start, IsKept}
+use Rattle.world_core.specs.declared.settings.Settings.{Settings}
+use Rattle.world_core.specs.Worlds.{numbers_of, pols_of, rows_of, paired, start, IsKept}
+use Rattle.world_core.proofs.Paired.{paired-parts}
 use Rattle.world_core.proofs.Tables.{new-distinct}
-
-map-twice : {X Y Z : Type 0} (f : Y → Z) (g : X → Y) (xs : List X) → map f (map g xs) ≡ map (λ x. f (g x)) xs
-map-twice f g [] = refl
-map-twice {X} {Y} {Z} f g (x ∷ xs) = ap (λ (zs : List Z). f (g x) ∷ zs) (map-twice f g xs)
 
 numbers-kept : (capacity : ℕ) (ns : List ℕ) → map (λ (e : End). e.switch.sw) (map (new_end capacity) ns) ≡ ns
 numbers-kept capacity [] = refl
@@ -57,32 +57,33 @@ pub all-rows : (P : Rows → Type 0) (vs : List Version) → ((k : ℕ) (v : Ver
 all-rows P [] h = tt
 all-rows P (v ∷ vs) h = (h 0 v refl, all-rows P vs (λ k w e. h (suc k) w e))
 
-pub start-kept : (t : Layout) (vs : List Version) (limit capacity : ℕ) → IsTopology t → AreVersions t vs → 1 ≤ limit → IsKept (start t vs limit capacity)
+pub start-kept : (t : Layout) (vs : List Version) (settings : Settings) → IsTopology t → AreVersions t vs → 1 ≤ settings.hops → IsKept (start t vs settings)
 unfolding IsKept
-start-kept t vs limit capacity k v l = record {
+start-kept t vs settings k v l = record {
   topology = k;
   versions = v;
   limit = l;
-  places = numbers-kept capacity (numbers_of t.switches);
-  stamps = map-twice (λ (r : Rows). r.stamp) (λ (w : Version). w.rows) vs;
-  distinct = new-distinct capacity (numbers_of t.switches);
-  fleet = start-fleet (setting_of t vs limit capacity) (start t vs limit capacity).fleet (made-start t vs limit capacity (numbers_of t.switches) (start t vs limit capacity).fleet k v made);
-  traffic = start-traffic t (setting_of t vs limit capacity);
+  places = numbers-kept settings.capacity (numbers_of t.switches);
+  rows = refl;
+  distinct = new-distinct settings.capacity (numbers_of t.switches);
+  fleet = start-fleet (setting_of t vs settings.hops settings.capacity) (start t vs settings).fleet (made-start t vs settings.hops settings.capacity settings.rejoins (numbers_of t.switches) (start t vs settings).fleet k v made);
+  traffic = start-traffic t (setting_of t vs settings.hops settings.capacity);
+  apart = start-apart;
 }
   where
-    made : IsMade capacity vs (numbers_of t.switches) (start t vs limit capacity).fleet
-    made = record { control = refl; count = length-map (numbers_of t.switches) (new_end capacity); some = some-switch t k; ends = λ n sw e. new-end capacity (numbers_of t.switches) n sw e }
+    made : IsMade settings.capacity settings.rejoins vs (numbers_of t.switches) (start t vs settings).fleet
+    made = record { control = refl; count = length-map (numbers_of t.switches) (new_end settings.capacity); some = some-switch t k; ends = λ n sw e. new-end settings.capacity (numbers_of t.switches) n sw e }
 
 -- the world that is made of its parts
-pub made-of : (t : Layout) (vs : List Version) (limit capacity : ℕ) (d : Control) (es : List End) (rows : List Rows) (ns ms : List ℕ) (fs : List Flight) (as' : List Arrived) → d ≡ starts.start rows ns → rows ≡ map (λ (v : Version). v.rows) vs → ns ≡ numbers_of t.switches →
-    es ≡ map (new_end capacity) ms → ms ≡ numbers_of t.switches → fs ≡ [] → as' ≡ [] →
-    record { topology = t; versions = vs; limit = limit; capacity = capacity; fleet = record { control = d; ends = es }; flights = fs; arrivals = as' } ≡ start t vs limit capacity
-made-of t vs limit capacity d es rows ns ms fs as' a b c e f g h = λ i. record {
+pub made-of : (t : Layout) (vs : List Version) (settings : Settings) (ps : List Pol) (d : Control) (es : List End) (rows : List Rows) (ns ms : List ℕ) (fs : List Flight) (as' : List Arrived) →
+    ps ≡ pols_of vs → d ≡ starts.start rows ns settings.rejoins → rows ≡ rows_of vs → ns ≡ numbers_of t.switches → es ≡ map (new_end settings.capacity) ms → ms ≡ numbers_of t.switches → fs ≡ [] → as' ≡ [] →
+    record { topology = t; versions = paired ps d.versions; limit = settings.hops; capacity = settings.capacity; fleet = record { control = d; ends = es }; flights = fs; arrivals = as' } ≡ start t vs settings
+made-of t vs settings ps d es rows ns ms fs as' p a b c e f g h = λ i. record {
   topology = t;
-  versions = vs;
-  limit = limit;
-  capacity = capacity;
-  fleet = record { control = (a ∙ (λ j. starts.start (b j) (c j))) i; ends = (e ∙ ap (map (new_end capacity)) f) i };
+  versions = ((λ j. paired (p j) (ap (λ (x : Control). x.versions) a j)) ∙ ap (paired (pols_of vs)) b ∙ paired-parts vs) i;
+  limit = settings.hops;
+  capacity = settings.capacity;
+  fleet = record { control = (a ∙ (λ j. starts.start (b j) (c j) settings.rejoins)) i; ends = (e ∙ ap (map (new_end settings.capacity)) f) i };
   flights = g i;
   arrivals = h i;
 }

@@ -1,7 +1,8 @@
 -- Each event keeps what every world keeps.
-use Rattle.std.proofs.Common.{◌≡◌, ◌≢◌, ℕ, zero, suc, ◌-◌, ◌≤◌, inl, inr, List, [], ◌∷◌, ◌++◌, refl, sym, ◌∙◌, ap, subst, Option, Some, slice_get, slice_set, is_some, arith}
+use Rattle.std.proofs.Common.{◌≡◌, ◌≢◌, ℕ, zero, suc, ◌-◌, ◌≤◌, inl, inr, List, [], ◌∷◌, ◌++◌, refl, sym, ◌∙◌, ap, subst, Option, None, Some, option_map, slice_get, slice_set, is_some, arith}
 use Rattle.std.specs.List.{remove}
 use Rattle.nk_values.specs.declared.packet.Packet.{Packet}
+use Rattle.nk_values.specs.declared.rows.Rows.{Rows}
 use Rattle.nk_values.specs.Members.{IsIn}
 use Rattle.nk_values.specs.Tags.{IsTag}
 use Rattle.policy_rows.specs.declared.version.Version.{Version}
@@ -14,23 +15,26 @@ use Rattle.update_coordinator.specs.Controls.{Control, Site, halted}
 use Rattle.update_coordinator.specs.Phases as coordinator
 use Rattle.update_laws.specs.Updates.{IsSetting, Phase, Drain, Clean, entry}
 use Rattle.update_laws.specs.Settings.{stamp_in}
-use Rattle.update_laws.specs.Fleets.{End, Fleet, FleetEvent, Begin, Send, Take, Apply, Answer, Hear, Drained, Halt, FleetStep, SendsAt, TakesAt, AppliesAt, RepliesAt, HearsAt, Begins, Drains, phase_from, wire_of}
+use Rattle.update_laws.specs.Fleets.{End, Fleet, FleetEvent, Begin, Send, Take, Apply, Answer, Hear, Drained, Lose, Return, Halt, FleetStep, LosesAt, ReturnsAt, SendsAt, TakesAt, AppliesAt, RepliesAt, HearsAt, Begins, Drains, phase_from, wire_of}
 use Rattle.update_laws.specs.Stages.{IsLine}
-use Rattle.update_laws.specs.Traffic.{IsTraffic}
+use Rattle.update_laws.specs.Traffic.{IsTraffic, AreApart}
 use Rattle.update_laws.proofs.Entering.{entry-of}
 use Rattle.update_laws.proofs.Fleets.{end-here}
 use Rattle.update_laws.proofs.Landing.{acknowledged-traffic, begun-traffic, drained-traffic, drained-first}
 use Rattle.update_laws.proofs.Made.{made}
-use Rattle.update_laws.proofs.Moving.{fleet-phase, heard-phase, begins-at, drains-at, step-stamps}
+use Rattle.update_laws.proofs.Moving.{fleet-phase, heard-phase, begins-at, drains-at, step-versions}
 use Rattle.update_laws.proofs.Numbers.{step-numbers}
+use Rattle.update_laws.proofs.Parting.{hop-apart, arrive-apart}
 use Rattle.update_laws.proofs.Places.{get-map}
 use Rattle.update_laws.proofs.Starting.{step-fleet}
 use Rattle.update_laws.proofs.Traffic.{hop-traffic, arrive-traffic}
+use Rattle.update_laws.proofs.Wiring.{some-is}
 use Rattle.world_core.specs.declared.event.Event.{Event}
 use Rattle.world_core.specs.declared.event.Event.TheVariants as event
 use Rattle.world_core.specs.Worlds.{WorldValue, setting, Keeps, IsKept}
+use Rattle.world_core.proofs.Sessions.{stopped, loss-phase}
 use Rattle.world_core.proofs.Tables.{step-distinct}
-use Rattle.world_core.specs.Steps.{foreign_cause, InFleet, Arrives, Hops, standing_still, Step, Runs}
+use Rattle.world_core.specs.Steps.{foreign_cause, InFleet, Arrives, Hops, Loses, standing_still, Step, Runs}
 
 -- what holds of the traffic in a phase
 abbrev In_phase : WorldValue → Phase → Type 0
@@ -44,10 +48,11 @@ fleet-keeps w e g k s traffic = record {
   versions = k.versions;
   limit = k.limit;
   places = step-numbers w.fleet e g s ∙ k.places;
-  stamps = step-stamps w.fleet e g s ∙ k.stamps;
+  rows = step-versions w.fleet e g s ∙ k.rows;
   distinct = step-distinct w.fleet e g s k.distinct;
   fleet = step-fleet (setting w) (made w.topology w.versions w.limit w.capacity k.topology k.versions) w.fleet e g s k.fleet;
   traffic = traffic k;
+  apart = k.apart;
 }
 
 -- the phase stays
@@ -73,10 +78,18 @@ begun-keeps w g h k =
     (begun-traffic w.topology (setting w) b.policy w.flights w.arrivals (subst (λ (ph : Phase). In_phase w ph) b.here k.traffic))
 
 -- the stamp of the policy behind k others
-stamp-of : (w : WorldValue) → Keeps w → (k stamp : ℕ) → slice_get w.fleet.control.stamps k ≡ Some stamp → (setting w).stamp (suc k) ≡ stamp
+abbrev Has_stamp : WorldValue → ℕ → ℕ → Type 0
+Has_stamp w k stamp = option_map (λ (r : Rows). r.stamp) (slice_get w.fleet.control.versions k) ≡ Some stamp
+
+stamp-of : (w : WorldValue) → Keeps w → (k stamp : ℕ) → Has_stamp w k stamp → (setting w).stamp (suc k) ≡ stamp
 stamp-of w q k stamp e =
-    let v = get-map (λ (v : Version). v.rows.stamp) k w.versions stamp (ap (λ (xs : List ℕ). slice_get xs k) (sym q.stamps) ∙ e) in
-    ap (λ (o : Option Version). stamp_in (suc k) o) v.1 ∙ v.2
+    let r = get-mapped-some (λ (r : Rows). r.stamp) (slice_get w.fleet.control.versions k) stamp e in
+    let v = get-map (λ (v : Version). v.rows) k w.versions r.0 (ap (λ (rs : List Rows). slice_get rs k) (sym q.rows) ∙ r.1) in
+    ap (λ (o : Option Version). stamp_in (suc k) o) v.1 ∙ ap (λ (x : Rows). x.stamp) v.2 ∙ r.2
+  where
+    get-mapped-some : (f : Rows → ℕ) (o : Option Rows) (n : ℕ) → option_map f o ≡ Some n → (r : Rows) × (o ≡ Some r) × (f r ≡ n)
+    get-mapped-some f None n h = absurd (cc)
+    get-mapped-some f (Some r) n h = (r, refl, some-is (f r) n h)
 
 drained-keeps : (stamp : ℕ) (w : WorldValue) (g : Fleet) → Drains stamp w.fleet g → ((f : Flight) → IsIn w.flights f → f.tag ≢ Some stamp) → Keeps w → In_phase w (phase_from g.control.phase)
 drained-keeps stamp w g h none k =
@@ -84,7 +97,7 @@ drained-keeps stamp w g h none k =
     subst (λ (ph : Phase). In_phase w ph) (sym (ap (λ (x : Fleet). phase_from x.control.phase) h.now ∙ d.next))
     (by_policy d.policy d.stamp_at (subst (λ (ph : Phase). In_phase w ph) d.here k.traffic))
   where
-    by_policy : (i : ℕ) → slice_get w.fleet.control.stamps (i - 2) ≡ Some stamp → In_phase w (Drain (i - 1)) → In_phase w (Clean (i - 1))
+    by_policy : (i : ℕ) → Has_stamp w (i - 2) stamp → In_phase w (Drain (i - 1)) → In_phase w (Clean (i - 1))
     by_policy zero e t = drained-first w.topology (setting w) w.flights w.arrivals t
     by_policy (suc zero) e t = drained-first w.topology (setting w) w.flights w.arrivals t
     by_policy (suc (suc m)) e t =
@@ -92,7 +105,7 @@ drained-keeps stamp w g h none k =
         let two : suc (suc m) - 2 ≡ m = omega arith in
         subst (λ (n : ℕ). In_phase w (Clean n)) (sym one)
         (drained-traffic w.topology (setting w) (suc m) w.flights w.arrivals
-        (λ f x d. none f x (d ∙ ap (λ (n : ℕ). Some n) (stamp-of w k m stamp (ap (λ (n : ℕ). slice_get w.fleet.control.stamps n) (sym two) ∙ e))))
+        (λ f x d. none f x (d ∙ ap (λ (n : ℕ). Some n) (stamp-of w k m stamp (subst (λ (n : ℕ). Has_stamp w n stamp) two e))))
         (subst (λ (n : ℕ). In_phase w (Drain n)) one t))
 
 -- a halt keeps the phase
@@ -100,7 +113,7 @@ halt-keeps : (why : Cause) (w : WorldValue) → IsKept w → IsKept (standing_st
 halt-keeps why w k = fleet-keeps w Halt (record w.fleet { control = halted why w.fleet.control }) k (record { cause = why; now = refl }) (same-phase w (record w.fleet { control = halted why w.fleet.control }) refl)
 
 -- the line of a switch
-pub line-at : (w : WorldValue) (k : Keeps w) (place : ℕ) (e : End) → slice_get w.fleet.ends place ≡ Some e → (s : Site) × (r : Awaited) × IsLine (setting w) k.fleet.phase (is_some w.fleet.control.halt) (wire_of s r e)
+pub line-at : (w : WorldValue) (k : Keeps w) (place : ℕ) (e : End) → slice_get w.fleet.ends place ≡ Some e → (s : Site) × (r : Awaited) × IsLine (setting w) k.fleet.phase (is_some w.fleet.control.halt) (wire_of w.fleet.control s r e)
 line-at w k place e here =
     let h = end-here (setting w) w.fleet k.fleet place e here in
     (h.site, h.reply, k.fleet.lines place h.site h.reply e h.site_at h.reply_at here)
@@ -119,11 +132,16 @@ arrive-keeps pk tag w v h k = subst (λ (x : WorldValue). IsKept x) (sym h.now) 
   versions = k.versions;
   limit = k.limit;
   places = k.places;
-  stamps = k.stamps;
+  rows = k.rows;
   distinct = k.distinct;
   fleet = k.fleet;
   traffic = subst (λ (ph : Phase). After ph (coordinator.entry w.fleet.control.phase)) (sym (fleet-phase (setting w) w.fleet k.fleet))
       (subst (λ (n : Entry). After k.fleet.phase n) (sym (ap coordinator.entry k.fleet.is ∙ entry-of k.fleet.phase)) there);
+  apart = subst (λ (n : Entry). AreApart (w.flights ++ h.next) (w.arrivals ++ record { packet = pk; tag = tag; entry = n; finished = h.finished } ∷ []))
+      (sym (ap coordinator.entry k.fleet.is ∙ entry-of k.fleet.phase))
+      (let l = line-at w k h.place h.end_ h.here in
+      arrive-apart w.topology (setting w) refl (set w k) k.fleet.phase k.fleet.within h.end_.switch.sw _ h.end_.switch.table.rows l.2.table.changing pk tag h.finished h.next w.flights w.arrivals
+      (small tag h.tagged) h.shaped h.edge h.stands h.handled k.traffic.known k.apart);
 })
   where
     After : Phase → Entry → Type 0
@@ -142,7 +160,7 @@ hop-keeps n w v h k = subst (λ (x : WorldValue). IsKept x) (sym h.now) (record 
   versions = k.versions;
   limit = k.limit;
   places = k.places;
-  stamps = k.stamps;
+  rows = k.rows;
   distinct = k.distinct;
   fleet = k.fleet;
   traffic =
@@ -151,12 +169,24 @@ hop-keeps n w v h k = subst (λ (x : WorldValue). IsKept x) (sym h.now) (record 
       (sym (fleet-phase (setting w) w.fleet k.fleet))
       (hop-traffic w.topology (setting w) refl k.topology.sound (set w k) k.fleet.phase k.fleet.within h.end_.switch.sw _ h.end_.switch.table.rows l.2.table.changing n h.may.flight h.arrival h.finished h.next w.flights w.arrivals
       h.may.there h.may.limit h.stands h.handled h.of (in-its-phase w k));
+  apart =
+      let l = line-at w k h.place h.end_ h.here in
+      hop-apart w.topology (setting w) refl (set w k) k.fleet.phase k.fleet.within h.end_.switch.sw _ h.end_.switch.table.rows l.2.table.changing n h.may.flight h.arrival h.finished h.next w.flights w.arrivals
+      h.may.there h.stands h.handled h.of (in-its-phase w k) k.apart;
 })
 
 -- ---- any event
 
 in-fleet : (Does : Fleet → Fleet → Type 0) (e : FleetEvent) (w v : WorldValue) (h : InFleet Does w v) → IsKept w → FleetStep w.fleet e h.fleet → (Keeps w → In_phase w (phase_from h.fleet.control.phase)) → IsKept v
 in-fleet Does e w v h k s t = subst (λ (x : WorldValue). IsKept x) (sym h.now) (fleet-keeps w e h.fleet k s t)
+
+-- the session with a switch is lost, for a time or at last
+lost-keeps : (s : ℕ) (w v : WorldValue) → InFleet (Loses s) w v → IsKept w → IsKept v
+lost-keeps s w v h k = elim h.step [
+  | inl t ↦ in-fleet (LosesAt s) (Lose s) w v (record { fleet = h.fleet; step = t; now = h.now }) k t
+      (same-phase w h.fleet (ap (λ (x : Fleet). x.control.phase) t.now ∙ loss-phase s w.fleet.control t.control t.lost))
+  | inr t ↦ subst (λ (x : WorldValue). IsKept x) (sym (h.now ∙ ap (λ (f : Fleet). record w { fleet = f }) (stopped s w.fleet h.fleet t))) (halt-keeps (cause.Lost t.lost.site.sw) w k)
+]
 
 pub step-keeps : (w : WorldValue) (e : Event) (v : WorldValue) → Step w e v → IsKept w → IsKept v
 step-keeps w event.Begin v h k = in-fleet Begins Begin w v h k h.step (begun-keeps w h.fleet h.step)
@@ -168,8 +198,8 @@ step-keeps w (event.Heard s) v h k = in-fleet (HearsAt s) (Hear s) w v h k h.ste
 step-keeps w (event.Arrive pk tag) v h k = arrive-keeps pk tag w v h k
 step-keeps w (event.Hop n) v h k = hop-keeps n w v h k
 step-keeps w (event.Drained stamp) v h k = in-fleet (Drains stamp) (Drained stamp) w v h.step k h.step.step (drained-keeps stamp w h.step.fleet h.step.step h.none)
-step-keeps w (event.Lost s) v h k =
-    subst (λ (x : WorldValue). IsKept x) (sym (h.now ∙ ap (λ (d : Control). record w { fleet = record w.fleet { control = d } }) h.lost.now)) (halt-keeps (cause.Lost h.lost.site.sw) w k)
+step-keeps w (event.Lost s) v h k = lost-keeps s w v h k
+step-keeps w (event.Rejoin s) v h k = in-fleet (ReturnsAt s 0) (Return s 0) w v h k h.step (same-phase w h.fleet (ap (λ (x : Fleet). x.control.phase) h.step.now ∙ ap (λ (x : Control). x.phase) h.step.back.now))
 step-keeps w (event.Stuck n) v h k = subst (λ (x : WorldValue). IsKept x) (sym h.now) (halt-keeps (cause.Undrained h.stuck.flight.history) w k)
 step-keeps w (event.Foreign s side got) v h k = subst (λ (x : WorldValue). IsKept x) (sym h.now) (halt-keeps (foreign_cause side got h.end_) w k)
 

@@ -1,5 +1,6 @@
 -- What holds of every run of the world.
-use Rattle.std.specs.Prelude.{◌≡◌, ◌≢◌, ◌⊎◌, ◌≤◌, ℕ, ◌-◌, List, length, slice_get, Some, None}
+use Rattle.std.specs.Prelude.{◌≡◌, ◌≢◌, ◌⊎◌, ◌≤◌, ℕ, suc, ◌+◌, ◌-◌, Bool, true, false, List, [], ◌∷◌, length, slice_get, option_map, Some, None}
+use Rattle.nk_values.specs.declared.rows.Rows.{Rows}
 use Rattle.nk_values.specs.Members.{IsIn}
 use Rattle.nk_values.specs.Patterns.{Incoming}
 use Rattle.packet_tracer.specs.declared.flight.Flight.{Flight}
@@ -13,7 +14,7 @@ use Rattle.world_core.specs.Worlds.{WorldValue, setting, IsKept}
 use Rattle.world_core.specs.Settling.{Follows}
 use Rattle.world_core.specs.Steps.{InFleet, IsEnabled, Step, Runs}
 
--- Of each packet that came in: its finished histories and the futures of its copies are exactly its complete histories under one policy, the one that was current when it came in or the one that was coming in.
+-- Of each packet that came in: its finished histories and the futures of its copies are, each exactly once, its complete histories under one policy, the one that was current when it came in or the one that was coming in.
 abbrev pub AreGood : WorldValue → Type 0
 AreGood w = (n : ℕ) (a : Arrived) → slice_get w.arrivals n ≡ Some a → IsGood w.topology (setting w) w.flights n a
 
@@ -21,7 +22,7 @@ AreGood w = (n : ℕ) (a : Arrived) → slice_get w.arrivals n ≡ Some a → Is
 abbrev pub EveryRunIsGood : WorldValue → Type 0
 EveryRunIsGood w = (events : List Event) (v : WorldValue) → Runs w events v → AreGood v
 
--- Once no copy of it is in flight, its finished histories are exactly its complete ones under that policy.
+-- Once no copy of it is in flight, its finished histories are, each exactly once, its complete ones under that policy.
 abbrev pub PacketsLand : Type 0
 PacketsLand = (w : WorldValue) (n : ℕ) (a : Arrived) → IsKept w → slice_get w.arrivals n ≡ Some a → ((f : Flight) → IsIn w.flights f → f.arrival ≢ n) → IsLanded w.topology (setting w) a
 
@@ -29,7 +30,28 @@ PacketsLand = (w : WorldValue) (n : ℕ) (a : Arrived) → IsKept w → slice_ge
 abbrev pub HaltsStay : Type 0
 HaltsStay = (w : WorldValue) (e : Event) (v : WorldValue) → w.fleet.control.halt ≢ None → Step w e v → v.fleet.control ≡ w.fleet.control
 
--- nothing can happen but arrivals, and what would halt the coordinator
+-- how many of these events are losses of sessions
+abbrev pub is_loss : Event → Bool
+is_loss (event.Lost s) = true
+is_loss _ = false
+
+abbrev pub counted : Bool → ℕ → ℕ
+counted true n = suc n
+counted false n = n
+
+abbrev pub losses : List Event → ℕ
+losses [] = 0
+losses (e ∷ es) = counted (is_loss e) (losses es)
+
+-- As long as the coordinator has not halted, each loss took one of those that do not halt it.
+abbrev pub LossesCount : Type 0
+LossesCount = (w : WorldValue) (events : List Event) (v : WorldValue) → Runs w events v → v.fleet.control.halt ≡ None → losses events + v.fleet.control.rejoins ≡ w.fleet.control.rejoins
+
+-- The loss that halts it comes behind all of those.
+abbrev pub LastLossHalts : Type 0
+LastLossHalts = (w : WorldValue) (place : ℕ) (v : WorldValue) → Step w (event.Lost place) v → v.fleet.control.halt ≢ None → w.fleet.control.rejoins ≡ 0
+
+-- nothing can happen but arrivals, and what would halt the coordinator or lose a session
 pub record IsStill (w : WorldValue) : Type 0 where
   pub heard : (s : ℕ) → ¬ (IsEnabled w (event.Heard s))
   pub reply : (s : ℕ) → ¬ (IsEnabled w (event.Reply s))
@@ -39,6 +61,7 @@ pub record IsStill (w : WorldValue) : Type 0 where
   pub begin : ¬ (IsEnabled w event.Begin)
   pub drained : (stamp : ℕ) → ¬ (IsEnabled w (event.Drained stamp))
   pub hop : (k : ℕ) → ¬ (IsEnabled w (event.Hop k))
+  pub rejoin : (s : ℕ) → ¬ (IsEnabled w (event.Rejoin s))
 
 -- a copy with the stamp that is to be drained took as many hops as it may
 pub record IsBarred (w : WorldValue) : Type 0 where
@@ -47,7 +70,7 @@ pub record IsBarred (w : WorldValue) : Type 0 where
   pub flight : Flight
   pub flies : IsIn w.flights flight
   pub stamp : ℕ
-  pub old : slice_get w.fleet.control.stamps (policy - 2) ≡ Some stamp
+  pub old : option_map (λ (v : Rows). v.stamp) (slice_get w.fleet.control.versions (policy - 2)) ≡ Some stamp
   pub carries : flight.tag ≡ Some stamp
   pub limit : w.limit ≤ flight.hops
 

@@ -1,5 +1,7 @@
 -- The world: what it has, how it starts, and what holds of it at each moment.
-use Rattle.std.specs.Prelude.{◌≡◌, ◌≤◌, ℕ, List, [], map, slice_get, Some}
+use Rattle.std.specs.Prelude.{◌≡◌, ◌≤◌, ℕ, List, [], ◌∷◌, map, slice_get, Some}
+use Rattle.nk_syntax.specs.declared.pol.Pol.{Pol}
+use Rattle.nk_values.specs.declared.rows.Rows.{Rows}
 use Rattle.nk_values.specs.Tables.{Distinct}
 use Rattle.topology_model.specs.Layouts.{Layout}
 use Rattle.topology_model.specs.Wired.{IsTopology}
@@ -10,7 +12,8 @@ use Rattle.update_coordinator.specs.Starts as starts
 use Rattle.update_laws.specs.Updates.{Setting}
 use Rattle.update_laws.specs.Settings.{AreVersions, setting_of}
 use Rattle.update_laws.specs.Fleets.{End, Fleet, IsFleet, phase_from}
-use Rattle.update_laws.specs.Traffic.{Arrived, IsTraffic}
+use Rattle.update_laws.specs.Traffic.{Arrived, IsTraffic, AreApart}
+use Rattle.world_core.specs.declared.settings.Settings.{Settings}
 use Rattle.world_core.specs.Ends.{new_end}
 
 -- The topology, the versions, the hop limit, the rows that a switch has room for, the coordinator and the switches with their channels, the copies in flight and the packets that came in.
@@ -29,19 +32,28 @@ setting w = setting_of w.topology w.versions w.limit w.capacity
 abbrev pub numbers_of : List Site → List ℕ
 numbers_of sites = map (λ s. s.sw) sites
 
-abbrev pub stamps_of : List Version → List ℕ
-stamps_of versions = map (λ v. v.rows.stamp) versions
+abbrev pub pols_of : List Version → List Pol
+pols_of versions = map (λ v. v.pol) versions
+
+abbrev pub rows_of : List Version → List Rows
+rows_of versions = map (λ v. v.rows) versions
+
+-- policies, each with its rows
+abbrev pub paired : List Pol → List Rows → List Version
+paired [] rows = []
+paired (p ∷ ps) [] = []
+paired (p ∷ ps) (r ∷ rs) = record { pol = p; rows = r } ∷ paired ps rs
 
 -- the world before anything has happened
-abbrev pub start : Layout → List Version → ℕ → ℕ → WorldValue
-start t versions limit capacity = record {
+abbrev pub start : Layout → List Version → Settings → WorldValue
+start t versions settings = record {
   topology = t;
   versions = versions;
-  limit = limit;
-  capacity = capacity;
+  limit = settings.hops;
+  capacity = settings.capacity;
   fleet = record {
-    control = starts.start (map (λ (v : Version). v.rows) versions) (numbers_of t.switches);
-    ends = map (new_end capacity) (numbers_of t.switches);
+    control = starts.start (rows_of versions) (numbers_of t.switches) settings.rejoins;
+    ends = map (new_end settings.capacity) (numbers_of t.switches);
   };
   flights = [];
   arrivals = [];
@@ -51,16 +63,17 @@ start t versions limit capacity = record {
 abbrev pub AreDistinct : List End → Type 0
 AreDistinct ends = (place : ℕ) (e : End) → slice_get ends place ≡ Some e → Distinct e.switch.table.rows
 
--- What every world keeps: its versions stand for their policies, the switches are those of the topology, no two rows of a table have one key, each switch is where the phase has it, and each packet is handled by one policy of its entry.
+-- What every world keeps: its versions stand for their policies, and the coordinator has their rows; the switches are those of the topology, no two rows of a table have one key, each switch is where the phase has it, each packet is handled by one policy of its entry, and its copies are apart.
 pub record Keeps (w : WorldValue) : Type 0 where
   pub topology : IsTopology w.topology
   pub versions : AreVersions w.topology w.versions
   pub limit : 1 ≤ w.limit
   pub places : map (λ (e : End). e.switch.sw) w.fleet.ends ≡ numbers_of w.topology.switches
-  pub stamps : w.fleet.control.stamps ≡ stamps_of w.versions
+  pub rows : w.fleet.control.versions ≡ rows_of w.versions
   pub distinct : AreDistinct w.fleet.ends
   pub fleet : IsFleet (setting w) w.fleet
   pub traffic : IsTraffic w.topology (setting w) (phase_from w.fleet.control.phase) w.flights w.arrivals
+  pub apart : AreApart w.flights w.arrivals
 
 -- shut to all proofs but those of its own laws
 unfoldable pub IsKept : WorldValue → Type 0

@@ -22,16 +22,11 @@ use Rattle.std.proofs.alloc.Global.TheSendSync as globals
 use Rattle.std.below.std_heap.proofs.GlobalAllocator.TheSendSync as heaps
 use Rattle.nk_values.specs.contracts.lit.Lit as lit
 use Rattle.nk_values.proofs.lit.Lit.TheSendSync as lits
-use Rattle.nk_values.proofs.rows.Rows.TheSendSync as rows
-use Rattle.nk_values.specs.contracts.rows.Rows as rows_type
-use Rattle.policy_rows.specs.contracts.version.Version as version
 use Rattle.topology_model.proofs.topology.Topology.TheSendSync as topologies
-use Rattle.update_coordinator.proofs.coordinator.Coordinator.TheSendSync as coordinators
+use Rattle.world_journal.proofs.Passing.{coordinator-send, flights-send, arrival-send}
 use Rattle.world_core.specs.contracts.end.End as end_
 use Rattle.world_core.proofs.end.End.TheSendSync as ends
-use Rattle.flight_queues.proofs.flights.Flights.TheSendSync as flown
 use Rattle.world_core.specs.contracts.arrival.Arrival as arrival
-use Rattle.world_core.proofs.arrival.Arrival.TheSendSync as arrivals
 use Rattle.world_core.specs.contracts.world.World as world
 use Rattle.world_core.specs.contracts.world.World.TheInside as inside
 use Rattle.world_journal.specs.contracts.held.Held as held
@@ -143,26 +138,23 @@ pub pol-send : IsSend pol.the_row
 pol-send = variants_send pol.enum ((pred-send, tt), ((lit-send, tt), ((pols-send, tt), ((pols-send, tt), ((box-send ring.hole-Pol (pol-holes ring.member-Pol), tt), (tt, tt))))))
 
 -- ---- the world
-version-send : IsSend version.the_row
-version-send = declared_send version.the_type (pol-send, (as_row_send rows_type.the_field rows.the_field_send, tt))
-
 inside-send : IsSend inside.the_row
 inside-send = declared_send inside.the_type (
   topologies.the_send,
   (
-    vec-send version.the_row version-send,
+    vec-send pol.the_row pol-send,
     (
       as_row_send u64-field (search sendable),
       (
         as_row_send usize-field (search sendable),
         (
-          coordinators.the_send,
+          coordinator-send,
           (
             vec-send end_.the_row ends.the_send,
             (
-              flown.the_send,
+              flights-send,
               (
-                vec-send arrival.the_row arrivals.the_send,
+                vec-send arrival.the_row arrival-send,
                 tt,
               ),
             ),

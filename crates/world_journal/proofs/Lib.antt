@@ -1,6 +1,8 @@
-pub mod Staying
+pub mod Crossing
+pub mod Ended
 pub mod Growing
 pub mod Marks
-pub mod Ended
-pub mod Crossing
+pub mod Passing
 pub mod Searching
+pub mod Sharing
+pub mod Staying

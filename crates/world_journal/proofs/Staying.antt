@@ -1,5 +1,5 @@
 -- What stays the same in every step.
-use Rattle.std.proofs.Common.{◌≡◌, ℕ, zero, suc, false, Result, Ok, Err, OnOk, OnErr, List, [], ◌∷◌, ◌++◌, length, Option, Some, slice_get, slice_set, refl, sym, ap, ◌∙◌}
+use Rattle.std.proofs.Common.{◌≡◌, inl, inr, ℕ, zero, suc, false, Result, Ok, Err, OnOk, OnErr, List, [], ◌∷◌, ◌++◌, length, Option, Some, slice_get, slice_set, refl, sym, ap, ◌∙◌}
 use Rattle.std.proofs.lemmas.List.{length-set}
 use Rattle.nk_values.specs.declared.packet.Packet.{Packet}
 use Rattle.update_laws.specs.Fleets.{Fleet}
@@ -27,7 +27,11 @@ step-count w (event.Heard p) v s = same-count w v s.fleet s.now (ap (λ (f : Fle
 step-count w (event.Arrive pk tag) v s = ap switches s.now
 step-count w (event.Hop k) v s = ap switches s.now
 step-count w (event.Drained stamp) v s = same-count w v s.step.fleet s.step.now (ap (λ (f : Fleet). length f.ends) s.step.step.now)
-step-count w (event.Lost p) v s = ap switches s.now
+step-count w (event.Lost p) v s = elim s.step [
+  | inl t ↦ same-count w v s.fleet s.now (ap (λ (f : Fleet). length f.ends) t.now ∙ length-set w.fleet.ends p _)
+  | inr t ↦ same-count w v s.fleet s.now (ap (λ (f : Fleet). length f.ends) t.now)
+]
+step-count w (event.Rejoin p) v s = same-count w v s.fleet s.now (ap (λ (f : Fleet). length f.ends) s.step.now ∙ length-set w.fleet.ends p _)
 step-count w (event.Stuck k) v s = ap switches s.now
 step-count w (event.Foreign p side got) v s = ap switches s.now
 
@@ -66,6 +70,7 @@ step-lines w (event.Hop k) v s plain =
     ∙ lines-set w.arrivals s.may.flight.arrival s.arrival (record s.arrival { finished = s.arrival.finished ++ s.finished }) s.of refl
 step-lines w (event.Drained stamp) v s plain = lines-same w v (ap (λ (x : WorldValue). x.arrivals) s.step.now)
 step-lines w (event.Lost p) v s plain = lines-same w v (ap (λ (x : WorldValue). x.arrivals) s.now)
+step-lines w (event.Rejoin p) v s plain = lines-same w v (ap (λ (x : WorldValue). x.arrivals) s.now)
 step-lines w (event.Stuck k) v s plain = lines-same w v (ap (λ (x : WorldValue). x.arrivals) s.now)
 step-lines w (event.Foreign p side got) v s plain = lines-same w v (ap (λ (x : WorldValue). x.arrivals) s.now)
 

@@ -1,4 +1,4 @@
-// What a run is named after.
+//! What a run is named after.
 ghost use Rattle.std.specs.Prelude.{ℕ, List, []};
 ghost use Rattle.topology_model.specs.Layouts.{empty};
 ghost use Rattle.world_core.specs.Worlds.{WorldValue, start};
@@ -20,7 +20,7 @@ pub trait RunName: Ledger {
 }
 
 impl RunName for Brand {
-    ghost start = { start empty [] 1 0 };
+    ghost start = { start empty [] (record { hops = 1; capacity = 0; rejoins = 0 }) };
 
     ghost lines = { [] };
 

@@ -322,7 +322,7 @@ fn is_last(world: &World) -> bool
     ensures { IsTrue result ↔ (world.now.fleet.control.phase ≡ last_phase world.now) }
 {
     match world.coordinator().phase() {
-        Phase::Idle(policy) => policy == world.versions().len(),
+        Phase::Idle(policy) => policy == world.version_count(),
         _ => false,
     }
 }

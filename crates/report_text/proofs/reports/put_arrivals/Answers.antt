@@ -2,9 +2,9 @@ use Rattle.std.proofs.Common.{◌≡◌, ◌+◌, ◌<◌, List, String, length,
 use Rattle.std.proofs.lemmas.List.{drop_all, get_or-set_same}
 use Rattle.std.specs.declared.alloc.Global.{Global}
 use Rattle.report_text.specs.Reports.{HasFate, IsArrivalText}
-use Rattle.report_text.specs.Traces.{Adds}
+use Rattle.value_text.specs.Traces.{Adds}
 use Rattle.report_text.proofs.CopyLaws.{all_copies, arrival_is, at_place, next_copies}
-use Rattle.report_text.proofs.TextLaws.{drop_next, no_text, next_text, last_text, of_kind}
+use Rattle.value_text.proofs.TextLaws.{drop_next, no_text, next_text, last_text, of_kind}
 use Rattle.report_text.proofs.reports.put_arrivals.Goals as goal
 
 pub loop-before-init : goal.loop-before-init

@@ -7,6 +7,6 @@ use Rattle.workload_gen.proofs.sweep.Sweep.last.Goals as goal
 pub returns-clause-passed : goal.returns-clause-passed
 returns-clause-passed c =
     let w = c.args.world.now in
-    let drained = report (draining w.fleet.control.phase w.versions) in
+    let drained = report (draining w.fleet.control.phase w.fleet.control.versions) in
     passes-both w (arrival c.args.packets.now) (event.Begin ∷ drained) c.args.self.now c.arrival.new.self c.drain.new.self c.arrival.ensures.passed
     (passes-both w (event.Begin ∷ []) drained c.arrival.new.self c.event.new.self c.drain.new.self c.event.ensures.passed c.drain.ensures.passed)

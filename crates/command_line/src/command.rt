@@ -1,0 +1,16 @@
+//! What a command line asks for.
+
+/// What a command line asks for.
+#[derive(Clone, Copy, Debug, PartialEq, Eq)]
+pub enum Command {
+    /// The rows of each policy.
+    Rules,
+    /// The way of each packet under each policy.
+    Trace,
+    /// The updates and packets of the schedule.
+    Simulate,
+    /// A run of the policies, with a thread for each session and each switch.
+    Run,
+    /// The workload of a number from 1 to 1,000.
+    Generate(u64),
+}

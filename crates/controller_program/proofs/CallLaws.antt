@@ -1,0 +1,279 @@
+-- What holds of a call, from what its words came to and what was written.
+use Rattle.std.proofs.Common.{◌≡◌, ◌≢◌, ◌⊎◌, inl, inr, ℕ, List, Option, None, Some, IfSome, Result, Ok, Err, refl, sym, subst}
+use Rattle.std.specs.Io.KnownBytes.{Appends}
+use Rattle.outside_io.specs.Lists.{TakesAtMost, AppendsPrefix}
+use Rattle.command_line.specs.declared.command.Command.{Command}
+use Rattle.command_line.specs.declared.command.Command.TheVariants.{Rules, Trace, Simulate, Run, Generate}
+use Rattle.command_line.specs.Commands.{Asks, IsReader}
+use Rattle.command_line.proofs.Words.{one_command_asked}
+use Rattle.value_text.specs.declared.fault.Fault.{Fault}
+use Rattle.value_text.specs.declared.fault.Fault.TheVariants as fault
+use Rattle.value_text.specs.Faults.{HasValues, fault_text}
+use Rattle.program_answer.specs.declared.answer.Answer.{Answer}
+use Rattle.program_answer.specs.declared.answer.AnswerError.{AnswerError}
+use Rattle.program_answer.specs.declared.answer.AnswerError.TheVariants as error
+use Rattle.program_answer.specs.declared.status.Status.{Status}
+use Rattle.program_answer.specs.declared.status.Status.TheVariants as status
+use Rattle.program_answer.specs.Answers.{StopsBy}
+use Rattle.program_answer.specs.Called.{Called, HasRisen, IsSame, SourceSeen}
+use Rattle.program_answer.specs.Input.{IsAccepted, IsRefused}
+use Rattle.program_answer.specs.Statuses.{IsReport, status_of}
+use Rattle.program_answer.specs.Writing.{Says, SaysAnswer, IsUnsaid, whole, cut}
+use Rattle.plain_commands.specs.Simulate.{IsSimulateRefused}
+use Rattle.controller_program.specs.Calls.{IsAnswered, IsCall, IsDue, IsLine, ReadsFrom}
+use Rattle.controller_program.specs.Commands.{IsAnswer, IsStop}
+use Rattle.controller_program.specs.Told.{Answers, AnswersTo, by, none, memory}
+use Rattle.controller_program.proofs.Coming.{reports}
+
+-- ---- what is due with a status
+
+-- What is known of a text that is due with this status: whether a read failed, and how the call may end.
+record IsMeant (Takes : Command → Type 0) (c : Called) (s : Status) (text : List ℕ) : Type 0 where
+  due : IsDue Takes c s text
+  written : s ≢ status.WriteFault
+  reads : s ≢ status.ReadFault → IsSame c.source.faults
+  no_command : ¬ (IsLine Takes c.words) → s ≡ status.Usage
+  complete : (k : Command) → Takes k → Asks k c.words → ((f : Fault) → ¬ (IsStop k c f)) → (s ≡ status.Done) ⊎ (s ≡ status.Halted)
+  refuses : ReadsFrom Takes c.words → ¬ (HasRisen c.source.faults) → IfSome c.source.left.before (λ xs. ¬ (IsAccepted xs) → s ≡ status.Refused)
+
+if-known : (left : Option (List ℕ)) (P : List ℕ → Type 0) → ((xs : List ℕ) → P xs) → IfSome left P
+if-known None P p = tt
+if-known (Some xs) P p = p xs
+
+known-more : (P Q : List ℕ → Type 0) (left : Option (List ℕ)) → ((xs : List ℕ) → P xs → Q xs) → IfSome left P → IfSome left Q
+known-more P Q None f h = tt
+known-more P Q (Some xs) f h = f xs h
+
+-- ---- reports
+
+accepted-by : (k : Command) (c : Called) (s : Status) (text : List ℕ) → IsReader k → IsAnswer k c s text → IfSome c.source.left.before IsAccepted
+accepted-by Rules c s text i a = known-more _ _ c.source.left.before (λ xs r. record { document = r.document; versions = r.versions; is = r.accepted }) a.read.bytes
+accepted-by Trace c s text i a = known-more _ _ c.source.left.before (λ xs r. record { document = r.document; versions = r.versions; is = r.accepted }) a.read.bytes
+accepted-by Simulate c s text i a = known-more _ _ c.source.left.before (λ xs r. record { document = r.document; versions = r.versions; is = r.accepted }) a.read.bytes
+accepted-by Run c s text i a = known-more _ _ c.source.left.before (λ xs r. record { document = r.document; versions = r.versions; is = r.accepted }) a.read.bytes
+accepted-by (Generate n) c s text i a = absurd i
+
+faultless-by : (k : Command) (c : Called) (s : Status) (text : List ℕ) → (¬ (IsReader k) → IsSame c.source.faults) → IsAnswer k c s text → IsSame c.source.faults
+faultless-by Rules c s text other a = a.read.faultless
+faultless-by Trace c s text other a = a.read.faultless
+faultless-by Simulate c s text other a = a.read.faultless
+faultless-by Run c s text other a = a.read.faultless
+faultless-by (Generate n) c s text other a = other (λ i. i)
+
+-- the words of a command that reads ask for the one that was asked for
+reads-it : (Takes : Command → Type 0) (c : Called) (k : Command) → Asks k c.words → ReadsFrom Takes c.words → IsReader k
+reads-it Takes c k asks r = subst IsReader (one_command_asked r.0 k c.words r.3 asks) r.2
+
+is-done : (Takes : Command → Type 0) (c : Called) (s : Status) (text : List ℕ) → IsReport s → IsAnswered Takes c s text → IsDue Takes c s text
+is-done Takes c status.Done text i a = a
+is-done Takes c status.Halted text i a = a
+is-done Takes c status.Refused text i a = absurd i
+is-done Takes c status.Usage text i a = absurd i
+is-done Takes c status.ReadFault text i a = absurd i
+is-done Takes c status.WriteFault text i a = absurd i
+is-done Takes c status.NetFault text i a = absurd i
+is-done Takes c status.NoThread text i a = absurd i
+is-done Takes c status.Memory text i a = absurd i
+
+either : (s : Status) → IsReport s → (s ≡ status.Done) ⊎ (s ≡ status.Halted)
+either status.Done i = inl refl
+either status.Halted i = inr refl
+either status.Refused i = absurd i
+either status.Usage i = absurd i
+either status.ReadFault i = absurd i
+either status.WriteFault i = absurd i
+either status.NetFault i = absurd i
+either status.NoThread i = absurd i
+either status.Memory i = absurd i
+
+written-report : (s : Status) → IsReport s → s ≢ status.WriteFault
+written-report s i e = subst IsReport e i
+
+report-meant : (Takes : Command → Type 0) (c : Called) (k : Command) (s : Status) (text : List ℕ) → Takes k → Asks k c.words → (¬ (IsReader k) → IsSame c.source.faults) → IsAnswer k c s text → IsMeant Takes c s text
+report-meant Takes c k s text takes asks other a =
+    let i = reports k c s text a in record {
+      due = is-done Takes c s text i (record { command = k; takes = takes; asks = asks; answer = a });
+      written = written-report s i;
+      reads = λ _. faultless-by k c s text other a;
+      no_command = λ n. absurd (n (k, takes, asks));
+      complete = λ j t asks' free. either s i;
+      refuses = λ r still. known-more _ _ c.source.left.before (λ xs accepted n. absurd (n accepted)) (accepted-by k c s text (reads-it Takes c k asks r) a);
+    }
+
+-- ---- faults
+
+stop-due : (Takes : Command → Type 0) (c : Called) (k : Command) (f : Fault) → Takes k → Asks k c.words → IsStop k c f → f ≢ fault.Usage → IsDue Takes c (status_of f) (fault_text f)
+stop-due Takes c k (fault.Line line column f) takes asks stop u = record { fault = fault.Line line column f; refused = refl; stopped = record { command = k; takes = takes; asks = asks; stop = stop; line = refl } }
+stop-due Takes c k (fault.NotEnabled line) takes asks stop u = record { fault = fault.NotEnabled line; refused = refl; stopped = record { command = k; takes = takes; asks = asks; stop = stop; line = refl } }
+stop-due Takes c k (fault.Compile policy f) takes asks stop u = record { fault = fault.Compile policy f; refused = refl; stopped = record { command = k; takes = takes; asks = asks; stop = stop; line = refl } }
+stop-due Takes c k (fault.Emit policy f) takes asks stop u = record { fault = fault.Emit policy f; refused = refl; stopped = record { command = k; takes = takes; asks = asks; stop = stop; line = refl } }
+stop-due Takes c k fault.Read takes asks stop u = record { command = k; takes = takes; asks = asks; stop = stop; line = refl }
+stop-due Takes c k fault.Net takes asks stop u = record { command = k; takes = takes; asks = asks; stop = stop; line = refl }
+stop-due Takes c k fault.NoThread takes asks stop u = record { command = k; takes = takes; asks = asks; stop = stop; line = refl }
+stop-due Takes c k fault.Usage takes asks stop u = absurd (u refl)
+
+-- no command stops for its words
+no-usage : (k : Command) (c : Called) → IsStop k c fault.Usage → ⊥
+no-usage Rules c stop = stop
+no-usage Trace c stop = stop
+no-usage Simulate c stop = stop
+no-usage Run c stop = stop
+no-usage (Generate n) c stop = stop
+
+not-usage : (k : Command) (c : Called) (f : Fault) → IsStop k c f → f ≢ fault.Usage
+not-usage k c f stop e = no-usage k c (subst (λ (g : Fault). IsStop k c g) e stop)
+
+written-fault : (f : Fault) → status_of f ≢ status.WriteFault
+written-fault (fault.Line line column f) e = absurd (cc)
+written-fault (fault.NotEnabled line) e = absurd (cc)
+written-fault (fault.Compile policy f) e = absurd (cc)
+written-fault (fault.Emit policy f) e = absurd (cc)
+written-fault fault.Read e = absurd (cc)
+written-fault fault.Net e = absurd (cc)
+written-fault fault.NoThread e = absurd (cc)
+written-fault fault.Usage e = absurd (cc)
+
+-- a fault of the document, or one behind an accepted document, came without a failed read
+by-source : (P : List ℕ → Fault → Type 0) (s : SourceSeen) (f : Fault) → StopsBy P s f → status_of f ≢ status.ReadFault → IsSame s.faults
+by-source P s (fault.Line line column f) h n = h.faultless
+by-source P s (fault.NotEnabled line) h n = h.faultless
+by-source P s (fault.Compile policy f) h n = h.faultless
+by-source P s (fault.Emit policy f) h n = h.faultless
+by-source P s fault.Read h n = absurd (n refl)
+by-source P s fault.Net h n = absurd h
+by-source P s fault.NoThread h n = absurd h
+by-source P s fault.Usage h n = absurd h
+
+stop-reads : (k : Command) (c : Called) (f : Fault) → IsStop k c f → status_of f ≢ status.ReadFault → IsSame c.source.faults
+stop-reads Rules c f h n = by-source IsRefused c.source f h n
+stop-reads Trace c f h n = by-source IsRefused c.source f h n
+stop-reads Simulate c f h n = by-source IsSimulateRefused c.source f h n
+stop-reads Run c (fault.Line line column f) h n = h.faultless
+stop-reads Run c (fault.NotEnabled line) h n = h.faultless
+stop-reads Run c (fault.Compile policy f) h n = h.faultless
+stop-reads Run c (fault.Emit policy f) h n = h.faultless
+stop-reads Run c fault.Read h n = absurd (n refl)
+stop-reads Run c fault.Net h n = h.read.faultless
+stop-reads Run c fault.NoThread h n = h.read.faultless
+stop-reads Run c fault.Usage h n = absurd h
+stop-reads (Generate n) c f h m = absurd h
+
+-- what is not accepted is refused
+refused-source : (P : List ℕ → Fault → Type 0) (s : SourceSeen) (f : Fault) → StopsBy P s f → ¬ (HasRisen s.faults) → IfSome s.left.before (λ xs. ¬ (IsAccepted xs) → status_of f ≡ status.Refused)
+refused-source P s (fault.Line line column f) h still = if-known s.left.before _ (λ xs n. refl)
+refused-source P s (fault.NotEnabled line) h still = if-known s.left.before _ (λ xs n. refl)
+refused-source P s (fault.Compile policy f) h still = if-known s.left.before _ (λ xs n. refl)
+refused-source P s (fault.Emit policy f) h still = if-known s.left.before _ (λ xs n. refl)
+refused-source P s fault.Read h still = absurd (still h)
+refused-source P s fault.Net h still = absurd h
+refused-source P s fault.NoThread h still = absurd h
+refused-source P s fault.Usage h still = absurd h
+
+stop-refuses : (k : Command) (c : Called) (f : Fault) → IsStop k c f → ¬ (HasRisen c.source.faults) → IfSome c.source.left.before (λ xs. ¬ (IsAccepted xs) → status_of f ≡ status.Refused)
+stop-refuses Rules c f h still = refused-source IsRefused c.source f h still
+stop-refuses Trace c f h still = refused-source IsRefused c.source f h still
+stop-refuses Simulate c f h still = refused-source IsSimulateRefused c.source f h still
+stop-refuses Run c (fault.Line line column f) h still = if-known c.source.left.before _ (λ xs n. refl)
+stop-refuses Run c (fault.NotEnabled line) h still = if-known c.source.left.before _ (λ xs n. refl)
+stop-refuses Run c (fault.Compile policy f) h still = if-known c.source.left.before _ (λ xs n. refl)
+stop-refuses Run c (fault.Emit policy f) h still = if-known c.source.left.before _ (λ xs n. refl)
+stop-refuses Run c fault.Read h still = absurd (still h)
+stop-refuses Run c fault.Net h still = known-more _ _ c.source.left.before (λ xs accepted n. absurd (n accepted)) h.read.bytes
+stop-refuses Run c fault.NoThread h still = known-more _ _ c.source.left.before (λ xs accepted n. absurd (n accepted)) h.read.bytes
+stop-refuses Run c fault.Usage h still = absurd h
+stop-refuses (Generate n) c f h still = absurd h
+
+stop-meant : (Takes : Command → Type 0) (c : Called) (k : Command) (f : Fault) → Takes k → Asks k c.words → IsStop k c f → IsMeant Takes c (status_of f) (fault_text f)
+stop-meant Takes c k f takes asks stop = record {
+  due = stop-due Takes c k f takes asks stop (not-usage k c f stop);
+  written = written-fault f;
+  reads = stop-reads k c f stop;
+  no_command = λ n. absurd (n (k, takes, asks));
+  complete = λ j t asks' free. absurd (free f (subst (λ (l : Command). IsStop l c f) (one_command_asked k j c.words asks asks') stop));
+  refuses = λ r still. stop-refuses k c f stop still;
+}
+
+usage-meant : (Takes : Command → Type 0) (c : Called) → ¬ (IsLine Takes c.words) → IsSame c.source.faults → IsMeant Takes c status.Usage (fault_text fault.Usage)
+usage-meant Takes c n same = record {
+  due = record { other = n; line = refl };
+  written = written-fault fault.Usage;
+  reads = λ _. same;
+  no_command = λ _. refl;
+  complete = λ j t asks free. absurd (n (j, t, asks));
+  refuses = λ r still. absurd (n (r.0, r.1, r.3));
+}
+
+-- ---- the call
+
+no-write : (s : Status) → s ≡ status.Memory → s ≡ status.WriteFault → ⊥
+no-write s e f = absurd (cc)
+
+said-whole : (Takes : Command → Type 0) (c : Called) (d : Status) (text : List ℕ) → IsMeant Takes c d text → TakesAtMost 4194305 c.source.left.before c.source.left.after → Appends c.sink.written.before c.sink.written.after text → IsSame c.sink.faults → IsCall Takes c d
+said-whole Takes c d text m most w same = record {
+  wrote = λ _ _. record { text = text; due = m.due; written = w };
+  write_fault = λ e. absurd (m.written e);
+  prefix = λ e. absurd (m.written e);
+  reads = λ n _. m.reads n;
+  writes = λ _. same;
+  taken = most;
+  no_command = λ n. inl (inl (m.no_command n));
+  complete = λ k t asks free _. inl (m.complete k t asks free);
+  refuses = λ r still _. known-more _ _ c.source.left.before (λ xs f n. inl (f n)) (m.refuses r still);
+}
+
+said-cut : (Takes : Command → Type 0) (c : Called) (d : Status) (text : List ℕ) → IsMeant Takes c d text → TakesAtMost 4194305 c.source.left.before c.source.left.after → AppendsPrefix c.sink.written.before c.sink.written.after text → HasRisen c.sink.faults → IsCall Takes c status.WriteFault
+said-cut Takes c d text m most w rose = record {
+  wrote = λ n _. absurd (n refl);
+  write_fault = λ _. rose;
+  prefix = λ _. record { due = d; prefix = record { text = text; due = m.due; written = w } };
+  reads = λ _ n. absurd (n refl);
+  writes = λ n. absurd (n refl);
+  taken = most;
+  no_command = λ _. inl (inr refl);
+  complete = λ k t asks free n. absurd (n rose);
+  refuses = λ r still n. absurd (n rose);
+}
+
+said : (Takes : Command → Type 0) (c : Called) (d s : Status) (text : List ℕ) → IsMeant Takes c d text → TakesAtMost 4194305 c.source.left.before c.source.left.after → Says d text s c.sink → IsCall Takes c s
+said Takes c d s text m most (whole is w same) = subst (λ (x : Status). IsCall Takes c x) (sym is) (said-whole Takes c d text m most w same)
+said Takes c d s text m most (cut is w rose) = subst (λ (x : Status). IsCall Takes c x) (sym is) (said-cut Takes c d text m most w rose)
+
+-- without memory nothing was written
+unsaid : (Takes : Command → Type 0) (c : Called) (s : Status) → IsSame c.source.faults → TakesAtMost 4194305 c.source.left.before c.source.left.after → IsUnsaid s c.sink → IsCall Takes c s
+unsaid Takes c s same most u = record {
+  wrote = λ _ n. absurd (n u.memory);
+  write_fault = λ e. absurd (no-write s u.memory e);
+  prefix = λ e. absurd (no-write s u.memory e);
+  reads = λ _ _. same;
+  writes = λ _. u.faultless;
+  taken = most;
+  no_command = λ _. inr u.memory;
+  complete = λ k t asks free _. inr u.memory;
+  refuses = λ r still _. if-known c.source.left.before _ (λ xs n. inr u.memory);
+}
+
+-- a fault with values to show is no failed read
+shown-read : (f : Fault) → HasValues f → status_of f ≢ status.ReadFault
+shown-read (fault.Line line column f) v e = absurd (cc)
+shown-read (fault.NotEnabled line) v e = absurd (cc)
+shown-read (fault.Compile policy f) v e = absurd (cc)
+shown-read (fault.Emit policy f) v e = absurd (cc)
+shown-read fault.Read v e = absurd v
+shown-read fault.Net v e = absurd v
+shown-read fault.NoThread v e = absurd v
+shown-read fault.Usage v e = absurd v
+
+-- the fault's line, or nothing if its line takes memory
+said-fault : (Takes : Command → Type 0) (c : Called) (f : Fault) (s : Status) → IsMeant Takes c (status_of f) (fault_text f) → TakesAtMost 4194305 c.source.left.before c.source.left.after → Says (status_of f) (fault_text f) s c.sink ⊎ (HasValues f × IsUnsaid s c.sink) → IsCall Takes c s
+said-fault Takes c f s m most (inl w) = said Takes c (status_of f) s (fault_text f) m most w
+said-fault Takes c f s m most (inr u) = unsaid Takes c s (m.reads (shown-read f u.0)) most u.1
+
+by-command : (Takes : Command → Type 0) (c : Called) (k : Command) (r : Result Answer AnswerError) (s : Status) → Takes k → Asks k c.words → (¬ (IsReader k) → IsSame c.source.faults) → AnswersTo k c r → TakesAtMost 4194305 c.source.left.before c.source.left.after → SaysAnswer r s c.sink → IsCall Takes c s
+by-command Takes c k (Ok a) s takes asks other to most w = said Takes c a.status s a.text (report-meant Takes c k a.status a.text takes asks other to) most w
+by-command Takes c k (Err (error.Fault f)) s takes asks other to most w = said-fault Takes c f s (stop-meant Takes c k f takes asks to) most w
+by-command Takes c k (Err error.Memory) s takes asks other to most w = unsaid Takes c s to most w
+
+pub is_call : (Takes : Command → Type 0) (c : Called) (r : Result Answer AnswerError) (s : Status) → Answers Takes c r → TakesAtMost 4194305 c.source.left.before c.source.left.after → SaysAnswer r s c.sink → IsCall Takes c s
+is_call Takes c r s (by k takes asks to other) most w = by-command Takes c k r s takes asks other to most w
+is_call Takes c r s (none other is same) most w = said-fault Takes c fault.Usage s (usage-meant Takes c other same) most (subst (λ (x : Result Answer AnswerError). SaysAnswer x s c.sink) is w)
+is_call Takes c r s (memory is same) most w = unsaid Takes c s same most (subst (λ (x : Result Answer AnswerError). SaysAnswer x s c.sink) is w)

@@ -1,0 +1,57 @@
+use Rattle.std.proofs.Common.{rules, ap, refl, subst}
+use Rattle.command_line.specs.declared.command.Command.{Command}
+use Rattle.command_line.specs.declared.command.Command.TheVariants.{Run}
+use Rattle.command_line.specs.Commands.{Asks, IsCommandLine}
+use Rattle.program_answer.specs.Called.{called, change, net_of, source_of}
+use Rattle.controller_program.specs.Commands.{IsAny}
+use Rattle.controller_program.specs.Told.{none}
+use Rattle.controller_program.proofs.Coming.{no_line, other_by, run_by, to_run}
+use Rattle.controller_program.proofs.answers.any_answer.Goals as goal
+
+-- ---- a run
+
+pub returns-in-Run-clause-answers : goal.returns-in-Run-clause-answers
+returns-in-Run-clause-answers g c = λ sink.
+    let S = g.S.Source in
+    let N = g.N.Net in
+    let asks : Asks c.in-Ok-Some.command c.args.words.now = search rules in
+    let run = subst (λ (k : Command). Asks k c.args.words.now) c.in-Run.is asks in
+    let this = called c.args.words.now (source_of S.left S.faults c.args.source.now c.run_answer.new.source) sink (net_of N.faults N.broken N.gathered c.args.net.now c.run_answer.new.net) (change g.T.Spawner.faults c.args.threads.now c.run_answer.new.threads) in
+    run_by this c.run_answer.result run (to_run this c.run_answer.result c.run_answer.ensures.answer c.run_answer.ensures.stops)
+
+pub returns-in-Run-clause-untouched : goal.returns-in-Run-clause-untouched
+returns-in-Run-clause-untouched g c = λ n.
+    let asks : Asks c.in-Ok-Some.command c.args.words.now = search rules in
+    absurd (n (Run, tt, tt, subst (λ (k : Command). Asks k c.args.words.now) c.in-Run.is asks))
+
+pub returns-in-Run-clause-untouched_net : goal.returns-in-Run-clause-untouched_net
+returns-in-Run-clause-untouched_net g c = λ n.
+    let asks : Asks c.in-Ok-Some.command c.args.words.now = search rules in
+    absurd (n (subst (λ (k : Command). Asks k c.args.words.now) c.in-Run.is asks))
+
+pub returns-in-Run-clause-untouched_threads : goal.returns-in-Run-clause-untouched_threads
+returns-in-Run-clause-untouched_threads g c = λ n.
+    let asks : Asks c.in-Ok-Some.command c.args.words.now = search rules in
+    absurd (n (subst (λ (k : Command). Asks k c.args.words.now) c.in-Run.is asks))
+
+-- ---- another command
+
+pub returns-in_default-clause-answers : goal.returns-in_default-clause-answers
+returns-in_default-clause-answers g c = λ sink.
+    let S = g.S.Source in
+    let N = g.N.Net in
+    let asks : Asks c.in-Ok-Some.command c.args.words.now = search rules in
+    let this = called c.args.words.now (source_of S.left S.faults c.args.source.now c.command_answer.new.source) sink (net_of N.faults N.broken N.gathered c.args.net.now c.args.net.now) (change g.T.Spawner.faults c.args.threads.now c.args.threads.now) in
+    other_by c.in-Ok-Some.command this c.command_answer.result c.in_default.not-Run asks (λ t. c.command_answer.ensures.answers t this refl) (λ n. ap S.faults (c.command_answer.ensures.untouched n))
+
+pub returns-in_default-clause-untouched : goal.returns-in_default-clause-untouched
+returns-in_default-clause-untouched g c = λ n.
+    let asks : Asks c.in-Ok-Some.command c.args.words.now = search rules in
+    c.command_answer.ensures.untouched (λ p. n (c.in-Ok-Some.command, tt, p.1, asks))
+
+-- ---- no command
+
+pub returns-in-Ok-None-clause-answers : goal.returns-in-Ok-None-clause-answers
+returns-in-Ok-None-clause-answers g c = λ sink.
+    let other : ¬ (IsCommandLine c.args.words.now) = search rules in
+    none (no_line IsAny c.args.words.now other) refl refl

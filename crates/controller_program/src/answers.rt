@@ -1,0 +1,89 @@
+//! Which command answers which words.
+ghost use Rattle.std.specs.Prelude.{◌≡◌, Err};
+ghost use Rattle.outside_io.specs.Lists.{TakesAtMost};
+ghost use Rattle.command_line.specs.Commands.{Asks, IsReader};
+ghost use Rattle.program_answer.specs.Called.{Called, SinkSeen, called, change, net_of, source_of};
+ghost use Rattle.controller_program.specs.Calls.{ReadsFrom, no_net, still};
+ghost use Rattle.controller_program.specs.Commands.{IsAny, IsThreadless};
+ghost use Rattle.controller_program.specs.Told.{Answers, AnswersTo};
+
+use command_line::{Command, asked};
+use outside_io::Source;
+use outside_net::{Gate, Net, Spawner};
+use plain_commands::{generate_answer, rules_answer, simulate_answer, trace_answer};
+use program_answer::{Answer, AnswerError};
+use std::alloc::Global;
+use std::sync::{Arc, Wait};
+use thread_commands::run_answer;
+use value_text::Fault;
+
+/// What words come to without links and threads: those that ask for a command that needs them are no command line.
+pub fn plain_answer<S: Source>(
+    alloc: Global,
+    words: &[String],
+    source: &mut S,
+) -> Result<Answer, AnswerError>
+    ensures answers { (sink : SinkSeen) → Answers IsThreadless (called words.now (source_of S.left S.faults source.old source.new) sink no_net still) result }
+    ensures at_most { TakesAtMost 4194305 (S.left source.old) (S.left source.new) }
+    ensures untouched { ¬ (ReadsFrom IsThreadless words.now) → source.new ≡ source.old }
+{
+    match asked(alloc, words) {
+        Ok(Some(command)) => command_answer(alloc, command, source),
+        Ok(None) => Err(AnswerError::Fault(Fault::Usage)),
+        Err(_) => Err(AnswerError::Memory),
+    }
+}
+
+/// What words come to.
+pub fn any_answer<
+    R: Wait + Clone + Drop + Send + 'static,
+    S: Source,
+    N: Net,
+    G: Gate + Send + Sync + 'static,
+    T: Spawner,
+>(
+    rt: &R,
+    alloc: Global,
+    words: &[String],
+    source: &mut S,
+    net: &mut N,
+    threads: &mut T,
+    gate: Arc<G>,
+) -> Result<Answer, AnswerError>
+where
+    N::End: 'static,
+    ensures answers { (sink : SinkSeen) → Answers IsAny (called words.now (source_of S.left S.faults source.old source.new) sink (net_of N.faults N.broken N.gathered net.old net.new) (change T.faults threads.old threads.new)) result }
+    ensures at_most { TakesAtMost 4194305 (S.left source.old) (S.left source.new) }
+    ensures untouched { ¬ (ReadsFrom IsAny words.now) → source.new ≡ source.old }
+    ensures untouched_net { ¬ (Asks Command.Run words.now) → net.new ≡ net.old }
+    ensures untouched_threads { ¬ (Asks Command.Run words.now) → threads.new ≡ threads.old }
+{
+    match asked(alloc, words) {
+        Ok(Some(command)) => match command {
+            Command::Run => run_answer(rt, alloc, source, net, threads, gate),
+            _ => command_answer(alloc, command, source),
+        },
+        Ok(None) => Err(AnswerError::Fault(Fault::Usage)),
+        Err(_) => Err(AnswerError::Memory),
+    }
+}
+
+// What a command comes to that needs no threads; one that needs them is not taken.
+fn command_answer<S: Source>(
+    alloc: Global,
+    command: Command,
+    source: &mut S,
+) -> Result<Answer, AnswerError>
+    ensures answers { IsThreadless command → (c : Called) → c.source ≡ source_of S.left S.faults source.old source.new → AnswersTo command c result }
+    ensures threads { command ≡ Command.Run → result ≡ Err (AnswerError.Fault Fault.Usage) }
+    ensures at_most { TakesAtMost 4194305 (S.left source.old) (S.left source.new) }
+    ensures untouched { ¬ (IsThreadless command × IsReader command) → source.new ≡ source.old }
+{
+    match command {
+        Command::Rules => rules_answer(alloc, source),
+        Command::Trace => trace_answer(alloc, source),
+        Command::Simulate => simulate_answer(alloc, source),
+        Command::Generate(number) => generate_answer(alloc, number),
+        Command::Run => Err(AnswerError::Fault(Fault::Usage)),
+    }
+}

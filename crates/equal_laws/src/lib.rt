@@ -1,0 +1,6 @@
+//! Laws of policies that answer packets alike.
+#![tactic(auto)]
+
+mod laws;
+
+pub use laws::{alike_complete_alike, alike_open_alike};

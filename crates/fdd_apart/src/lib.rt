@@ -1,0 +1,9 @@
+//! Well-shaped packets that tell two diagrams of a store apart (ICFP 2015, section 3).
+#![tactic(auto)]
+
+mod finding;
+mod kinds;
+mod outputs;
+mod walk;
+
+pub use finding::{Apart, Side, apart_in};

@@ -1,0 +1,4 @@
+mod Repeating
+mod Scheduling
+mod Simulating
+mod Walks

@@ -1,0 +1,70 @@
+-- What the orders of a schedule do in a world.
+use Rattle.std.specs.Prelude.{◌≡◌, ℕ, ◌-◌, List, [], ◌∷◌, ◌++◌, Option, Some, None, option_map, slice_get}
+use Rattle.topology_model.specs.Layouts.{place_in}
+use Rattle.topology_model.specs.declared.line.Site.{Site}
+use Rattle.document_text.specs.declared.document.Event.{Event as Order}
+use Rattle.document_text.specs.declared.document.Event.TheVariants as order
+use Rattle.document_text.specs.declared.document.PacketLine.{PacketLine}
+use Rattle.document_text.specs.declared.document.ScheduleLine.{ScheduleLine}
+use Rattle.world_core.specs.declared.event.Event.{Event}
+use Rattle.world_core.specs.declared.event.Event.TheVariants as event
+use Rattle.world_core.specs.Worlds.{WorldValue}
+use Rattle.world_core.specs.Steps.{IsEnabled, Step}
+use Rattle.world_core.specs.Settling.{Follows, settling, flowing}
+
+-- the packet of a line comes in
+abbrev pub arrive : PacketLine → Event
+arrive line = event.Arrive line.packet line.tag
+
+-- The event that an order names; `settle` and `flow` name none. A switch goes by its number, and packet lines count from 1.
+abbrev pub event_of : List Site → List PacketLine → Order → Option Event
+event_of sites packets order.Begin = Some event.Begin
+event_of sites packets (order.Send sw) = option_map event.Send (place_in sites sw)
+event_of sites packets (order.Take sw) = option_map event.Take (place_in sites sw)
+event_of sites packets (order.Apply sw k) = option_map (λ (s : ℕ). event.Apply s k) (place_in sites sw)
+event_of sites packets (order.Reply sw) = option_map event.Reply (place_in sites sw)
+event_of sites packets (order.Heard sw) = option_map event.Heard (place_in sites sw)
+event_of sites packets (order.Arrive n) = option_map arrive (slice_get packets (n - 1))
+event_of sites packets (order.Hop k) = Some (event.Hop k)
+event_of sites packets (order.Drained stamp) = Some (event.Drained stamp)
+event_of sites packets (order.Lost sw) = option_map event.Lost (place_in sites sw)
+event_of sites packets (order.Stuck k) = Some (event.Stuck k)
+event_of sites packets order.Settle = None
+event_of sites packets order.Flow = None
+
+-- one event happens
+pub record DoesOne (named : Option Event) (w : WorldValue) (events : List Event) (v : WorldValue) : Type 0 where
+  pub event : Event
+  pub is : named ≡ Some event
+  pub step : Step w event v
+  pub all : events ≡ event ∷ []
+
+-- what an order does: `settle` and `flow` do what happens by itself, any other one its event
+abbrev pub Does : List Site → List PacketLine → Order → WorldValue → List Event → WorldValue → Type 0
+Does sites packets order.Settle w events v = Follows settling w events v
+Does sites packets order.Flow w events v = Follows flowing w events v
+Does sites packets c w events v = DoesOne (event_of sites packets c) w events v
+
+-- The lines of a schedule are carried out one after another.
+abbrev pub CarriedOut : List Site → List PacketLine → WorldValue → List ScheduleLine → List Event → WorldValue → Type 0
+CarriedOut sites packets w [] events v = (events ≡ []) × (w ≡ v)
+CarriedOut sites packets w (l ∷ ls) events v =
+    (first : List Event) × (x : WorldValue) × (more : List Event) × Does sites packets l.event w first x × CarriedOut sites packets x ls more v × (events ≡ first ++ more)
+
+-- The event that an order names cannot happen; `settle` and `flow` always can.
+abbrev pub CannotHappen : List Site → List PacketLine → Order → WorldValue → Type 0
+CannotHappen sites packets order.Settle w = ⊥
+CannotHappen sites packets order.Flow w = ⊥
+CannotHappen sites packets c w = (e : Event) → event_of sites packets c ≡ Some e → ¬ (IsEnabled w e)
+
+-- The lines before the one with this number are carried out, and its event cannot happen then.
+pub record StopsAt (sites : List Site) (packets : List PacketLine) (w : WorldValue) (schedule : List ScheduleLine) (line : ℕ) : Type 0 where
+  pub before : List ScheduleLine
+  pub here : ScheduleLine
+  pub behind : List ScheduleLine
+  pub all : schedule ≡ before ++ here ∷ behind
+  pub number : line ≡ here.line
+  pub events : List Event
+  pub world : WorldValue
+  pub done : CarriedOut sites packets w before events world
+  pub refused : CannotHappen sites packets here.event world

@@ -1,0 +1,16 @@
+//! The commands that need no threads, each a module and a file of definitions: `rules`, `trace`, `simulate` and
+//! `generate`.
+#![tactic(auto)]
+
+mod generate;
+mod laws;
+mod rules;
+mod schedule;
+mod simulate;
+mod trace;
+
+pub use generate::generate_answer;
+pub use laws::one_simulation;
+pub use rules::rules_answer;
+pub use simulate::simulate_answer;
+pub use trace::trace_answer;

@@ -1,0 +1,93 @@
+//! Schedules, carried out in a world.
+ghost use Rattle.std.specs.Prelude.{◌≡◌, ◌++◌, List, Err, IfOk, IfErr, OnOk};
+ghost use Rattle.world_core.specs.declared.event.Event.{Event as EventValue};
+ghost use Rattle.world_core.specs.declared.fault.StepFault.TheVariants as faults;
+ghost use Rattle.plain_commands.specs.Schedules.{event_of, CannotHappen, CarriedOut, Does};
+ghost use Rattle.plain_commands.specs.Told.{TellsStop};
+
+use document_text::{Event as Order, PacketLine, ScheduleLine};
+use program_answer::AnswerError;
+use std::alloc::{AllocError, Global};
+use topology_model::Topology;
+use value_text::Fault;
+use world_core::{Event, StepFault, World};
+
+/// Carries out a schedule line by line, and gives the events that were done; or the first line whose event cannot
+/// happen.
+pub fn carry_out(
+    alloc: Global,
+    world: &mut World,
+    packets: &[PacketLine],
+    schedule: &[ScheduleLine],
+) -> Result<Vec<Event>, AnswerError>
+    ensures done { IfOk result (λ events. CarriedOut world.old.topology.switches packets.now world.old schedule.now events.items world.new) }
+    ensures stop { IfErr result (TellsStop world.old.topology.switches packets.now world.old schedule.now) }
+{
+    let mut events = Vec::new(alloc);
+    for line in schedule {
+        match carry(alloc, world, packets, line.event, &mut events) {
+            Ok(()) => {}
+            Err(StepFault::NotEnabled) => {
+                return Err(AnswerError::Fault(Fault::NotEnabled { line: line.line }));
+            }
+            Err(StepFault::Memory) => return Err(AnswerError::Memory),
+        }
+    }
+    Ok(events)
+}
+
+// Carries out an order, and puts the events that were done behind the others.
+fn carry(
+    alloc: Global,
+    world: &mut World,
+    packets: &[PacketLine],
+    order: Order,
+    events: &mut Vec<Event>,
+) -> Result<(), StepFault>
+    ensures done { OnOk result ((more : List EventValue) × Does world.old.topology.switches packets.now order world.old more world.new × (events.new.items ≡ events.old.items ++ more)) }
+    ensures topology { OnOk result (world.new.topology ≡ world.old.topology) }
+    ensures refused { result ≡ Err faults.NotEnabled → CannotHappen world.old.topology.switches packets.now order world.old }
+{
+    match order {
+        Order::Settle => {
+            let mut more = world.settle(alloc)?;
+            events.append(&mut more)?;
+        }
+        Order::Flow => {
+            let mut more = world.flow(alloc)?;
+            events.append(&mut more)?;
+        }
+        _ => {
+            let Some(event) = event_of(world.topology(), packets, order) else {
+                return Err(StepFault::NotEnabled);
+            };
+            events.reserve(1)?;
+            world.step(alloc, &event)?;
+            events.push_reserved(event);
+        }
+    }
+    Ok(())
+}
+
+// The event that an order names.
+fn event_of(topology: &Topology, packets: &[PacketLine], order: Order) -> Option<Event>
+    ensures { result ≡ event_of topology.now.switches packets.now order }
+{
+    match order {
+        Order::Begin => Some(Event::Begin),
+        Order::Send(sw) => Some(Event::Send(topology.place(sw)?)),
+        Order::Take(sw) => Some(Event::Take(topology.place(sw)?)),
+        Order::Apply(sw, pending) => Some(Event::Apply(topology.place(sw)?, pending as usize)),
+        Order::Reply(sw) => Some(Event::Reply(topology.place(sw)?)),
+        Order::Heard(sw) => Some(Event::Heard(topology.place(sw)?)),
+        Order::Arrive(number) => {
+            let line = packets.get(number.saturating_sub(1))?;
+            Some(Event::Arrive(line.packet, line.tag))
+        }
+        Order::Hop(copy) => Some(Event::Hop(copy as usize)),
+        Order::Drained(stamp) => Some(Event::Drained(stamp)),
+        Order::Lost(sw) => Some(Event::Lost(topology.place(sw)?)),
+        Order::Stuck(copy) => Some(Event::Stuck(copy as usize)),
+        Order::Settle | Order::Flow => None,
+    }
+}

@@ -1,0 +1,6 @@
+pub mod FewNamed
+pub mod Lists
+pub mod Pieces
+pub mod Soundness
+pub mod Starting
+pub mod Stopping

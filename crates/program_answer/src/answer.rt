@@ -1,0 +1,42 @@
+//! What a command comes to, before anything is written.
+use crate::status::Status;
+use std::alloc::{AllocError, AllocFailed};
+use value_text::{Fault, Text};
+
+/// A report, and how the call ends once it is written: `Done` or `Halted`.
+#[derive(Debug, Drop)]
+pub struct Answer {
+    pub status: Status,
+    pub text: Text,
+}
+
+/// Why a command has no report.
+#[derive(Clone, Copy, Debug, PartialEq, Eq)]
+pub enum AnswerError {
+    /// A fault, whose line is written in place of the report.
+    Fault(Fault),
+    /// Out of memory: nothing is written.
+    Memory,
+}
+
+impl From<AllocError> for AnswerError {
+    ghost use Rattle.std.specs.Prelude.{◌≡◌};
+    ghost use Rattle.program_answer.specs.declared.answer.AnswerError.TheVariants.{Memory};
+
+    ghost from_gives = { λ _ e. e ≡ Memory };
+
+    fn from(_: AllocError) -> Self {
+        AnswerError::Memory
+    }
+}
+
+impl<T: Drop> From<AllocFailed<T>> for AnswerError {
+    ghost use Rattle.std.specs.Prelude.{◌≡◌};
+    ghost use Rattle.program_answer.specs.declared.answer.AnswerError.TheVariants.{Memory};
+
+    ghost from_gives = { λ _ e. e ≡ Memory };
+
+    fn from(_: AllocFailed<T>) -> Self {
+        AnswerError::Memory
+    }
+}

@@ -1,0 +1,17 @@
+//! What the commands of the program share: the status of a call, an answer or why there is none, the reading of a
+//! document with a version for each of its policies, and the one writing of a call.
+#![tactic(auto)]
+
+mod answer;
+mod input;
+mod reading;
+mod report;
+mod status;
+mod versions;
+mod writing;
+
+pub use answer::{Answer, AnswerError};
+pub use input::{Input, read_input};
+pub use report::world_answer;
+pub use status::Status;
+pub use writing::say;

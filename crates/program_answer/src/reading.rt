@@ -1,0 +1,79 @@
+//! The document that a source holds.
+ghost use Rattle.std.specs.Prelude.{◌≡◌, [], IfOk, IfErr, OnOk};
+ghost use Rattle.document_text.specs.Answers.{doc_of};
+ghost use Rattle.document_text.specs.Feeding.{StandsFor};
+ghost use Rattle.document_text.specs.Grammar.{IsDocument};
+ghost use Rattle.outside_io.specs.Lists.{TakesAtMost, TakesFirst};
+ghost use Rattle.program_answer.specs.Answers.{Reads, Stops};
+ghost use Rattle.program_answer.specs.Called.{source_of};
+ghost use Rattle.program_answer.specs.Input.{Feeds, IsRefused, placed_fault};
+ghost use Rattle.program_answer.specs.Sound.{IsSound};
+
+use crate::answer::AnswerError;
+use document_text::{DocFault, DocReader, Document, DocumentError};
+use nk_values::MOST_DOCUMENT_BYTES;
+use outside_io::{Failed, Source};
+use std::alloc::Global;
+use value_text::Fault;
+
+/// The most bytes of a source that are read: one more than a document may have.
+pub const READ_LIMIT: usize = MOST_DOCUMENT_BYTES + 1;
+
+/// Reads the source piece by piece, and its document.
+pub fn read_source<S: Source>(alloc: Global, source: &mut S) -> Result<Document, AnswerError>
+    ensures reads { IfOk result (λ d. Reads (λ xs. IsDocument xs (doc_of d)) (source_of S.left S.faults source.old source.new)) }
+    ensures sound { IfOk result (λ d. IsSound (doc_of d)) }
+    ensures taken { OnOk result (TakesFirst 4194305 (S.left source.old) (S.left source.new)) }
+    ensures stops { IfErr result (Stops IsRefused (source_of S.left S.faults source.old source.new)) }
+    ensures at_most { TakesAtMost 4194305 (S.left source.old) (S.left source.new) }
+{
+    let mut reader = DocReader::new(alloc);
+    feed_from(alloc, source, &mut reader)?;
+    match reader.finish(alloc) {
+        Ok(document) => Ok(document),
+        Err(DocumentError::Fault(fault)) => Err(AnswerError::Fault(placed_fault(&fault))),
+        Err(DocumentError::Memory) => Err(AnswerError::Memory),
+    }
+}
+
+// A fault of a text, with its place.
+fn placed_fault(fault: &DocFault) -> Fault
+    ensures { result ≡ placed_fault fault.now }
+{
+    Fault::Line {
+        line: fault.line,
+        column: fault.column,
+        fault: fault.fault,
+    }
+}
+
+// Feeds the bytes of a source to its end, or to so many that more do not count, in pieces of at most 4,096. Each turn takes at
+// least one byte, or ends the reading. A read that failed is not tried again.
+fn feed_from<S: Source>(
+    alloc: Global,
+    source: &mut S,
+    reader: &mut DocReader,
+) -> Result<(), AnswerError>
+    requires { StandsFor reader.old [] }
+    ensures feeds { OnOk result (Feeds (S.left source.old) (S.left source.new) reader.new) }
+    ensures at_most { TakesAtMost 4194305 (S.left source.old) (S.left source.new) }
+    ensures same { OnOk result (S.faults source.new ≡ S.faults source.old) }
+    ensures stops { IfErr result (Stops IsRefused (source_of S.left S.faults source.old source.new)) }
+{
+    let mut buf = [0u8; 4096];
+    let mut fed = 0;
+    while fed < READ_LIMIT {
+        let room = buf.len().min(READ_LIMIT - fed);
+        let piece = &mut buf[..room];
+        let count = match source.read(piece) {
+            Ok(0) => return Ok(()),
+            Ok(count) => count,
+            Err(Failed) => return Err(AnswerError::Fault(Fault::Read)),
+        };
+        if let Err(_) = reader.feed(alloc, &piece[..count]) {
+            return Err(AnswerError::Memory);
+        }
+        fed += count;
+    }
+    Ok(())
+}

@@ -1,0 +1,72 @@
+//! The world of a small workload, and its updates by one event after another.
+ghost use Rattle.std.specs.Prelude.{◌≤◌};
+
+use document_text::Document;
+use std::alloc::{AllocError, Global};
+use workload_gen::{generate, versions};
+use world_core::{Event, Settings, World};
+
+/// Two switches and three policies. So many sessions may be lost without a halt.
+pub fn world_of(alloc: Global, rejoins: usize) -> Result<World, AllocError>
+    requires { rejoins ≤ 1000 }
+{
+    let (document, _words) = generate(alloc, 0)?;
+    let versions = versions(alloc, &document)?;
+    let Document { topology, .. } = document;
+    let settings = Settings {
+        hops: 64,
+        capacity: 130_000,
+        rejoins,
+    };
+    World::start(alloc, versions, topology, settings)
+}
+
+// The first thing that can happen at a switch.
+fn next_at(world: &World, place: usize) -> Option<Event> {
+    let tried = [
+        Event::Heard(place),
+        Event::Reply(place),
+        Event::Apply(place, 0),
+        Event::Take(place),
+        Event::Send(place),
+    ];
+    tried.into_iter().find(|event| world.enabled(event))
+}
+
+// The first thing that can happen at the switches, or of the updates.
+fn next(world: &World) -> Option<Event> {
+    for place in 0..world.switch_count() {
+        if let Some(event) = next_at(world, place) {
+            return Some(event);
+        }
+    }
+    if world.enabled(&Event::Begin) {
+        return Some(Event::Begin);
+    }
+    Some(Event::Drained(world.coordinator().draining()?))
+}
+
+/// Does what can happen, at most so many events. Gives how many there were.
+pub fn run(alloc: Global, world: &mut World, most: u32) -> Option<u32> {
+    for done in 0..most {
+        let Some(event) = next(world) else {
+            return Some(done);
+        };
+        world.step(alloc, &event).ok()?;
+    }
+    Some(most)
+}
+
+/// Whether an event could happen and was done.
+pub fn does(alloc: Global, world: &mut World, event: &Event) -> bool {
+    world.enabled(event) && world.step(alloc, event).is_ok()
+}
+
+/// How many rows the switches have, all together.
+pub fn row_count(world: &World) -> usize {
+    let mut all: usize = 0;
+    for place in 0..world.switch_count() {
+        all = all.saturating_add(world.table(place).rows().len());
+    }
+    all
+}

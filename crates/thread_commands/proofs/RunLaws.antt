@@ -1,0 +1,131 @@
+-- Runs, as the calls tell them.
+use Rattle.std.proofs.Common.{◌≡◌, inl, inr, ℕ, ◌<◌, false, List, [], ◌∷◌, ◌++◌, map, length, Option, None, Some, is_some, refl, ap, subst, ◌∙◌}
+use Rattle.std.proofs.lemmas.List.{length-map}
+use Rattle.nk_values.specs.Members.{IsIn}
+use Rattle.document_text.specs.declared.document.Document.{Document}
+use Rattle.document_text.specs.declared.document.PacketLine.{PacketLine}
+use Rattle.document_text.specs.Answers.{doc_of}
+use Rattle.document_text.specs.Documents.{Doc}
+use Rattle.policy_rows.specs.declared.version.Version.{Version}
+use Rattle.update_coordinator.specs.declared.cause.Side.{Side}
+use Rattle.value_text.specs.declared.fault.Fault.TheVariants as fault
+use Rattle.worker_desk.specs.Streams.{TellsWhereKnown}
+use Rattle.world_core.specs.declared.event.Event.{Event}
+use Rattle.world_core.specs.declared.event.Event.TheVariants as event
+use Rattle.world_core.specs.Laws.{EveryRunIsGood}
+use Rattle.world_core.specs.Steps.{Runs}
+use Rattle.world_core.specs.Worlds.{WorldValue, start}
+use Rattle.world_journal.specs.declared.entry.Entry.{Entry}
+use Rattle.world_journal.specs.declared.line.Line.{Line}
+use Rattle.world_journal.specs.Arriving.{IsDone, IsOver}
+use Rattle.world_journal.specs.Journals.{events_of, switches, told_before, IsJournal}
+use Rattle.world_journal.proofs.Ended.{kept-cut}
+use Rattle.program_answer.specs.declared.answer.Answer.{Answer}
+use Rattle.program_answer.specs.declared.answer.AnswerError.{AnswerError}
+use Rattle.program_answer.specs.declared.answer.AnswerError.TheVariants as error
+use Rattle.program_answer.specs.Answers.{Reads, Stops}
+use Rattle.program_answer.specs.Called.{Change, HasRisen, NetSeen, SourceSeen}
+use Rattle.program_answer.specs.Input.{IsAccepted, IsAcceptedAs, IsRefused}
+use Rattle.program_answer.specs.Worlds.{IsWorldAnswer, start_of}
+use Rattle.program_answer.proofs.Stopping.{reads_more}
+use Rattle.thread_commands.specs.Run.{AreGathered, AreToldSince, HasNext, HaveStreams, IsRanAs, IsRunAnswer, RunStops, TellsCut, line_of, lines_of, told}
+use Rattle.thread_commands.proofs.KeptEnds.{kept-at, told-before}
+
+-- ---- the ends that were kept
+
+abbrev AreCounted : {E : Type 0} → (E → ℕ) → List E → Change ℕ → Type 0
+AreCounted {E} faults ends broken = (e : E) → IsIn ends e → 0 < faults e → HasRisen broken
+
+was-lost : {E : Type 0} (named faults : E → ℕ) (received : E → Option (List ℕ)) (s0 w : WorldValue) (journal : List Entry) (ends : List E) (broken : Change ℕ) → IsJournal named faults received s0 w journal ends → AreCounted faults ends broken
+    → (s : ℕ) → IsIn (events_of journal) (event.Lost s) → HasRisen broken
+was-lost named faults received s0 w journal ends broken j counts s i =
+    let k = kept-cut named faults received journal ends j.kept (event.Lost s) refl i in counts k.0 k.2 k.3.1
+
+has-next : {E : Type 0} (received : E → Option (List ℕ)) (ends : List E) (e : E) (k : ℕ) (got : List ℕ) (streams : List (List ℕ)) → HaveStreams received ends streams → IsIn ends e → TellsWhereKnown (received e) k got → HasNext k got streams
+has-next received ends e k got streams h i t = let s = h e i in (s.0, s.2, subst (λ (r : Option (List ℕ)). TellsWhereKnown r k got) s.1 t)
+
+came-next : {E : Type 0} (received : E → Option (List ℕ)) (ends : List E) (first now : Option (List (List ℕ))) (e : E) (k : ℕ) (got : List ℕ) → AreGathered received ends (record { before = first; after = now }) → IsIn ends e → TellsWhereKnown (received e) k got
+    → AreToldSince (record { before = first; after = now }) (HasNext k got)
+came-next received ends first None e k got g i t = tt
+came-next received ends first (Some streams) e k got g i t = record { earlier = g.earlier; since = g.since; known = g.known; told = g.told; such = has-next received ends e k got g.since g.such i t }
+
+was-foreign : {E : Type 0} (named faults : E → ℕ) (received : E → Option (List ℕ)) (s0 w : WorldValue) (journal : List Entry) (ends : List E) (gathered : Change (Option (List (List ℕ)))) → IsJournal named faults received s0 w journal ends → AreGathered received ends gathered
+    → (before rest : List Event) (s : ℕ) (side : Side) (got : List ℕ) → events_of journal ≡ before ++ event.Foreign s side got ∷ rest → AreToldSince gathered (HasNext (told s side before) got)
+was-foreign named faults received s0 w journal ends gathered j g before rest s side got is =
+    let k = kept-at named faults received journal ends j.kept before rest (event.Foreign s side got) refl is in
+    let many : told_before s side k.entries ≡ told s side before = told-before s side k.entries ∙ ap (told s side) k.same in
+    subst (λ (n : ℕ). AreToldSince gathered (HasNext n got)) many (came-next received ends gathered.before gathered.after k.end (told_before s side k.entries) got g k.kept k.met.1)
+
+-- ---- the run
+
+still-done : (lines : List Line) (w : WorldValue) → is_some w.fleet.control.halt ≡ false → IsOver lines w → IsDone lines w
+still-done lines w still (inl halted) = absurd (halted (none-of w.fleet.control.halt still))
+  where
+    none-of : {X : Type 0} (o : Option X) → is_some o ≡ false → o ≡ None
+    none-of None e = refl
+    none-of (Some x) e = cc
+still-done lines w still (inr done) = done
+
+-- the report of a run is that of its journal and world
+pub ran_as : {E : Type 0} (named faults : E → ℕ) (received : E → Option (List ℕ)) (net : NetSeen) (d : Doc) (versions : List Version) (s0 w : WorldValue) (journal : List Entry) (ends : List E) (lines : List Line) (a : Answer)
+    → s0 ≡ start_of d versions → EveryRunIsGood s0 → IsJournal named faults received s0 w journal ends → AreCounted faults ends net.broken → AreGathered received ends net.gathered → lines ≡ lines_of d → IsOver lines w → IsWorldAnswer w (events_of journal) a → IsRanAs net d versions a
+ran_as named faults received net d versions s0 w journal ends lines a is good j counts g same over r = record {
+  halts = is_some w.fleet.control.halt;
+  status = r.status;
+  run = record {
+    events = events_of journal;
+    world = w;
+    runs = subst (λ (x : WorldValue). Runs x (events_of journal) w) is j.runs;
+    good = good (events_of journal) w j.runs;
+    ends = refl;
+    done = λ still. still-done (lines_of d) w still (subst (λ (ls : List Line). IsOver ls w) same over);
+    lost = was-lost named faults received s0 w journal ends net.broken j counts;
+    foreign = was-foreign named faults received s0 w journal ends net.gathered j g;
+    text_is = r.report;
+  };
+}
+
+-- one line more
+pub lines_more : (ls : List PacketLine) (l : PacketLine) → map line_of (ls ++ l ∷ []) ≡ map line_of ls ++ line_of l ∷ []
+lines_more [] l = refl
+lines_more (x ∷ ls) l = ap (λ (xs : List Line). line_of x ∷ xs) (lines_more ls l)
+
+-- the world that the call made is the document's
+pub starts_as : (d : Document) (versions : List Version) (w : WorldValue) (hops capacity : ℕ) → w ≡ start d.topology versions (record { hops = hops; capacity = capacity; rejoins = 0 }) → hops ≡ d.settings.hops → capacity ≡ d.settings.capacity → w ≡ start_of (doc_of d) versions
+starts_as d versions w hops capacity a b c = a ∙ (λ i. start d.topology versions (record { hops = b i; capacity = c i; rejoins = 0 }))
+
+-- ---- of a source
+
+pub run_answers : (s : SourceSeen) (net : NetSeen) (d : Doc) (versions : List Version) (a : Answer) → Reads (λ xs. IsAcceptedAs xs d versions) s → IsRanAs net d versions a → IsRunAnswer s net a.status a.text
+run_answers s net d versions a read h = record {
+  halts = h.halts;
+  status_is = h.status;
+  read = reads_more _ _ s (λ xs accepted. record { document = d; versions = versions; accepted = accepted; run = h.run }) read;
+}
+
+-- a document is accepted whose versions are known
+is-accepted : (s : SourceSeen) (d : Doc) (versions : List Version) → Reads (λ xs. IsAcceptedAs xs d versions) s → Reads IsAccepted s
+is-accepted s d versions read = reads_more _ _ s (λ xs accepted. record { document = d; versions = versions; is = accepted }) read
+
+pub cut_stops : (s : SourceSeen) (pairs threads : Change ℕ) (d : Doc) (versions : List Version) (e : AnswerError) → Reads (λ xs. IsAcceptedAs xs d versions) s → TellsCut pairs threads e → RunStops s pairs threads e
+cut_stops s pairs threads d versions error.Memory read h = read.faultless
+cut_stops s pairs threads d versions (error.Fault fault.Net) read h = record { read = is-accepted s d versions read; rose = h }
+cut_stops s pairs threads d versions (error.Fault fault.NoThread) read h = record { read = is-accepted s d versions read; rose = h }
+cut_stops s pairs threads d versions (error.Fault fault.Read) read h = absurd h
+cut_stops s pairs threads d versions (error.Fault fault.Usage) read h = absurd h
+cut_stops s pairs threads d versions (error.Fault (fault.Line line column f)) read h = absurd h
+cut_stops s pairs threads d versions (error.Fault (fault.NotEnabled line)) read h = absurd h
+cut_stops s pairs threads d versions (error.Fault (fault.Compile policy f)) read h = absurd h
+cut_stops s pairs threads d versions (error.Fault (fault.Emit policy f)) read h = absurd h
+
+-- what stops every command stops a run
+pub input_stops : (s : SourceSeen) (pairs threads : Change ℕ) (e : AnswerError) → Stops IsRefused s e → RunStops s pairs threads e
+input_stops s pairs threads error.Memory h = h
+input_stops s pairs threads (error.Fault fault.Net) h = absurd h
+input_stops s pairs threads (error.Fault fault.NoThread) h = absurd h
+input_stops s pairs threads (error.Fault fault.Read) h = h
+input_stops s pairs threads (error.Fault fault.Usage) h = h
+input_stops s pairs threads (error.Fault (fault.Line line column f)) h = h
+input_stops s pairs threads (error.Fault (fault.NotEnabled line)) h = h
+input_stops s pairs threads (error.Fault (fault.Compile policy f)) h = h
+input_stops s pairs threads (error.Fault (fault.Emit policy f)) h = h

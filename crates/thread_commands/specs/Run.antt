@@ -1,0 +1,136 @@
+-- What `nkctl run` answers: the report of a run of a document's policies, with a worker for each session and each switch.
+use Rattle.std.specs.Prelude.{◌≡◌, ℕ, Bool, false, List, ◌∷◌, ◌++◌, length, map, Option, Some, IfSome, is_some}
+use Rattle.std.specs.List.{filter}
+use Rattle.nk_values.specs.Members.{IsIn}
+use Rattle.document_text.specs.declared.document.PacketLine.{PacketLine}
+use Rattle.document_text.specs.Documents.{Doc}
+use Rattle.policy_rows.specs.declared.version.Version.{Version}
+use Rattle.report_text.specs.Reports.{IsWorldReport}
+use Rattle.update_coordinator.specs.declared.cause.Side.{Side}
+use Rattle.value_text.specs.declared.fault.Fault.{Fault}
+use Rattle.value_text.specs.declared.fault.Fault.TheVariants as fault
+use Rattle.worker_desk.specs.Streams.{TellsAt}
+use Rattle.world_core.specs.declared.event.Event.{Event}
+use Rattle.world_core.specs.declared.event.Event.TheVariants as event
+use Rattle.world_core.specs.Laws.{AreGood}
+use Rattle.world_core.specs.Steps.{Runs}
+use Rattle.world_core.specs.Worlds.{WorldValue}
+use Rattle.world_journal.specs.declared.line.Line.{Line}
+use Rattle.world_journal.specs.Arriving.{IsDone}
+use Rattle.world_journal.specs.Journals.{is_told}
+use Rattle.program_answer.specs.declared.answer.Answer.{Answer}
+use Rattle.program_answer.specs.declared.answer.AnswerError.{AnswerError}
+use Rattle.program_answer.specs.declared.answer.AnswerError.TheVariants as error
+use Rattle.program_answer.specs.declared.status.Status.{Status}
+use Rattle.program_answer.specs.Answers.{Reads, StopsBy}
+use Rattle.program_answer.specs.Called.{Change, HasRisen, IsSame, NetSeen, SourceSeen}
+use Rattle.program_answer.specs.Input.{IsAccepted, IsAcceptedAs, IsRefused}
+use Rattle.program_answer.specs.Statuses.{report_status}
+use Rattle.program_answer.specs.Worlds.{start_of}
+
+-- the packet of a line of the document
+abbrev pub line_of : PacketLine → Line
+line_of l = record { packet = l.packet; tag = l.tag }
+
+abbrev pub lines_of : Doc → List Line
+lines_of d = map line_of d.packets
+
+-- ---- the ends that were given back
+
+-- Behind the streams that a net told before, it told such ones since. What was not known then is not known now.
+pub record ToldSince (before : Option (List (List ℕ))) (all : List (List ℕ)) (AreSuch : List (List ℕ) → Type 0) : Type 0 where
+  pub earlier : List (List ℕ)
+  pub since : List (List ℕ)
+  pub known : before ≡ Some earlier
+  pub told : all ≡ earlier ++ since
+  pub such : AreSuch since
+
+-- the same, where the net tells streams at all
+abbrev pub AreToldSince : Change (Option (List (List ℕ))) → (List (List ℕ) → Type 0) → Type 0
+AreToldSince gathered AreSuch = IfSome gathered.after (λ all. ToldSince gathered.before all AreSuch)
+
+-- one of these streams has behind k messages what `got` spells, or a fault at which these bytes are held
+abbrev pub HasNext : ℕ → List ℕ → List (List ℕ) → Type 0
+HasNext k got streams = (stream : List ℕ) × IsIn streams stream × TellsAt stream k got
+
+-- what these ends received is among the streams
+abbrev pub HaveStreams : {E : Type 0} → (E → Option (List ℕ)) → List E → List (List ℕ) → Type 0
+HaveStreams {E} received ends streams = (e : E) → IsIn ends e → (stream : List ℕ) × (received e ≡ Some stream) × IsIn streams stream
+
+-- What these ends received was told since.
+abbrev pub AreGathered : {E : Type 0} → (E → Option (List ℕ)) → List E → Change (Option (List (List ℕ))) → Type 0
+AreGathered {E} received ends gathered = AreToldSince gathered (HaveStreams received ends)
+
+-- ---- the run
+
+-- how many messages were told at this side of switch s
+abbrev pub told : ℕ → Side → List Event → ℕ
+told s side events = length (filter (is_told s side) events)
+
+-- The events lead from the start of the document's policies to this world, and each packet that came in is handled by one policy. If the updates do not stand still, the last policy handles all packets, each line came in once, and no copy may take another hop. A session is lost only if the net's count of broken ends rose. Foreign bytes came next at an end that was given back in this call, behind as many messages as that side of the switch was told before. The text is the report of the events and of that world; `halts` says whether the updates stand still.
+pub record IsRunOf (halts : Bool) (net : NetSeen) (d : Doc) (versions : List Version) (text : List ℕ) : Type 0 where
+  pub events : List Event
+  pub world : WorldValue
+  pub runs : Runs (start_of d versions) events world
+  pub good : AreGood world
+  pub ends : is_some world.fleet.control.halt ≡ halts
+  pub done : halts ≡ false → IsDone (lines_of d) world
+  pub lost : (s : ℕ) → IsIn events (event.Lost s) → HasRisen net.broken
+  pub foreign : (before rest : List Event) (s : ℕ) (side : Side) (got : List ℕ) → events ≡ before ++ event.Foreign s side got ∷ rest → AreToldSince net.gathered (HasNext (told s side before) got)
+  pub text_is : IsWorldReport world events text
+
+-- ---- of a source
+
+-- The bytes are accepted, and the text is the report of a run of their policies.
+pub record IsRun (halts : Bool) (net : NetSeen) (xs text : List ℕ) : Type 0 where
+  pub document : Doc
+  pub versions : List Version
+  pub accepted : IsAcceptedAs xs document versions
+  pub run : IsRunOf halts net document versions text
+
+-- The source was read to its end, and the text is the report of a run: Halted if the updates stand still, and Done if not.
+pub record IsRunAnswer (source : SourceSeen) (net : NetSeen) (status : Status) (text : List ℕ) : Type 0 where
+  pub halts : Bool
+  pub status_is : status ≡ report_status halts
+  pub read : Reads (λ xs. IsRun halts net xs text) source
+
+-- The source was read to its end, its document is accepted, and then a count rose: that of pairs, or that of threads.
+pub record IsCut (source : SourceSeen) (count : Change ℕ) : Type 0 where
+  pub read : Reads IsAccepted source
+  pub rose : HasRisen count
+
+-- why it stops: as every command does, or for a pair or a thread that could not be made
+abbrev pub RunStopsBy : SourceSeen → Change ℕ → Change ℕ → Fault → Type 0
+RunStopsBy source pairs threads fault.Net = IsCut source pairs
+RunStopsBy source pairs threads fault.NoThread = IsCut source threads
+RunStopsBy source pairs threads fault.Read = StopsBy IsRefused source fault.Read
+RunStopsBy source pairs threads fault.Usage = StopsBy IsRefused source fault.Usage
+RunStopsBy source pairs threads (fault.Line line column f) = StopsBy IsRefused source (fault.Line line column f)
+RunStopsBy source pairs threads (fault.NotEnabled line) = StopsBy IsRefused source (fault.NotEnabled line)
+RunStopsBy source pairs threads (fault.Compile policy f) = StopsBy IsRefused source (fault.Compile policy f)
+RunStopsBy source pairs threads (fault.Emit policy f) = StopsBy IsRefused source (fault.Emit policy f)
+
+-- the same, if it is not out of memory, before which no read failed
+abbrev pub RunStops : SourceSeen → Change ℕ → Change ℕ → AnswerError → Type 0
+RunStops source pairs threads (error.Fault f) = RunStopsBy source pairs threads f
+RunStops source pairs threads error.Memory = IsSame source.faults
+
+-- ---- of a document, as the calls tell it
+
+-- the report of a run, with the status by how it ends
+pub record IsRanAs (net : NetSeen) (d : Doc) (versions : List Version) (a : Answer) : Type 0 where
+  pub halts : Bool
+  pub status : a.status ≡ report_status halts
+  pub run : IsRunOf halts net d versions a.text
+
+-- which count rose; nothing is said of memory
+abbrev pub TellsCut : Change ℕ → Change ℕ → AnswerError → Type 0
+TellsCut pairs threads error.Memory = Unit {0}
+TellsCut pairs threads (error.Fault fault.Net) = HasRisen pairs
+TellsCut pairs threads (error.Fault fault.NoThread) = HasRisen threads
+TellsCut pairs threads (error.Fault fault.Read) = ⊥
+TellsCut pairs threads (error.Fault fault.Usage) = ⊥
+TellsCut pairs threads (error.Fault (fault.Line line column f)) = ⊥
+TellsCut pairs threads (error.Fault (fault.NotEnabled line)) = ⊥
+TellsCut pairs threads (error.Fault (fault.Compile policy f)) = ⊥
+TellsCut pairs threads (error.Fault (fault.Emit policy f)) = ⊥

@@ -1,0 +1,134 @@
+//! The batch of a phase, read off the rows of the policies.
+ghost use Rattle.std.specs.Prelude.{◌≡◌, ◌<◌, [], ◌∷◌, ◌+◌, ℕ, Some, drop, length, slice_get, IfOk, IfNone, IfSome, option_map};
+ghost use Rattle.update_plan.specs.declared.cursor.Cursor.{Cursor as CursorValue};
+ghost use Rattle.update_plan.specs.Reading.{cursor_at};
+ghost use Rattle.update_plan.specs.declared.cursor.Span.{Span as SpanValue};
+ghost use Rattle.update_coordinator.specs.Batches.{version_at, wipe};
+ghost use Rattle.update_coordinator.specs.Reading.{left_in, share_in, coming_in, going_in, begun_again, AreBetween};
+
+use crate::phase::Phase;
+use nk_values::{ANY_PORT, Actions, Command, FlowMod, Pattern, Rows};
+use session_core::Move;
+use std::alloc::{AllocError, Global};
+use update_plan::{Cursor, Read, Share, Span, read_next};
+
+// Reads the next flow mod of a phase's batch at a switch, of which so many went out.
+pub(crate) fn read_in(
+    alloc: Global,
+    versions: &[Rows],
+    phase: Phase,
+    sw: u16,
+    next: usize,
+    cursor: Cursor,
+    span: Span,
+) -> Result<Option<Read>, AllocError>
+    requires { AreBetween versions.now sw span }
+    ensures none { IfOk result (λ r. IfNone r (left_in versions.now phase sw next cursor ≡ [])) }
+    ensures some { IfOk result (λ r. IfSome r (λ x. left_in versions.now phase sw next cursor ≡ x.change ∷ left_in versions.now phase sw (next + 1) x.cursor)) }
+{
+    match phase {
+        Phase::Opening => Ok(wiping(alloc, next, cursor)),
+        Phase::Idle(_)
+        | Phase::Install(_)
+        | Phase::Flip(_, _)
+        | Phase::Drain(_)
+        | Phase::Clean(_) => read_next(
+            alloc,
+            cursor,
+            share_in(phase),
+            coming_in(versions, phase),
+            going_in(versions, phase),
+            sw,
+            span,
+        ),
+    }
+}
+
+// Reads the flow mod that empties a table, where it did not go out yet.
+fn wiping(alloc: Global, next: usize, cursor: Cursor) -> Option<Read>
+    ensures none { IfNone result (drop next (wipe ∷ []) ≡ []) }
+    ensures some { IfSome result (λ x. drop next (wipe ∷ []) ≡ x.change ∷ drop (next + 1) (wipe ∷ [])) }
+{
+    if next > 0 {
+        return None;
+    }
+    Some(Read {
+        change: FlowMod {
+            command: Command::Delete,
+            pattern: Pattern::any(),
+            priority: 0,
+            out_port: ANY_PORT,
+            actions: Actions::new(alloc),
+        },
+        cursor,
+    })
+}
+
+// Which rows of a port come or go in a phase.
+fn share_in(phase: Phase) -> Share
+    ensures { result ≡ share_in phase }
+{
+    match phase {
+        Phase::Flip(_, round) => Share::Round(round),
+        _ => Share::Bulk,
+    }
+}
+
+// The rows of the policy that comes in.
+fn coming_in(versions: &[Rows], phase: Phase) -> Option<&Rows>
+    ensures { option_map (λ r. r.now) result ≡ coming_in versions.now phase }
+{
+    match phase {
+        Phase::Install(policy) => version_at(versions, policy),
+        Phase::Flip(policy, _) => version_at(versions, policy),
+        _ => None,
+    }
+}
+
+// The rows of the policy that goes.
+fn going_in(versions: &[Rows], phase: Phase) -> Option<&Rows>
+    ensures { option_map (λ r. r.now) result ≡ going_in versions.now phase }
+{
+    match phase {
+        Phase::Flip(policy, _) => version_at(versions, policy.saturating_sub(1)),
+        Phase::Clean(policy) => version_at(versions, policy.saturating_sub(1)),
+        _ => None,
+    }
+}
+
+// The rows of a policy, if there is one: policies are numbered from 1.
+fn version_at(versions: &[Rows], policy: usize) -> Option<&Rows>
+    ensures { option_map (λ r. r.now) result ≡ version_at versions.now policy }
+{
+    if policy == 0 {
+        return None;
+    }
+    versions.get(policy - 1)
+}
+
+// Each cursor goes to the front of the batch that begins.
+pub(crate) fn begin_all(cursors: &mut [Cursor], spans: &[Span])
+    requires { length spans.now ≡ length cursors.old }
+    ensures count { length cursors.new ≡ length cursors.old }
+    ensures front { (k : ℕ) (x : CursorValue) (span : SpanValue) → slice_get cursors.new k ≡ Some x → slice_get spans.now k ≡ Some span → x ≡ cursor_at span }
+{
+    for (place, span) in spans.iter().enumerate() {
+        cursors[place] = Cursor::new(*span);
+    }
+}
+
+// The cursor of a switch whose features are heard goes to the front of its batch, where the batch is due.
+pub(crate) fn begin_again(
+    cursors: &mut [Cursor],
+    place: usize,
+    span: Span,
+    answer: &Move,
+    due: bool,
+)
+    requires { place < length cursors.old }
+    ensures { cursors.new ≡ begun_again due answer.now place span cursors.old }
+{
+    if due && matches!(answer, Move::Up) {
+        cursors[place] = Cursor::new(span);
+    }
+}

@@ -1,0 +1,158 @@
+//! What the messages of a switch do, and the loss and the return of its session.
+ghost use Rattle.std.specs.Prelude.{ℕ, IsTrue, ◌↔◌, ◌≡◌, ◌<◌, ◌≢◌, None, IfErr, IfOk, OnOk, OnErr, length};
+
+use crate::batch::{begin_again, begin_all};
+use crate::cause::Cause;
+use crate::coordinator::Coordinator;
+use crate::phase::Phase;
+use crate::refusal::Refusal;
+use crate::sites::{begin_phases, come_back, hear, lose};
+use barrier_tracker::Heard;
+use openflow_wire::Message;
+use session_core::Move;
+
+impl Coordinator {
+    ghost use Rattle.std.specs.Prelude.{◌≤◌};
+    ghost use Rattle.update_coordinator.specs.Calls.{IsRefusedAway, IsRefusedPresent};
+    ghost use Rattle.update_coordinator.specs.Controls.{halted, in_phase};
+    ghost use Rattle.update_coordinator.specs.Counts.{comes_to, behind};
+    ghost use Rattle.update_coordinator.specs.Hearing.{IsHeard, IsAnswered, IsLost, IsBack, IsAway, IsSentAway, due};
+
+    /// Takes a message of the switch at a place.
+    pub fn heard(&mut self, place: usize, message: &Message) -> Result<Move, Refusal>
+        requires { place < length self.old.sites }
+        ensures ok { IfOk result (IsHeard place message.now self.old self.new) }
+        ensures refused { IfErr result (IsRefusedAway place self.old) }
+        ensures err { OnErr result (self.new ≡ self.old) }
+    {
+        if self.halt.is_some() {
+            return Err(Refusal::Halted);
+        }
+        if self.sites[place].is_away() {
+            return Err(Refusal::Away);
+        }
+        let sw = self.sites[place].sw();
+        let due = self.is_due(place);
+        let answer = hear(&mut self.sites, place, message, due);
+        begin_again(&mut self.cursors, place, self.spans[place], &answer, due);
+        match answer {
+            Move::Barrier(xid) => self.answered(place, xid),
+            Move::Failed(fault) => self.stand(Cause::Failed(sw, fault)),
+            Move::Greeted | Move::Up | Move::Echo | Move::Ignored => {}
+        }
+        Ok(answer)
+    }
+
+    /// Whether the session with the switch at a place is lost.
+    pub fn away(&self, place: usize) -> bool
+        requires { place < length self.now.sites }
+        ensures { IsTrue result ↔ IsAway place self.now }
+    {
+        self.sites[place].is_away()
+    }
+
+    /// Takes the news that the session with the switch at a place is lost. Where no more may be lost, the updates stand
+    /// still.
+    pub fn lost(&mut self, place: usize) -> Result<(), Refusal>
+        requires { place < length self.old.sites }
+        ensures ok { OnOk result (IsLost place self.old self.new) }
+        ensures refused { IfErr result (IsRefusedAway place self.old) }
+        ensures err { OnErr result (self.new ≡ self.old) }
+    {
+        if self.halt.is_some() {
+            return Err(Refusal::Halted);
+        }
+        if self.sites[place].is_away() {
+            return Err(Refusal::Away);
+        }
+        if self.rejoins == 0 {
+            let sw = self.sites[place].sw();
+            self.stand(Cause::Lost(sw));
+        } else {
+            self.lose(place);
+        }
+        Ok(())
+    }
+
+    /// Takes the news that the switch at a place is there again.
+    pub fn rejoin(&mut self, place: usize) -> Result<(), Refusal>
+        requires { place < length self.old.sites }
+        ensures ok { OnOk result (IsBack place self.old self.new) }
+        ensures refused { IfErr result (IsRefusedPresent place self.old) }
+        ensures err { OnErr result (self.new ≡ self.old) }
+    {
+        if self.halt.is_some() {
+            return Err(Refusal::Halted);
+        }
+        if !self.sites[place].is_away() {
+            return Err(Refusal::NotAway);
+        }
+        come_back(&mut self.sites, place);
+        Ok(())
+    }
+
+    /// Stands still from now on.
+    pub fn stop(&mut self, cause: Cause) -> Result<(), Refusal>
+        ensures ok { OnOk result ((self.old.halt ≡ None) × (self.new ≡ halted cause self.old)) }
+        ensures refused { IfErr result (λ r. (r ≡ Refusal.Halted) × (self.old.halt ≢ None)) }
+        ensures err { OnErr result (self.new ≡ self.old) }
+    {
+        if self.halt.is_some() {
+            return Err(Refusal::Halted);
+        }
+        self.stand(cause);
+        Ok(())
+    }
+
+    // Whether the switch at a place was not heard for the batch of this phase.
+    fn is_due(&self, place: usize) -> bool
+        requires { place < length self.now.sites }
+        ensures { result ≡ due place self.now }
+    {
+        self.phase.works() && !self.replies.is_heard(place)
+    }
+
+    // The session with the switch at a place is lost, and the updates go on.
+    fn lose(&mut self, place: usize)
+        requires within { place < length self.old.sites }
+        requires some { 0 < self.old.rejoins }
+        ensures { IsSentAway place self.old self.new }
+    {
+        lose(&mut self.sites, place);
+        self.replies.forget(place);
+        self.rejoins -= 1;
+    }
+
+    // Takes a barrier's reply.
+    fn answered(&mut self, place: usize, xid: u32)
+        requires { place < length self.old.sites }
+        ensures { IsAnswered place xid self.old self.new }
+    {
+        match self.replies.heard(place, xid) {
+            Heard::Last => {
+                let phase = self.phase.acknowledged(&self.rounds);
+                self.enter(phase);
+            }
+            Heard::More => {}
+            Heard::Stray => {}
+        }
+    }
+
+    // Stands still.
+    pub(crate) fn stand(&mut self, cause: Cause)
+        ensures { self.new ≡ halted cause self.old }
+    {
+        self.halt = Some(cause);
+    }
+
+    // A phase begins.
+    pub(crate) fn enter(&mut self, phase: Phase)
+        requires { (sw : ℕ) → comes_to self.old.versions phase sw ≤ behind self.old.versions self.old.phase sw }
+        ensures { self.new ≡ in_phase phase self.old }
+    {
+        self.replies.restart();
+        self.phase = phase;
+        begin_phases(&mut self.sites, phase.works());
+        begin_all(&mut self.cursors, &self.spans);
+    }
+}

@@ -1,0 +1,117 @@
+//! What goes to a switch, message by message.
+ghost use Rattle.std.specs.Prelude.{IsTrue, ◌↔◌, ◌≡◌, ◌<◌, None, Some, IfOk, OnErr, IfNone, IfSome, length, slice_get};
+
+use crate::batch::read_in;
+use crate::coordinator::Coordinator;
+use crate::sites::{change, fence, greet};
+use openflow_wire::Message;
+use std::alloc::{AllocError, Global};
+use update_plan::Read;
+
+impl Coordinator {
+    ghost use Rattle.std.specs.Prelude.{false, true};
+    ghost use Rattle.openflow_wire.specs.Writing.{Fits};
+    ghost use Rattle.update_coordinator.specs.Controls.{Site as SiteValue};
+    ghost use Rattle.update_coordinator.specs.Hearing.{IsAway};
+    ghost use Rattle.update_coordinator.specs.Reading.{IsAtEnd, IsAtChange};
+    ghost use Rattle.update_coordinator.specs.Sending.{IsSent, MaySend, Owes};
+    ghost use Rattle.update_coordinator.specs.Sites.{in_batch};
+
+    /// Whether something may go to the switch at a place.
+    pub fn may_send(&self, place: usize) -> bool
+        requires { place < length self.now.sites }
+        ensures sent { IsTrue result ↔ MaySend place self.now }
+        // Nothing goes to a switch that is away.
+        ensures away { IsAway place self.now → ¬ (MaySend place self.now) }
+    {
+        self.halt.is_none() && self.sites[place].may_send()
+    }
+
+    /// Gives the next message to the switch at a place. After an `Err` all is as it was.
+    pub fn next_out(&mut self, alloc: Global, place: usize) -> Result<Option<Message>, AllocError>
+        requires { place < length self.old.sites }
+        ensures none { IfOk result (λ m. IfNone m (¬ (MaySend place self.old) × (self.new ≡ self.old))) }
+        ensures some { IfOk result (λ m. IfSome m (IsSent place self.old self.new)) }
+        ensures fits { IfOk result (λ m. IfSome m Fits) }
+        ensures err { OnErr result (self.new ≡ self.old) }
+    {
+        if self.halt.is_some() {
+            return Ok(None);
+        }
+        if !self.sites[place].is_in_batch() {
+            return Ok(self.greet(place));
+        }
+        match self.read(alloc, place)? {
+            Some(read) => Ok(Some(self.send_change(place, read))),
+            None => Ok(Some(self.send_fence(place))),
+        }
+    }
+
+    /// Whether the switch at a place owes a reply: it was asked for its features or got a barrier.
+    pub fn owes(&self, place: usize) -> bool
+        requires { place < length self.now.sites }
+        ensures owed { IsTrue result ↔ Owes place self.now }
+        // A switch that is away owes nothing.
+        ensures away { IsAway place self.now → ¬ (Owes place self.now) }
+    {
+        self.sites[place].is_asked() || self.replies.owes(place)
+    }
+
+    // HELLO or the request for the features goes to the switch at a place, where they come first.
+    fn greet(&mut self, place: usize) -> Option<Message>
+        requires within { place < length self.old.sites }
+        requires running { self.old.halt ≡ None }
+        requires turn { (s : SiteValue) → slice_get self.old.sites place ≡ Some s → in_batch s.greets s.asks s.sends ≡ false }
+        ensures none { IfNone result (¬ (MaySend place self.old) × (self.new ≡ self.old)) }
+        ensures some { IfSome result (IsSent place self.old self.new) }
+        ensures fits { IfSome result Fits }
+    {
+        greet(&mut self.sites, place)
+    }
+
+    // The next flow mod of the batch of the switch at a place.
+    fn read(&self, alloc: Global, place: usize) -> Result<Option<Read>, AllocError>
+        requires within { place < length self.now.sites }
+        ensures none { IfOk result (λ r. IfNone r (IsAtEnd place self.now)) }
+        ensures some { IfOk result (λ r. IfSome r (λ x. IsAtChange place x.change x.cursor self.now)) }
+    {
+        let site = &self.sites[place];
+        read_in(
+            alloc,
+            &self.versions,
+            self.phase,
+            site.sw(),
+            site.next(),
+            self.cursors[place],
+            self.spans[place],
+        )
+    }
+
+    // A flow mod goes to the switch at a place.
+    fn send_change(&mut self, place: usize, read: Read) -> Message
+        requires within { place < length self.old.sites }
+        requires running { self.old.halt ≡ None }
+        requires turn { (s : SiteValue) → slice_get self.old.sites place ≡ Some s → in_batch s.greets s.asks s.sends ≡ true }
+        requires change { IsAtChange place read.change read.cursor self.old }
+        ensures sent { IsSent place self.old self.new result }
+        ensures fits { Fits result }
+    {
+        let message = change(&mut self.sites, place, read.change);
+        self.cursors[place] = read.cursor;
+        message
+    }
+
+    // The barrier of its batch goes to the switch at a place.
+    fn send_fence(&mut self, place: usize) -> Message
+        requires within { place < length self.old.sites }
+        requires running { self.old.halt ≡ None }
+        requires turn { (s : SiteValue) → slice_get self.old.sites place ≡ Some s → in_batch s.greets s.asks s.sends ≡ true }
+        requires end { IsAtEnd place self.old }
+        ensures sent { IsSent place self.old self.new result }
+        ensures fits { Fits result }
+    {
+        let xid = fence(&mut self.sites, place);
+        self.replies.expect(place, xid);
+        Message::BarrierRequest { xid }
+    }
+}

@@ -1,0 +1,80 @@
+//! How far the batch of a switch is read, and where the rows of the switch stand.
+ghost use Rattle.std.specs.Prelude.{◌≡◌};
+
+use nk_values::PortRows;
+
+/// Which rows of a port come or go in a batch.
+#[derive(Clone, Copy, Debug, PartialEq, Eq)]
+pub enum Share {
+    /// Those that come or go at once.
+    Bulk,
+    /// Those of this round.
+    Round(usize),
+}
+
+/// A port among the ports of a policy's rows, and a row of it.
+#[derive(Clone, Copy, Debug, PartialEq, Eq)]
+pub struct Place {
+    pub port: usize,
+    pub row: usize,
+}
+
+/// How far a batch is read: what comes in is read first, and then what goes.
+#[derive(Clone, Copy, Debug, PartialEq, Eq)]
+pub struct Cursor {
+    pub goes: bool,
+    pub at: Place,
+}
+
+/// Between which places the ports of a switch stand among the ports of policies' rows.
+#[derive(Clone, Copy, Debug, PartialEq, Eq)]
+pub struct Span {
+    pub first: usize,
+    pub end: usize,
+}
+
+impl Span {
+    ghost use Rattle.update_plan.specs.Reading.{IsSpan, joined};
+
+    /// That of a switch among these ports.
+    pub fn new(ports: &[PortRows], sw: u16) -> Span
+        ensures { IsSpan result sw ports.now }
+    {
+        let mut first = ports.len();
+        let mut end = 0;
+        for (place, port) in ports.iter().enumerate() {
+            if port.sw == sw {
+                first = first.min(place);
+                end = place + 1;
+            }
+        }
+        Span { first, end }
+    }
+
+    /// Both together.
+    pub fn joined(self, other: Span) -> Span
+        ensures { result ≡ joined self other }
+    {
+        Span {
+            first: self.first.min(other.first),
+            end: self.end.max(other.end),
+        }
+    }
+}
+
+impl Cursor {
+    ghost use Rattle.update_plan.specs.Reading.{cursor_at};
+
+    /// Where the batch of a switch begins whose ports stand here.
+    pub fn new(span: Span) -> Cursor
+        ensures { result ≡ cursor_at span }
+    {
+        Cursor {
+            goes: false,
+            at: Place {
+                port: span.first,
+                row: 0,
+            },
+        }
+    }
+}

@@ -1,0 +1,5 @@
+pub mod Faults
+pub mod Histories
+pub mod Rules
+pub mod Traces
+pub mod Values

@@ -1,0 +1,110 @@
+// The texts of histories.
+ghost use Rattle.std.specs.Prelude.{◌≡◌, ◌++◌, OnOk, IfOk, string_bytes};
+ghost use Rattle.value_text.specs.Histories.{changed, more_fields, braced, step_text, steps_text, path_text, history_text};
+
+use crate::text::Text;
+use crate::values::{put_field, put_place};
+use nk_values::{Field, History, Packet};
+use std::alloc::{AllocError, Global};
+
+/// A history, oldest packet first: for each packet `S:B`, joined by `>`, and behind each but the first the
+/// header fields that changed, between braces.
+pub fn history_text(alloc: Global, history: &History) -> Result<Text, AllocError>
+    ensures { IfOk result (λ t. t ≡ history_text history.now) }
+{
+    let mut out = String::new(alloc);
+    put_history(alloc, &mut out, history)?;
+    Ok(Text::new(out))
+}
+
+/// Puts a history at the end.
+pub fn put_history(alloc: Global, out: &mut String, history: &History) -> Result<(), AllocError>
+    ensures { OnOk result (string_bytes out.new ≡ string_bytes out.old ++ history_text history.now) }
+{
+    put_path(alloc, out, &history.older(alloc)?, history.newest())
+}
+
+// Puts a path at the end: these packets, and the last one.
+fn put_path(
+    alloc: Global,
+    out: &mut String,
+    packets: &[Packet],
+    newest: &Packet,
+) -> Result<(), AllocError>
+    ensures { OnOk result (string_bytes out.new ≡ string_bytes out.old ++ path_text packets.now newest.now) }
+{
+    match packets.split_first() {
+        None => put_place(out, newest.sw, newest.pt),
+        Some((first, more)) => {
+            put_place(out, first.sw, first.pt)?;
+            put_steps(alloc, out, first, more, newest)
+        }
+    }
+}
+
+// Puts the packets behind one at the end, and the last one.
+fn put_steps(
+    alloc: Global,
+    out: &mut String,
+    first: &Packet,
+    packets: &[Packet],
+    newest: &Packet,
+) -> Result<(), AllocError>
+    ensures { OnOk result (string_bytes out.new ≡ string_bytes out.old ++ steps_text first.now packets.now newest.now) }
+{
+    let mut last = *first;
+    for packet in packets {
+        put_step(alloc, out, &last, packet)?;
+        last = *packet;
+    }
+    put_step(alloc, out, &last, newest)
+}
+
+// Puts a packet behind another at the end.
+fn put_step(
+    alloc: Global,
+    out: &mut String,
+    before: &Packet,
+    packet: &Packet,
+) -> Result<(), AllocError>
+    ensures { OnOk result (string_bytes out.new ≡ string_bytes out.old ++ step_text before.now packet.now) }
+{
+    out.push_str(">")?;
+    put_place(out, packet.sw, packet.pt)?;
+    put_braced(out, packet, &changed(alloc, before, packet)?)
+}
+
+// The header fields in which a packet differs from the one before.
+fn changed(alloc: Global, before: &Packet, packet: &Packet) -> Result<Vec<Field>, AllocError>
+    ensures { IfOk result (λ v. v.items ≡ changed before.now packet.now) }
+{
+    Field::HEADER
+        .iter()
+        .copied()
+        .filter(|field| !(before.get(*field) == packet.get(*field)))
+        .collect(alloc)
+}
+
+// Puts fields of a packet at the end, between braces, if there are any.
+fn put_braced(out: &mut String, packet: &Packet, fields: &[Field]) -> Result<(), AllocError>
+    ensures { OnOk result (string_bytes out.new ≡ string_bytes out.old ++ braced packet.now fields.now) }
+{
+    let Some((first, more)) = fields.split_first() else {
+        return Ok(());
+    };
+    out.push_str("{")?;
+    put_field(out, *first, packet.get(*first))?;
+    put_more_fields(out, packet, more)?;
+    out.push_str("}")
+}
+
+// Puts fields at the end, each behind a comma.
+fn put_more_fields(out: &mut String, packet: &Packet, fields: &[Field]) -> Result<(), AllocError>
+    ensures { OnOk result (string_bytes out.new ≡ string_bytes out.old ++ more_fields packet.now fields.now) }
+{
+    for field in fields {
+        out.push_str(",")?;
+        put_field(out, *field, packet.get(*field))?;
+    }
+    Ok(())
+}

@@ -1,0 +1,249 @@
+// The texts of rows.
+ghost use Rattle.std.specs.Prelude.{◌≡◌, ◌++◌, OnOk, IfOk, string_bytes};
+ghost use Rattle.value_text.specs.Values.{line};
+ghost use Rattle.value_text.specs.Rules.{in_text, vlan_text, fixed_text, address_of, frame_text, network_text, pattern_text, set_text, action_text, more_actions, actions_text, row_text, rows_text, port_text, switch_text, band_text, head_text, version_text, versions_text, rules_text};
+
+use crate::text::Text;
+use crate::values::{put_field, put_number, put_value};
+use nk_values::{Action, Band, Field, Pattern, PortRows, Prefix, Row, Rows, UNTAGGED};
+use policy_rows::Version;
+use std::alloc::{AllocError, Global};
+use topology_model::{Site, Topology};
+
+/// The rows of all policies, which count from 1: for each its stamp and band, and switch by switch the rows of
+/// its ports, in the order in which they count.
+pub fn rules_text(
+    alloc: Global,
+    versions: &[Version],
+    topology: &Topology,
+) -> Result<Text, AllocError>
+    ensures { IfOk result (λ t. t ≡ rules_text versions.now topology.now) }
+{
+    let mut out = String::new(alloc);
+    for (before, version) in versions.iter().enumerate() {
+        put_version(
+            &mut out,
+            before as u64 + 1,
+            &version.rows,
+            topology.switches(),
+        )?;
+    }
+    Ok(Text::new(out))
+}
+
+// Puts the rows of a policy at the end.
+fn put_version(out: &mut String, policy: u64, rows: &Rows, sites: &[Site]) -> Result<(), AllocError>
+    ensures { OnOk result (string_bytes out.new ≡ string_bytes out.old ++ version_text policy rows.now sites.now) }
+{
+    put_head(out, policy, rows)?;
+    for site in sites {
+        put_switch(out, rows.ports.as_slice(), site)?;
+    }
+    Ok(())
+}
+
+// Puts the line of a policy at the end.
+fn put_head(out: &mut String, policy: u64, rows: &Rows) -> Result<(), AllocError>
+    ensures { OnOk result (string_bytes out.new ≡ string_bytes out.old ++ head_text policy rows.now) }
+{
+    out.push_str("policy ")?;
+    put_number(out, policy)?;
+    out.push_str(" stamp ")?;
+    put_number(out, u64::from(rows.stamp))?;
+    out.push_str(band(rows.band))?;
+    out.push_str("\n")
+}
+
+fn band(band: Band) -> &'static str
+    ensures { result.now ≡ band_text band }
+{
+    match band {
+        Band::High => " band high",
+        Band::Low => " band low",
+    }
+}
+
+// Puts a switch and the rows of its ports at the end.
+fn put_switch(out: &mut String, ports: &[PortRows], site: &Site) -> Result<(), AllocError>
+    ensures { OnOk result (string_bytes out.new ≡ string_bytes out.old ++ switch_text ports.now site.now) }
+{
+    out.push_str("switch ")?;
+    put_number(out, u64::from(site.sw))?;
+    out.push_str("\n")?;
+    for port in ports {
+        put_port_at(out, port, site.sw)?;
+    }
+    Ok(())
+}
+
+// Puts the rows of a port at the end, if it is the switch's.
+fn put_port_at(out: &mut String, port: &PortRows, sw: u16) -> Result<(), AllocError>
+    ensures { OnOk result (string_bytes out.new ≡ string_bytes out.old ++ port_text sw port.now) }
+{
+    if port.sw == sw {
+        put_rows(out, port.rows.as_slice())?;
+    }
+    Ok(())
+}
+
+fn put_rows(out: &mut String, rows: &[Row]) -> Result<(), AllocError>
+    ensures { OnOk result (string_bytes out.new ≡ string_bytes out.old ++ rows_text rows.now) }
+{
+    for row in rows {
+        put_row(out, row)?;
+    }
+    Ok(())
+}
+
+// Puts the line of a row at the end.
+fn put_row(out: &mut String, row: &Row) -> Result<(), AllocError>
+    ensures { OnOk result (string_bytes out.new ≡ string_bytes out.old ++ line (row_text row.now)) }
+{
+    put_number(out, u64::from(row.priority))?;
+    put_pattern(out, &row.pattern)?;
+    out.push_str(" : ")?;
+    put_actions(out, row.actions.as_slice())?;
+    out.push_str("\n")
+}
+
+// Puts what a pattern fixes at the end.
+fn put_pattern(out: &mut String, pattern: &Pattern) -> Result<(), AllocError>
+    ensures { OnOk result (string_bytes out.new ≡ string_bytes out.old ++ pattern_text pattern.now) }
+{
+    put_in(out, pattern.in_port)?;
+    put_vlan(out, pattern.dl_vlan)?;
+    put_frame(out, pattern)?;
+    put_network(out, pattern)
+}
+
+fn put_in(out: &mut String, port: Option<u16>) -> Result<(), AllocError>
+    ensures { OnOk result (string_bytes out.new ≡ string_bytes out.old ++ in_text port) }
+{
+    match port {
+        None => Ok(()),
+        Some(port) => {
+            out.push_str(" in=")?;
+            put_number(out, u64::from(port))
+        }
+    }
+}
+
+fn put_vlan(out: &mut String, vlan: Option<u16>) -> Result<(), AllocError>
+    ensures { OnOk result (string_bytes out.new ≡ string_bytes out.old ++ vlan_text vlan) }
+{
+    match vlan {
+        None => Ok(()),
+        Some(UNTAGGED) => out.push_str(" vlan=none"),
+        Some(id) => {
+            out.push_str(" vlan=")?;
+            put_number(out, u64::from(id))
+        }
+    }
+}
+
+fn put_frame(out: &mut String, pattern: &Pattern) -> Result<(), AllocError>
+    ensures { OnOk result (string_bytes out.new ≡ string_bytes out.old ++ frame_text pattern.now) }
+{
+    put_fixed(out, Field::EthTyp, half(pattern.dl_type))?;
+    put_fixed(out, Field::IpProto, byte(pattern.nw_proto))?;
+    put_fixed(out, Field::EthSrc, pattern.dl_src)?;
+    put_fixed(out, Field::EthDst, pattern.dl_dst)
+}
+
+fn put_network(out: &mut String, pattern: &Pattern) -> Result<(), AllocError>
+    ensures { OnOk result (string_bytes out.new ≡ string_bytes out.old ++ network_text pattern.now) }
+{
+    put_fixed(out, Field::Ip4Src, address(pattern.nw_src))?;
+    put_fixed(out, Field::Ip4Dst, address(pattern.nw_dst))?;
+    put_fixed(out, Field::TcpSrcPort, half(pattern.tp_src))?;
+    put_fixed(out, Field::TcpDstPort, half(pattern.tp_dst))
+}
+
+// The number of 16 bits, if there is one.
+fn half(number: Option<u16>) -> Option<u64>
+    ensures { result ≡ number }
+{
+    match number {
+        None => None,
+        Some(number) => Some(u64::from(number)),
+    }
+}
+
+// The number of 8 bits, if there is one.
+fn byte(number: Option<u8>) -> Option<u64>
+    ensures { result ≡ number }
+{
+    match number {
+        None => None,
+        Some(number) => Some(u64::from(number)),
+    }
+}
+
+// The address, if some of its bits are fixed. The rows of a policy fix all of them.
+fn address(prefix: Option<Prefix>) -> Option<u64>
+    ensures { result ≡ address_of prefix }
+{
+    match prefix {
+        None => None,
+        Some(prefix) => Some(u64::from(prefix.address)),
+    }
+}
+
+// Puts a field and its number at the end, if it is fixed.
+fn put_fixed(out: &mut String, field: Field, number: Option<u64>) -> Result<(), AllocError>
+    ensures { OnOk result (string_bytes out.new ≡ string_bytes out.old ++ fixed_text field number) }
+{
+    match number {
+        None => Ok(()),
+        Some(number) => {
+            out.push_str(" ")?;
+            put_field(out, field, number)
+        }
+    }
+}
+
+// Puts actions at the end, joined by commas, or `drop`.
+fn put_actions(out: &mut String, actions: &[Action]) -> Result<(), AllocError>
+    ensures { OnOk result (string_bytes out.new ≡ string_bytes out.old ++ actions_text actions.now) }
+{
+    let Some((first, more)) = actions.split_first() else {
+        return out.push_str("drop");
+    };
+    put_action(out, first)?;
+    for action in more {
+        out.push_str(", ")?;
+        put_action(out, action)?;
+    }
+    Ok(())
+}
+
+fn put_action(out: &mut String, action: &Action) -> Result<(), AllocError>
+    ensures { OnOk result (string_bytes out.new ≡ string_bytes out.old ++ action_text action.now) }
+{
+    match action {
+        Action::Output(port) => {
+            out.push_str("output ")?;
+            put_number(out, u64::from(*port))
+        }
+        Action::SetVlanVid(id) => {
+            out.push_str("vlan ")?;
+            put_number(out, u64::from(*id))
+        }
+        Action::StripVlan => out.push_str("strip"),
+        Action::SetDlSrc(number) => put_set(out, Field::EthSrc, *number),
+        Action::SetDlDst(number) => put_set(out, Field::EthDst, *number),
+        Action::SetNwSrc(number) => put_set(out, Field::Ip4Src, u64::from(*number)),
+        Action::SetNwDst(number) => put_set(out, Field::Ip4Dst, u64::from(*number)),
+        Action::SetTpSrc(number) => put_set(out, Field::TcpSrcPort, u64::from(*number)),
+        Action::SetTpDst(number) => put_set(out, Field::TcpDstPort, u64::from(*number)),
+    }
+}
+
+fn put_set(out: &mut String, field: Field, number: u64) -> Result<(), AllocError>
+    ensures { OnOk result (string_bytes out.new ≡ string_bytes out.old ++ set_text field number) }
+{
+    out.push_str("set ")?;
+    out.push_str(field.name())?;
+    out.push_str(" ")?;
+    put_value(out, field, number)
+}

@@ -1,0 +1,139 @@
+// The texts of numbers and fields.
+ghost use Rattle.std.specs.Prelude.{◌≡◌, ◌+◌, ◌++◌, ◌<◌, ◌∷◌, [], OnOk, string_bytes, decimal};
+ghost use Rattle.value_text.specs.Values.{hex_digit, hex_byte, hex_half, colon_triple, mac_text, dotted_pair, ip_text, value_text, field_text, fields_text, packet_text, place_text};
+
+use nk_values::{Field, Packet};
+use std::alloc::AllocError;
+
+/// Puts a number in decimal at the end.
+pub fn put_number(out: &mut String, number: u64) -> Result<(), AllocError>
+    ensures { OnOk result (string_bytes out.new ≡ string_bytes out.old ++ decimal number) }
+{
+    if number < 10 {
+        return put_digit(out, number);
+    }
+    put_number(out, number / 10)?;
+    put_digit(out, number % 10)
+}
+
+fn put_digit(out: &mut String, digit: u64) -> Result<(), AllocError>
+    requires { digit < 10 }
+    ensures { OnOk result (string_bytes out.new ≡ string_bytes out.old ++ (48 + digit) ∷ []) }
+{
+    out.push(char::from(48 + digit as u8))
+}
+
+// A digit below 16.
+fn hex_digit(digit: u8) -> u8
+    requires { digit < 16 }
+    ensures digit { result ≡ hex_digit digit }
+    ensures ascii { result < 128 }
+{
+    if digit < 10 { 48 + digit } else { 87 + digit }
+}
+
+/// Puts the last byte of a number at the end, in two hexadecimal digits.
+pub fn put_hex_byte(out: &mut String, number: u64) -> Result<(), AllocError>
+    ensures { OnOk result (string_bytes out.new ≡ string_bytes out.old ++ hex_byte number) }
+{
+    out.push(char::from(hex_digit((number / 16 % 16) as u8)))?;
+    out.push(char::from(hex_digit((number % 16) as u8)))
+}
+
+// Puts the last three at the end.
+fn put_colon_triple(out: &mut String, number: u64) -> Result<(), AllocError>
+    ensures { OnOk result (string_bytes out.new ≡ string_bytes out.old ++ colon_triple number) }
+{
+    put_hex_byte(out, number / 65536)?;
+    out.push_str(":")?;
+    put_hex_byte(out, number / 256)?;
+    out.push_str(":")?;
+    put_hex_byte(out, number)
+}
+
+fn put_mac(out: &mut String, number: u64) -> Result<(), AllocError>
+    ensures { OnOk result (string_bytes out.new ≡ string_bytes out.old ++ mac_text number) }
+{
+    put_colon_triple(out, number / 16777216)?;
+    out.push_str(":")?;
+    put_colon_triple(out, number)
+}
+
+// Puts the last two bytes at the end, in decimal.
+fn put_dotted_pair(out: &mut String, number: u64) -> Result<(), AllocError>
+    ensures { OnOk result (string_bytes out.new ≡ string_bytes out.old ++ dotted_pair number) }
+{
+    put_number(out, number / 256 % 256)?;
+    out.push_str(".")?;
+    put_number(out, number % 256)
+}
+
+fn put_ip(out: &mut String, number: u64) -> Result<(), AllocError>
+    ensures { OnOk result (string_bytes out.new ≡ string_bytes out.old ++ ip_text number) }
+{
+    put_dotted_pair(out, number / 65536)?;
+    out.push_str(".")?;
+    put_dotted_pair(out, number)
+}
+
+fn put_hex_half(out: &mut String, number: u64) -> Result<(), AllocError>
+    ensures { OnOk result (string_bytes out.new ≡ string_bytes out.old ++ hex_half number) }
+{
+    put_hex_byte(out, number / 256)?;
+    put_hex_byte(out, number)
+}
+
+/// Puts the number of a field at the end: ethTyp in hexadecimal, addresses in their usual forms, others in
+/// decimal.
+pub fn put_value(out: &mut String, field: Field, number: u64) -> Result<(), AllocError>
+    ensures { OnOk result (string_bytes out.new ≡ string_bytes out.old ++ value_text field number) }
+{
+    match field {
+        Field::EthTyp => {
+            out.push_str("0x")?;
+            put_hex_half(out, number)
+        }
+        Field::EthSrc | Field::EthDst => put_mac(out, number),
+        Field::Ip4Src | Field::Ip4Dst => put_ip(out, number),
+        Field::Sw | Field::Pt | Field::IpProto | Field::TcpSrcPort | Field::TcpDstPort => {
+            put_number(out, number)
+        }
+    }
+}
+
+/// Puts `f=value` at the end.
+pub fn put_field(out: &mut String, field: Field, number: u64) -> Result<(), AllocError>
+    ensures { OnOk result (string_bytes out.new ≡ string_bytes out.old ++ field_text field number) }
+{
+    out.push_str(field.name())?;
+    out.push_str("=")?;
+    put_value(out, field, number)
+}
+
+/// Puts `S:B` at the end.
+pub fn put_place(out: &mut String, sw: u64, pt: u64) -> Result<(), AllocError>
+    ensures { OnOk result (string_bytes out.new ≡ string_bytes out.old ++ place_text sw pt) }
+{
+    put_number(out, sw)?;
+    out.push_str(":")?;
+    put_number(out, pt)
+}
+
+/// Puts a packet at the end: `S:B` and then ` f=value` for the header.
+pub fn put_packet(out: &mut String, packet: &Packet) -> Result<(), AllocError>
+    ensures { OnOk result (string_bytes out.new ≡ string_bytes out.old ++ packet_text packet.now) }
+{
+    put_place(out, packet.sw, packet.pt)?;
+    put_fields(out, packet, &Field::HEADER)
+}
+
+/// Puts fields with their numbers at the end, each behind a blank.
+pub fn put_fields(out: &mut String, packet: &Packet, fields: &[Field]) -> Result<(), AllocError>
+    ensures { OnOk result (string_bytes out.new ≡ string_bytes out.old ++ fields_text packet.now fields.now) }
+{
+    for field in fields {
+        out.push_str(" ")?;
+        put_field(out, *field, packet.get(*field))?;
+    }
+    Ok(())
+}

@@ -1,0 +1,20 @@
+use Rattle.std.proofs.Common.{◌≤◌, ◌<◌, ◌∙◌, length, arith}
+use Rattle.std.proofs.lemmas.List.{length-set}
+use Rattle.workload_gen.specs.Counts.{IsCount}
+use Rattle.workload_gen.proofs.Recounting.{each-more, each-all}
+use Rattle.workload_gen.proofs.counting.recount_all.Goals as goal
+
+pub loop-place-preserved : goal.loop-place-preserved
+loop-place-preserved c =
+    let all = c.loop-place.invariant.all in
+    let within : c.loop-place.place < length c.loop-place.counts = omega (arith, all, c.loop-place-test.true) in
+    record {
+      all = length-set c.loop-place.counts c.loop-place.place c.count_at.result ∙ all;
+      each = each-more (IsCount c.args.world.now) c.loop-place.counts c.loop-place.place c.count_at.result within c.count_at.ensures c.loop-place.invariant.each;
+    }
+
+pub returns-clause-each : goal.returns-clause-each
+returns-clause-each c =
+    let all = c.loop-place.invariant.all in
+    let over : length c.loop-place.counts ≤ c.loop-place.place = omega (arith, all, c.loop-place-test.false) in
+    each-all (IsCount c.args.world.now) c.loop-place.counts c.loop-place.place over c.loop-place.invariant.each

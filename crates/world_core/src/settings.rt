@@ -1,0 +1,12 @@
+//! What a world is started with beside its policies and its topology.
+
+/// How far a copy goes, how many rows a switch holds, and how many sessions may be lost.
+#[derive(Clone, Copy, Debug, PartialEq, Eq)]
+pub struct Settings {
+    /// How many hops a copy may take, at least 1.
+    pub hops: u64,
+    /// For how many rows a switch has room.
+    pub capacity: usize,
+    /// How many sessions may be lost without a halt, at most 1,000.
+    pub rejoins: usize,
+}
