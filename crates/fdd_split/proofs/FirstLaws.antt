@@ -1,12 +1,14 @@
 -- First literals with a property.
-use Rattle.std.proofs.Common.{◌≡◌, ◌⊎◌, inl, inr, refl, sym, subst, arith, List, [], ◌∷◌, ◌++◌, Option, Some, None}
+use Rattle.std.proofs.Common.{◌≡◌, ◌⊎◌, inl, inr, refl, sym, ap, subst, arith, Option, Some, None}
 use Rattle.nk_values.specs.declared.lit.Lit.{Lit}
-use Rattle.nk_values.specs.Members.{IsIn}
-use Rattle.nk_values.proofs.MemberLaws.{in-left, in-right, in-either}
-use Rattle.fdd_nodes.specs.Trees.{Leaf}
-use Rattle.fdd_split.specs.declared.bars.Bar.{Bar}
-use Rattle.fdd_split.specs.Pairs.{Beside, Among, IsEarlier, IsFirstOf}
-use Rattle.fdd_split.specs.Threats.{Threat}
+use Rattle.nk_values.specs.Ranks.{rank}
+use Rattle.fdd_split.specs.Pairs.{IsBefore, IsEarlier, IsFirstOf, IsFirstWith}
+
+none_some : (x : Lit) → ¬ (None ≡ Some x)
+none_some x e = cc
+
+some_same : (l x : Lit) → Some l ≡ Some x → l ≡ x
+some_same l x e = cc
 
 pub first_none : (T : Lit → Type 0) (o : Option Lit) → IsFirstOf T o → o ≡ None → (x : Lit) → ¬ T x
 first_none T o h e = subst (λ (z : Option Lit). IsFirstOf T z) e h
@@ -27,61 +29,33 @@ first_joined T U V (Some l) (Some m) r f g o ha hb (inr e) =
     subst (λ (z : Option Lit). IsFirstOf V z) (sym e.0)
     (g m hb.0, λ x v. elim (o x v) [ inl t ↦ let z = ha.1 x t in omega (arith, z, e.1) | inr u ↦ hb.1 x u ])
 
-pub each_front : {X : Type 0} (P : X → Type 0) (zs xs ys : List X) → zs ≡ xs ++ ys → ((x : X) → IsIn zs x → P x) → (x : X) → IsIn xs x → P x
-each_front {X} P zs xs ys e h x i = h x (subst (λ (w : List X). IsIn w x) (sym e) (in-left xs ys x i))
+-- the first stays as it is, if nothing that is added comes before it
+pub first_stays : (T U V : Lit → Type 0) (o : Option Lit) → ((x : Lit) → T x → V x) → ((x : Lit) → V x → T x ⊎ U x) → IsFirstOf T o → ((x : Lit) → U x → ¬ IsBefore x o) → IsFirstOf V o
+first_stays T U V None f g h n = λ x v. elim (g x v) [ inl t ↦ h x t | inr u ↦ n x u tt ]
+first_stays T U V (Some l) f g h n =
+    (f l h.0, λ x v. elim (g x v) [ inl t ↦ h.1 x t | inr u ↦ let m = n x u in omega (arith, m) ])
 
-pub each_back : {X : Type 0} (P : X → Type 0) (zs xs ys : List X) → zs ≡ xs ++ ys → ((x : X) → IsIn zs x → P x) → (x : X) → IsIn ys x → P x
-each_back {X} P zs xs ys e h x i = h x (subst (λ (w : List X). IsIn w x) (sym e) (in-right xs ys x i))
+-- an earlier one is the first, if it is all that is added
+pub first_moves : (T U V : Lit → Type 0) (o : Option Lit) (l : Lit) → V l → ((x : Lit) → V x → T x ⊎ U x) → IsFirstOf T o → IsBefore l o → ((x : Lit) → U x → x ≡ l) → IsFirstOf V (Some l)
+first_moves T U V None l v g h b e =
+    (v, λ x w. elim (g x w) [ inl t ↦ absurd (h x t) | inr u ↦ let r = ap rank (e x u) in omega (arith, r) ])
+first_moves T U V (Some m) l v g h b e =
+    (v, λ x w. elim (g x w) [ inl t ↦ let r = h.1 x t in omega (arith, r, b) | inr u ↦ let r = ap rank (e x u) in omega (arith, r) ])
 
-pub beside_joined : (k : List Bar) (c : List Lit) (zs xs ys : List (List Lit)) (a b r : Option Lit) → zs ≡ xs ++ ys → IsFirstOf (Beside k c xs) a → IsFirstOf (Beside k c ys) b → IsEarlier a b r → IsFirstOf (Beside k c zs) r
-beside_joined k c zs xs ys a b r e ha hb w = subst (λ (v : List (List Lit)). IsFirstOf (Beside k c v) r) (sym e)
-    (first_joined (Beside k c xs) (Beside k c ys) (Beside k c (xs ++ ys)) a b r
-    (λ x t. record { other = t.other; among = in-left xs ys t.other t.among; pair = t.pair })
-    (λ x t. record { other = t.other; among = in-right xs ys t.other t.among; pair = t.pair })
-    (λ x t. elim (in-either xs ys t.other t.among) [
-      | inl i ↦ inl (record { other = t.other; among = i; pair = t.pair })
-      | inr i ↦ inr (record { other = t.other; among = i; pair = t.pair })
-    ])
-    ha hb w)
+-- a literal that was found is the first of itself
+pub first_found : (o : Option Lit) → IsFirstOf (λ x. o ≡ Some x) o
+first_found None = λ x e. none_some x e
+first_found (Some l) = (refl, λ x e. let r = ap rank (some_same l x e) in omega (arith, r))
 
-pub among_joined : (k : List Bar) (ds zs xs ys : List (List Lit)) (a b r : Option Lit) → zs ≡ xs ++ ys → IsFirstOf (Among k xs ds) a → IsFirstOf (Among k ys ds) b → IsEarlier a b r → IsFirstOf (Among k zs ds) r
-among_joined k ds zs xs ys a b r e ha hb w = subst (λ (v : List (List Lit)). IsFirstOf (Among k v ds) r) (sym e)
-    (first_joined (Among k xs ds) (Among k ys ds) (Among k (xs ++ ys) ds) a b r
-    (λ x t. record { one = t.one; among = in-left xs ys t.one t.among; beside = t.beside })
-    (λ x t. record { one = t.one; among = in-right xs ys t.one t.among; beside = t.beside })
-    (λ x t. elim (in-either xs ys t.one t.among) [
-      | inl i ↦ inl (record { one = t.one; among = i; beside = t.beside })
-      | inr i ↦ inr (record { one = t.one; among = i; beside = t.beside })
-    ])
-    ha hb w)
-
--- threats of a leaf are those among its copies
-pub leaf_threats : (k : List Bar) (cs : List (List Lit)) (o : Option Lit) → IsFirstOf (Among k cs cs) o → IsFirstOf (Threat k (Leaf cs)) o
-leaf_threats k cs o h = first_as (Among k cs cs) (Threat k (Leaf cs)) o
-    (λ x t. record {
-      packet = t.beside.pair.meets.packet;
-      clear = t.beside.pair.meets.clear;
-      one = t.one;
-      other = t.beside.other;
-      has_one = t.among;
-      has_other = t.beside.among;
-      same = t.beside.pair.meets.same;
-      alone = t.beside.pair.alone;
-    })
-    (λ x t. record {
-      one = t.one;
-      among = t.has_one;
-      beside = record {
-        other = t.other;
-        among = t.has_other;
-        pair = record { meets = record { packet = t.packet; clear = t.clear; same = t.same }; alone = t.alone };
-      };
-    })
-    h
-
-pub among_one : (k : List Bar) (cs ds : List (List Lit)) (c : List Lit) (o : Option Lit) → cs ≡ c ∷ [] → IsFirstOf (Beside k c ds) o → IsFirstOf (Among k cs ds) o
-among_one k cs ds c o e h = subst (λ (v : List (List Lit)). IsFirstOf (Among k v ds) o) (sym e)
-    (first_as (Beside k c ds) (Among k (c ∷ []) ds) o
-    (λ x t. record { one = c; among = inl refl; beside = t })
-    (λ x t. elim t.among [ inl i ↦ subst (λ (v : List Lit). Beside k v ds x) (sym i) t.beside | inr i ↦ absurd i ])
-    h)
+-- the first of what was found and of more
+pub first_with : (T P : Lit → Type 0) (found o : Option Lit) → IsFirstOf T found → IsFirstWith found P o → IsFirstOf (λ x. T x ⊎ P x) o
+first_with T P None o h w =
+    first_as (λ x. (None ≡ Some x) ⊎ P x) (λ x. T x ⊎ P x) o
+    (λ x v. elim v [ inl e ↦ absurd (none_some x e) | inr p ↦ inr p ])
+    (λ x v. elim v [ inl t ↦ absurd (h x t) | inr p ↦ inr p ])
+    w
+first_with T P (Some m) None h w = absurd (w m (inl refl))
+first_with T P (Some m) (Some l) h w = (
+  elim w.0 [ inl e ↦ inl (subst T (some_same m l e) h.0) | inr p ↦ inr p ],
+  λ x v. elim v [ inl t ↦ let a = w.1 m (inl refl) in let b = h.1 x t in omega (arith, a, b) | inr p ↦ w.1 x (inr p) ],
+)

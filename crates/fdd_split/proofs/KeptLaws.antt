@@ -1,6 +1,6 @@
 -- What is kept by keys: what is found is right, and so is what is added.
-use Rattle.std.specs.Prelude.{IfSome, option_copied}
-use Rattle.std.proofs.Common.{rules, Bor, ◌≡◌, ℕ, refl, sym, subst, Bool, true, false, cond, List, [], ◌∷◌, Option, Some, None, if◌then◌else◌}
+use Rattle.std.specs.Prelude.{IfSome, option_copied, slice_get}
+use Rattle.std.proofs.Common.{rules, Bor, ◌≡◌, ◌⊎◌, inl, inr, ℕ, zero, suc, refl, sym, ◌∙◌, ap, subst, Bool, true, false, cond, List, [], ◌∷◌, ◌++◌, length, set, Option, Some, None, if◌then◌else◌}
 use Rattle.std.specs.Map.{lookup}
 use Rattle.std.specs.Cmp.Lexicographic.{pointwise_decides}
 use Rattle.indexmap.specs.IndexMap.{insert_entry}
@@ -9,7 +9,6 @@ use Rattle.nk_values.proofs.LitLaws.{lit_eq-Decides}
 use Rattle.fdd_nodes.specs.declared.node.Node.{Node}
 use Rattle.fdd_nodes.specs.Trees.{Tree, tree}
 use Rattle.fdd_store.specs.Stores.{Kept, Has, Grows, tree_at}
-use Rattle.fdd_store.specs.contracts.id.IdPartialEq.TheImpl as id_impl
 use Rattle.fdd_store.proofs.StoreLaws.{has_grown, tree_grown}
 use Rattle.fdd_split.specs.declared.bars.Bar.{Bar}
 use Rattle.fdd_split.specs.declared.memo.Key.{Key}
@@ -19,7 +18,7 @@ use Rattle.fdd_split.specs.contracts.memo.KeyPartialEq.TheImpl as key_impl
 use Rattle.fdd_split.specs.Divides.{Divides}
 use Rattle.fdd_split.specs.Pairs.{IsFirstOf}
 use Rattle.fdd_split.specs.Threats.{Threat}
-use Rattle.fdd_split.specs.Memos.{EachIs, IsPlain, IsPlainEntry, IsThreatEntry, IsPartEntry, AreKept}
+use Rattle.fdd_split.specs.Memos.{EachIs, ArePlainEntries, IsPlain, IsPlainEntry, IsThreatEntry, IsPartEntry, AreKept}
 
 lent : {V : Type 0} (P : V → Type 0) (o : Option (Bor V)) → IfSome (option_copied o) P → IfSome o (λ v. P v.now)
 lent P None h = tt
@@ -51,16 +50,44 @@ each_on : {K V : Type 0} (P Q : K → V → Type 0) (es : List (K × V)) → ((x
 each_on P Q [] f h = tt
 each_on P Q (e ∷ es) f h = (f e.0 e.1 h.0, each_on P Q es f h.1)
 
--- keys
+-- what is known of places
 
-abbrev pub id_eq : ℕ → ℕ → Bool
-id_eq = id_impl.eq-value.it
+last_or : {X : Type 0} (xs : List X) (y z : X) (i : ℕ) → slice_get (xs ++ y ∷ []) i ≡ Some z → (slice_get xs i ≡ Some z) ⊎ ((i ≡ length xs) × (y ≡ z))
+last_or [] y z zero e = inr (refl, cc)
+last_or [] y z (suc i) e = absurd (let w : None ≡ Some z = e in cc)
+last_or (x ∷ xs) y z zero e = inl e
+last_or (x ∷ xs) y z (suc i) e = elim (last_or xs y z i e) [ inl h ↦ inl h | inr h ↦ inr (ap suc h.0, h.1) ]
+
+pub unknown_added : (k : Kept) (known : List (Option Bool)) → ArePlainEntries k known → ArePlainEntries k (known ++ None ∷ [])
+unknown_added k known h a b e = elim (last_or known None (Some b) a e) [ inl s ↦ h a b s | inr n ↦ absurd (let w : None ≡ Some b = n.1 in cc) ]
+
+same_known : (b c : Bool) → Some b ≡ Some c → b ≡ c
+same_known b c e = cc
+
+pub known_added : (k : Kept) (known : List (Option Bool)) (a : ℕ) (b : Bool) → length known ≡ a → ArePlainEntries k known → IsPlainEntry k a b → ArePlainEntries k (known ++ Some b ∷ [])
+known_added k known a b n h w x c e = elim (last_or known (Some b) (Some c) x e) [
+  | inl s ↦ h x c s
+  | inr m ↦
+      subst (λ (d : Bool). IsPlainEntry k x d) (same_known b c m.1) (subst (λ (y : ℕ). IsPlainEntry k y b) (sym n ∙ sym m.0) w)
+]
+
+set_or : {X : Type 0} (xs : List X) (i : ℕ) (y z : X) (j : ℕ) → slice_get (set xs i y) j ≡ Some z → (slice_get xs j ≡ Some z) ⊎ ((j ≡ i) × (y ≡ z))
+set_or [] i y z j e = inl e
+set_or (x ∷ xs) zero y z zero e = inr (refl, cc)
+set_or (x ∷ xs) zero y z (suc j) e = inl e
+set_or (x ∷ xs) (suc i) y z zero e = inl e
+set_or (x ∷ xs) (suc i) y z (suc j) e = elim (set_or xs i y z j e) [ inl h ↦ inl h | inr h ↦ inr (ap suc h.0, h.1) ]
+
+pub known_set : (k : Kept) (known : List (Option Bool)) (a i : ℕ) (b : Bool) → i ≡ a → ArePlainEntries k known → IsPlainEntry k a b → ArePlainEntries k (set known i (Some b))
+known_set k known a i b n h w x c e = elim (set_or known i (Some b) (Some c) x e) [
+  | inl s ↦ h x c s
+  | inr m ↦ subst (λ (d : Bool). IsPlainEntry k x d) (same_known b c m.1) (subst (λ (y : ℕ). IsPlainEntry k y b) (sym (m.0 ∙ n)) w)
+]
+
+-- keys
 
 abbrev pub key_eq : Key → Key → Bool
 key_eq = key_impl.eq-value.it
-
-same_id : (x y : ℕ) → id_eq x y ≡ true → x ≡ y
-same_id x y h = search rules
 
 pub same_bars : (x y : Key) → key_eq x y ≡ true → x.bars.items ≡ y.bars.items
 same_bars x y h = search (rules, lit_eq-Decides, pointwise_decides)
@@ -69,12 +96,6 @@ pub same_diagram : (x y : Key) → key_eq x y ≡ true → x.diagram ≡ y.diagr
 same_diagram x y h = search rules
 
 module _ (k : Kept) where
-  pub plain_to : (x y : ℕ) → id_eq x y ≡ true → (b : Bool) → IsPlainEntry k x b → IsPlainEntry k y b
-  plain_to x y e b h = subst (λ (z : ℕ). IsPlainEntry k z b) (same_id x y e) h
-
-  pub plain_back : (x y : ℕ) → id_eq x y ≡ true → (b : Bool) → IsPlainEntry k y b → IsPlainEntry k x b
-  plain_back x y e b h = subst (λ (z : ℕ). IsPlainEntry k z b) (sym (same_id x y e)) h
-
   pub threat_to : (x y : Key) → key_eq x y ≡ true → (o : Option Lit) → IsThreatEntry k x o → IsThreatEntry k y o
   threat_to x y e o h = subst (λ z. Has k z × IsFirstOf (Threat y.bars.items (tree_at k z)) o) (same_diagram x y e) (subst (λ z. Has k x.diagram × IsFirstOf (Threat z (tree_at k x.diagram)) o) (same_bars x y e) h)
 
@@ -90,9 +111,9 @@ module _ (k : Kept) where
 -- what is kept stays right in a store that grows
 pub kept_grown : (old new : Kept) (m : Memo) → Grows old new → AreKept old m → AreKept new m
 kept_grown old new m g h = record {
-  plain = each_on (IsPlainEntry old) (IsPlainEntry new) m.plain.entries
-      (λ a b w. (has_grown old new a g w.0, λ z. subst (λ (x : Tree). IsPlain x) (sym (tree_grown old new a g w.0)) (w.1 z)))
-      h.plain;
+  plain = λ a b e.
+      let w = h.plain a b e in
+      (has_grown old new a g w.0, λ z. subst (λ (x : Tree). IsPlain x) (sym (tree_grown old new a g w.0)) (w.1 z));
   threats = each_on (IsThreatEntry old) (IsThreatEntry new) m.threats.entries
       (λ q o w. (has_grown old new q.diagram g w.0, subst (λ (x : Tree). IsFirstOf (Threat q.bars.items x) o) (sym (tree_grown old new q.diagram g w.0)) w.1))
       h.threats;

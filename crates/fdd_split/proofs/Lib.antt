@@ -6,6 +6,7 @@ pub mod CountLaws
 pub mod DivideLaws
 pub mod EndLaws
 pub mod EvenLaws
+pub mod FieldLaws
 pub mod FirstLaws
 pub mod ForkLaws
 pub mod KeptLaws

@@ -8,7 +8,6 @@ use Rattle.nk_values.specs.Lits.{lit_field}
 use Rattle.nk_values.specs.Members.{IsIn}
 use Rattle.nk_values.specs.Ranks.{rank}
 use Rattle.fdd_nodes.specs.Trees.{Tree, leaf_at, apply, Tests}
-use Rattle.fdd_store.specs.Entries.{IsFieldOf}
 use Rattle.fdd_split.specs.declared.bars.Bar.{Bar}
 use Rattle.fdd_split.specs.Bars.{Bars}
 
@@ -19,10 +18,6 @@ KeepsField c f = (m : Lit) → IsIn c m → lit_field m ≢ f
 -- one of the copies assigns the literal, and the other leaves its field
 abbrev pub IsAlone : List Lit → List Lit → Lit → Type 0
 IsAlone c d x = (IsIn c x × KeepsField d (lit_field x)) ⊎ (IsIn d x × KeepsField c (lit_field x))
-
--- the copies all assign the field
-abbrev pub AllAssign : List (List Lit) → Field → Type 0
-AllAssign cs f = (c : List Lit) → IsIn cs c → IsFieldOf c f
 
 -- the packet holds no barred literal
 abbrev pub IsClear : List Bar → Packet → Type 0

@@ -21,29 +21,6 @@ pub(crate) fn are_barring(bars: &[Bar], l: &Lit) -> bool
     false
 }
 
-/// Whether each literal that some copies assign is barred.
-pub(crate) fn are_barring_all(bars: &[Bar], copies: &[Assignments]) -> bool
-    ensures { IsTrue result → (c : List Lit) → IsIn copies.now c → (x : Lit) → IsIn c x → Bars bars.now x }
-{
-    for c in copies {
-        if !are_barring_each(bars, c.lits()) {
-            return false;
-        }
-    }
-    true
-}
-
-fn are_barring_each(bars: &[Bar], lits: &[Lit]) -> bool
-    ensures { IsTrue result → (x : Lit) → IsIn lits.now x → Bars bars.now x }
-{
-    for l in lits {
-        if !are_barring(bars, l) {
-            return false;
-        }
-    }
-    true
-}
-
 /// The same bars and one more. Those that the new one covers are left out.
 pub(crate) fn with_bar(alloc: Global, bars: &[Bar], bar: Bar) -> Result<Vec<Bar>, AllocError>
     ensures { IfOk result (λ r. Adds bars.now r.items bar) }

@@ -1,24 +1,24 @@
 //! The first literal by which two copies of a leaf could give one packet.
-ghost use Rattle.std.specs.Prelude.{◌⊎◌, IfOk, IsTrue, List};
+ghost use Rattle.std.specs.Prelude.{◌≡◌, ◌↔◌, IfOk, IfSome, IfNone, IsTrue, IsFalse, List};
 ghost use Rattle.nk_values.specs.declared.lit.Lit.{Lit};
 ghost use Rattle.nk_values.specs.Lits.{lit_field};
 ghost use Rattle.nk_values.specs.Members.{IsIn};
 ghost use Rattle.fdd_nodes.specs.Copies.{IsCopy};
 ghost use Rattle.fdd_nodes.specs.Trees.{Leaf};
-ghost use Rattle.fdd_split.specs.Bars.{Bars};
-ghost use Rattle.fdd_split.specs.Pairs.{IsFirstOf};
-ghost use Rattle.fdd_split.specs.Threats.{Threat, HasNoThreat, AllAssign};
+ghost use Rattle.fdd_split.specs.Pairs.{FieldThreat, IsCandidate, IsFirstOf, IsFirstWith};
+ghost use Rattle.fdd_split.specs.Threats.{Threat, KeepsField};
 
-use crate::barring::are_barring_all;
-use crate::bars::{Bar, same_bars};
-use crate::pairs::threat_among;
+use crate::barring::are_barring;
+use crate::bars::Bar;
+use crate::pairs::meets_some;
 use fdd_nodes::Assignments;
 use nk_values::{Field, Lit};
 use std::alloc::{AllocError, Global};
 
 /// The first literal by which two copies of a leaf give one packet, of the packets that hold nothing barred.
 ///
-/// A leaf that is settled takes no search through its pairs of copies.
+/// Of each field the copies that assign it are compared with those that leave it, as long as an earlier literal can be
+/// found.
 pub(crate) fn leaf_threat(
     alloc: Global,
     bars: &[Bar],
@@ -27,48 +27,106 @@ pub(crate) fn leaf_threat(
     requires { (x : List Lit) → IsIn copies.now x → IsCopy x }
     ensures { IfOk result (λ o. IsFirstOf (Threat bars.now (Leaf copies.now)) o) }
 {
-    if is_settled(alloc, bars, copies)? {
-        return Ok(None);
+    let mut first = None;
+    for field in Field::ALL {
+        first = field_threat(alloc, bars, copies, field, first)?;
     }
-    Ok(threat_among(bars, copies, copies))
+    Ok(first)
 }
 
-/// Whether each literal that copies assign is barred, or of a field that all of them assign. Then no two give one packet.
-pub(crate) fn is_settled(
+// The first of a literal that was found and of those of a field that some copy assigns which meets one that leaves it.
+fn field_threat(
     alloc: Global,
     bars: &[Bar],
     copies: &[Assignments],
-) -> Result<bool, AllocError>
+    field: Field,
+    found: Option<Lit>,
+) -> Result<Option<Lit>, AllocError>
     requires { (x : List Lit) → IsIn copies.now x → IsCopy x }
-    ensures { IfOk result (λ b. IsTrue b → HasNoThreat bars.now (Leaf copies.now)) }
+    ensures { IfOk result (λ o. IsFirstWith found (FieldThreat bars.now copies.now copies.now field) o) }
 {
-    let all = with_shared(alloc, bars, copies)?;
-    Ok(are_barring_all(&all, copies))
+    if !has_candidate(bars, copies, field, found) {
+        return Ok(found);
+    }
+    let keepers = keepers_of(alloc, copies, field)?;
+    Ok(threat_beside(bars, copies, &keepers, field, found))
 }
 
-// Some bars, and one for each field that all copies assign.
-fn with_shared(alloc: Global, bars: &[Bar], copies: &[Assignments]) -> Result<Vec<Bar>, AllocError>
-    ensures { IfOk result (λ r. (x : Lit) → Bars r.items x → Bars bars.now x ⊎ AllAssign copies.now (lit_field x)) }
+// The same, of the copies that leave the field.
+fn threat_beside(
+    bars: &[Bar],
+    copies: &[Assignments],
+    keepers: &[Assignments],
+    field: Field,
+    found: Option<Lit>,
+) -> Option<Lit>
+    requires copies { (x : List Lit) → IsIn copies.now x → IsCopy x }
+    requires keepers { (d : List Lit) → IsIn keepers.now d → IsCopy d × KeepsField d field }
+    ensures { IsFirstWith found (FieldThreat bars.now copies.now keepers.now field) result }
 {
-    let mut all = same_bars(alloc, bars)?;
-    if let [first, ..] = copies {
-        for l in first.lits() {
-            let field = l.field();
-            if are_assigning(copies, field) {
-                all.push(Bar::Place(field.place()))?;
+    let mut first = found;
+    for c in copies {
+        if let Some(l) = literal_of(c.lits(), field) {
+            if is_candidate(bars, &l, first) && meets_some(bars, c.lits(), keepers) {
+                first = Some(l);
             }
         }
     }
-    Ok(all)
+    first
 }
 
-fn are_assigning(copies: &[Assignments], field: Field) -> bool
-    ensures { IsTrue result → AllAssign copies.now field }
+// Whether some copy assigns the field a literal that may be a threat before the one that was found.
+fn has_candidate(bars: &[Bar], copies: &[Assignments], field: Field, found: Option<Lit>) -> bool
+    requires { (x : List Lit) → IsIn copies.now x → IsCopy x }
+    ensures { IsFalse result → (c : List Lit) → IsIn copies.now c → (x : Lit) → IsIn c x → lit_field x ≡ field → ¬ IsCandidate bars.now x found }
 {
     for c in copies {
-        if c.get(field).is_none() {
-            return false;
+        if let Some(l) = literal_of(c.lits(), field) {
+            if is_candidate(bars, &l, found) {
+                return true;
+            }
         }
     }
-    true
+    false
+}
+
+// Whether a literal is not barred, and comes before the one that was found.
+fn is_candidate(bars: &[Bar], l: &Lit, found: Option<Lit>) -> bool
+    ensures { IsTrue result ↔ IsCandidate bars.now l.now found }
+{
+    let is_before = match found {
+        None => true,
+        Some(m) => l.precedes(&m),
+    };
+    is_before && !are_barring(bars, l)
+}
+
+// The copies that leave a field.
+fn keepers_of(
+    alloc: Global,
+    copies: &[Assignments],
+    field: Field,
+) -> Result<Vec<Assignments>, AllocError>
+    ensures { IfOk result (λ r. (d : List Lit) → IsIn r.items d ↔ (IsIn copies.now d × KeepsField d field)) }
+{
+    let mut keepers = Vec::new(alloc);
+    for c in copies {
+        if literal_of(c.lits(), field).is_none() {
+            keepers.push(c.copy()?)?;
+        }
+    }
+    Ok(keepers)
+}
+
+// The literal of a field that a copy assigns.
+fn literal_of(copy: &[Lit], field: Field) -> Option<Lit>
+    ensures some { IfSome result (λ l. IsIn copy.now l × (lit_field l ≡ field)) }
+    ensures none { IfNone result (KeepsField copy.now field) }
+{
+    for l in copy {
+        if l.field().place() == field.place() {
+            return Some(*l);
+        }
+    }
+    None
 }

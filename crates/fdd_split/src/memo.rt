@@ -22,10 +22,11 @@ pub(crate) struct Part {
     pub(crate) root: Rc<Node>,
 }
 
-/// The diagrams of which it is known whether they are plain, the first threats that were found, and what was divided.
+/// Of each place of the store whether its diagram is plain, if that is known; the first threats that were found; and what
+/// was divided.
 #[derive(Drop)]
 pub(crate) struct Memo {
-    pub(crate) plain: IndexMap<Id, bool>,
+    pub(crate) plain: Vec<Option<bool>>,
     pub(crate) threats: IndexMap<Key, Option<Lit>>,
     pub(crate) parts: IndexMap<Key, Part>,
 }
@@ -43,7 +44,7 @@ pub(crate) fn key_of(alloc: Global, bars: &[Bar], diagram: Id) -> Result<Key, Al
 }
 
 impl Memo {
-    ghost use Rattle.std.specs.Prelude.{IfSome, OnOk};
+    ghost use Rattle.std.specs.Prelude.{◌≤◌, length, IfSome, OnOk};
     ghost use Rattle.fdd_store.specs.Stores.{Kept};
     ghost use Rattle.fdd_split.specs.Memos.{AreKept, IsPlainEntry, IsThreatEntry, IsPartEntry};
     ghost use Rattle.fdd_nodes.specs.Trees.{tree};
@@ -53,7 +54,7 @@ impl Memo {
         ensures { (k : Kept) → AreKept k result }
     {
         Memo {
-            plain: IndexMap::new(alloc),
+            plain: Vec::new(alloc),
             threats: IndexMap::new(alloc),
             parts: IndexMap::new(alloc),
         }
@@ -63,17 +64,30 @@ impl Memo {
     pub(crate) fn plain_of(&self, a: Id) -> Option<bool>
         ensures { (k : Kept) → AreKept k self.now → IfSome result (λ b. IsPlainEntry k a b) }
     {
-        match self.plain.get(&a) {
-            None => None,
-            Some(known) => Some(*known),
-        }
+        *self.plain.get(a.place())?
     }
 
     /// Keeps whether a diagram is plain.
     pub(crate) fn keep_plain(&mut self, a: Id, plain: bool) -> Result<(), AllocError>
         ensures { (k : Kept) → AreKept k self.old → IsPlainEntry k a plain → OnOk result (AreKept k self.new) }
     {
-        self.plain.insert(a, plain)?;
+        let place = a.place();
+        self.reach(place)?;
+        match self.plain.get_mut(place) {
+            Some(known) => *known = Some(plain),
+            None => self.plain.push(Some(plain))?,
+        }
+        Ok(())
+    }
+
+    // Of each place before this one there is a word, also if nothing is known of it yet.
+    fn reach(&mut self, place: usize) -> Result<(), AllocError>
+        ensures kept { (k : Kept) → AreKept k self.old → OnOk result (AreKept k self.new) }
+        ensures reached { OnOk result (place ≤ length self.new.plain.items) }
+    {
+        for _ in self.plain.len()..place {
+            self.plain.push(None)?;
+        }
         Ok(())
     }
 

@@ -1,9 +1,11 @@
 //! Where two copies of a leaf give one packet.
-ghost use Rattle.std.specs.Prelude.{List};
+ghost use Rattle.std.specs.Prelude.{IsTrue, IsFalse, List};
 ghost use Rattle.nk_values.specs.declared.lit.Lit.{Lit};
+ghost use Rattle.nk_values.specs.Lits.{lit_field};
 ghost use Rattle.nk_values.specs.Members.{IsIn};
 ghost use Rattle.fdd_nodes.specs.Copies.{IsCopy};
-ghost use Rattle.fdd_split.specs.Pairs.{TellsMeeting, IsAfterAlone, IsEarlier, Beside, Among, IsFirstOf};
+ghost use Rattle.fdd_split.specs.Pairs.{TellsMeeting, IsAfterAlone, IsEarlier, MeetsSome};
+ghost use Rattle.fdd_split.specs.Threats.{KeepsField};
 
 use crate::barring::are_barring;
 use crate::bars::Bar;
@@ -73,37 +75,17 @@ pub(crate) fn first_of(a: Option<Lit>, b: Option<Lit>) -> Option<Lit>
     }
 }
 
-// The first literal by which a copy meets another one.
-fn threat_beside(bars: &[Bar], c: &Assignments, others: &[Assignments]) -> Option<Lit>
-    ensures { ((x : List Lit) → IsIn others.now x → IsCopy x) → IsFirstOf (Beside bars.now c.now others.now) result }
+/// Whether a copy gives one packet with some of others, each of which leaves a field that it assigns.
+pub(crate) fn meets_some(bars: &[Bar], c: &[Lit], others: &[Assignments]) -> bool
+    requires { IsCopy c.now }
+    ensures some { IsTrue result → MeetsSome bars.now c.now others.now }
+    ensures none { (x : Lit) → IsIn c.now x → ((d : List Lit) → IsIn others.now d → KeepsField d (lit_field x)) → IsFalse result → ¬ MeetsSome bars.now c.now others.now }
 {
-    match others {
-        [] => None,
-        [d] => match meet(bars, c.lits(), d.lits()) {
-            Meeting::Never | Meeting::Always => None,
-            Meeting::Where(l) => Some(l),
-        },
-        _ => {
-            let (front, back) = others.split_at(others.len() / 2);
-            first_of(threat_beside(bars, c, front), threat_beside(bars, c, back))
+    for d in others {
+        match meet(bars, c, d.lits()) {
+            Meeting::Where(_) => return true,
+            Meeting::Never | Meeting::Always => {}
         }
     }
-}
-
-/// The first literal by which two copies meet, one of some and one of all.
-pub(crate) fn threat_among(bars: &[Bar], some: &[Assignments], all: &[Assignments]) -> Option<Lit>
-    requires { (x : List Lit) → IsIn all.now x → IsCopy x }
-    ensures { ((x : List Lit) → IsIn some.now x → IsCopy x) → IsFirstOf (Among bars.now some.now all.now) result }
-{
-    match some {
-        [] => None,
-        [c] => threat_beside(bars, c, all),
-        _ => {
-            let (front, back) = some.split_at(some.len() / 2);
-            first_of(
-                threat_among(bars, front, all),
-                threat_among(bars, back, all),
-            )
-        }
-    }
+    false
 }

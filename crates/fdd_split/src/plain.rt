@@ -8,14 +8,11 @@ ghost use Rattle.fdd_store.specs.Stores.{Has, tree_at};
 ghost use Rattle.fdd_split.specs.Memos.{AreKept, IsPlain};
 ghost use Rattle.fdd_split.specs.Threats.{HasNoThreat};
 
-use crate::leaves::{is_settled, leaf_threat};
+use crate::leaves::leaf_threat;
 use crate::memo::Memo;
 use fdd_nodes::Assignments;
 use fdd_store::{Id, Look, Store};
 use std::alloc::{AllocError, Global};
-
-// The pairs of a leaf with more copies are looked at only when it is known what is barred there.
-const FEW_COPIES: usize = 16;
 
 /// Whether no two copies of any leaf give one packet, whatever is barred. Each part that is shared is looked at once.
 ///
@@ -78,9 +75,6 @@ fn is_plain_leaf(alloc: Global, copies: &[Assignments]) -> Result<bool, AllocErr
     requires { (x : List Lit) → IsIn copies.now x → IsCopy x }
     ensures { IfOk result (λ b. IsTrue b → HasNoThreat [] (Leaf copies.now)) }
 {
-    if copies.len() > FEW_COPIES {
-        return is_settled(alloc, &[], copies);
-    }
     match leaf_threat(alloc, &[], copies)? {
         None => Ok(true),
         Some(_) => Ok(false),
