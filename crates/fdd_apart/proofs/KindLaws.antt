@@ -1,6 +1,6 @@
 -- Kinds of frames, and diagrams on their packets.
 use Rattle.std.specs.Prelude.{Result, Ok, Err, OnOk}
-use Rattle.std.proofs.Common.{rules, ◌≡◌, ℕ, ◌≤◌, inl, inr, refl, sym, ap, subst, ◌∙◌, List, [], ◌∷◌, true, arith}
+use Rattle.std.proofs.Common.{rules, ◌≡◌, ℕ, ◌≤◌, inl, inr, refl, sym, ap, subst, ◌∙◌, List, [], ◌∷◌, Bool, true, arith}
 use Rattle.std.proofs.lemmas.Bool.Decides.{eqb_tells}
 use Rattle.nk_values.specs.declared.field.Field.{Field}
 use Rattle.nk_values.specs.declared.field.Field.TheVariants.{EthTyp, IpProto, TcpSrcPort, TcpDstPort}
@@ -23,7 +23,7 @@ use Rattle.fdd_differ.specs.Frames.{IsFrame, frame_cell, Leaves}
 use Rattle.fdd_differ.specs.Unnamed.{AreFewNames, IsFreshOf}
 use Rattle.fdd_differ.proofs.KindLaws.{left_by_kind, kind_by_left}
 use Rattle.fdd_differ.proofs.WitnessLaws.{kind_agrees}
-use Rattle.fdd_split.proofs.KeptLaws.{id_eq}
+use Rattle.fdd_store.specs.contracts.id.IdPartialEq.TheImpl as id_impl
 use Rattle.fdd_store.specs.Leaves.{Adds}
 use Rattle.fdd_store.specs.Operations.{ChoiceOf}
 use Rattle.fdd_store.specs.Stores.{Kept, Has, Gives, Grows, tree_at}
@@ -145,6 +145,9 @@ restricts_test k l t e a x y r is o v rx ry c =
     })
 
 -- ---- results that are kept
+
+abbrev pub id_eq : ℕ → ℕ → Bool
+id_eq = id_impl.eq-value.it
 
 same_id : (a b : ℕ) → id_eq a b ≡ true → a ≡ b
 same_id a b e = search rules

@@ -9,12 +9,12 @@ use Rattle.fdd_nodes.specs.Names.{IsFew}
 use Rattle.fdd_nodes.specs.Trees.{Tree}
 use Rattle.fdd_differ.specs.Frames.{Leaves}
 use Rattle.fdd_split.specs.Memos.{EachIs}
-use Rattle.fdd_split.proofs.KeptLaws.{right_added, id_eq}
+use Rattle.fdd_split.proofs.KeptLaws.{right_added}
 use Rattle.fdd_store.specs.Stores.{tree_at}
 use Rattle.fdd_store.proofs.ForkLaws.{fall_then, fall_else, if_ok, level}
 use Rattle.fdd_store.proofs.StoreLaws.{gives_as, gives_grown, grows_on, has_grown, tree_grown}
 use Rattle.fdd_apart.specs.Kinds.{IsRestriction, Restricts}
-use Rattle.fdd_apart.proofs.KindLaws.{any_ok, few_choice, few_else, few_then, restriction_back, restriction_grown, restriction_to, restrictions_grown, restricts_barred, restricts_excluded, restricts_test, restricts_then}
+use Rattle.fdd_apart.proofs.KindLaws.{id_eq, any_ok, few_choice, few_else, few_then, restriction_back, restriction_grown, restriction_to, restrictions_grown, restricts_barred, restricts_excluded, restricts_test, restricts_then}
 use Rattle.fdd_apart.proofs.kinds.+restrict.Goals as goal
 
 pub restrict-returns-in-Some-clause-only : goal.restrict-returns-in-Some-clause-only

@@ -1,8 +1,8 @@
 use Rattle.std.specs.Prelude.{IfSome}
 use Rattle.std.proofs.Common.{Bor, ℕ, Option, subst}
-use Rattle.fdd_split.proofs.KeptLaws.{found_right, id_eq}
+use Rattle.fdd_split.proofs.KeptLaws.{found_right}
 use Rattle.fdd_apart.specs.Kinds.{IsRestriction}
-use Rattle.fdd_apart.proofs.KindLaws.{restriction_to, restriction_back}
+use Rattle.fdd_apart.proofs.KindLaws.{id_eq, restriction_to, restriction_back}
 use Rattle.fdd_apart.proofs.kinds.found.Goals as goal
 
 pub returns-in-Some : goal.returns-in-Some
