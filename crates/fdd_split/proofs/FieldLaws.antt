@@ -10,7 +10,9 @@ use Rattle.nk_values.specs.Members.{IsIn}
 use Rattle.nk_values.specs.Ranges.{place}
 use Rattle.nk_values.proofs.MemberLaws.{in-left, in-right, in-either}
 use Rattle.fdd_nodes.specs.Copies.{IsCopy, IsCopyFrom}
-use Rattle.fdd_nodes.specs.Trees.{Leaf}
+use Rattle.fdd_nodes.specs.Trees.{Tree, Leaf, IsSetBy}
+use Rattle.fdd_store.specs.Entries.{SetsField}
+use Rattle.fdd_store.specs.Made.{IsMade, AreProper}
 use Rattle.fdd_split.specs.declared.bars.Bar.{Bar}
 use Rattle.fdd_split.specs.Bars.{Bars}
 use Rattle.fdd_split.specs.Pairs.{FieldThreat, Meets, MeetsSome, IsBefore, IsCandidate, IsFirstOf, IsFirstWith}
@@ -98,7 +100,26 @@ field_more k cs fs gs f o e h = subst (λ (z : List Field). IsFirstOf (LeafThrea
     ])
     h)
 
-pub every_field : (f : Field) → IsIn (Sw ∷ Pt ∷ EthTyp ∷ IpProto ∷ EthSrc ∷ EthDst ∷ Ip4Src ∷ Ip4Dst ∷ TcpSrcPort ∷ TcpDstPort ∷ []) f
+pub leaf_copies : (a : Tree) (cs : List (List Lit)) → IsMade a → a ≡ Leaf cs → (c : List Lit) → IsIn cs c → IsCopy c
+leaf_copies a cs made is = (subst (λ (z : Tree). AreProper z) is made.proper).copies
+
+set_by : (cs : List (List Lit)) (c : List Lit) (x : Lit) → IsIn cs c → IsIn c x → IsSetBy cs x
+set_by [] c x i j = absurd i
+set_by (d ∷ cs) c x (inl e) j = inl (subst (λ (z : List Lit). IsIn z x) (sym e) j)
+set_by (d ∷ cs) c x (inr i) j = inr (set_by cs c x i j)
+
+-- a field that the leaf does not assign
+pub field_unset : (k : List Bar) (a : Tree) (cs : List (List Lit)) (fs gs : List Field) (f : Field) (o : Option Lit) → a ≡ Leaf cs → ¬ SetsField a f → gs ≡ fs ++ f ∷ [] → IsFirstOf (LeafThreat k cs fs) o → IsFirstOf (LeafThreat k cs gs) o
+field_unset k a cs fs gs f o is n e h =
+    field_more k cs fs gs f o e
+    (first_stays (LeafThreat k cs fs) (FieldThreat k cs cs f) (λ x. LeafThreat k cs fs x ⊎ FieldThreat k cs cs f x) o
+    (λ x t. inl t) (λ x v. v) h
+    (λ x t b. n (subst (λ (z : Tree). SetsField z f) (sym is) (record { lit = x; assigned = set_by cs t.one x t.among t.sets; field = t.field }))))
+
+abbrev pub fields : List Field
+fields = Sw ∷ Pt ∷ EthTyp ∷ IpProto ∷ EthSrc ∷ EthDst ∷ Ip4Src ∷ Ip4Dst ∷ TcpSrcPort ∷ TcpDstPort ∷ []
+
+pub every_field : (f : Field) → IsIn fields f
 every_field Sw = inl refl
 every_field Pt = inr (inl refl)
 every_field EthTyp = inr (inr (inl refl))

@@ -2,6 +2,7 @@
 use Rattle.std.proofs.Common.{◌≡◌, inl, inr, sym, subst, List, []}
 use Rattle.nk_values.specs.declared.lit.Lit.{Lit}
 use Rattle.nk_values.specs.Members.{IsIn}
+use Rattle.fdd_nodes.specs.Roots.{IsLeaf}
 use Rattle.fdd_nodes.specs.Trees.{Tree, Leaf, Node}
 use Rattle.fdd_nodes.proofs.SplitLaws.{leaf_at-then, leaf_at-else}
 use Rattle.fdd_split.specs.declared.bars.Bar.{Bar}
@@ -39,3 +40,7 @@ plain_none k (Node l t e) h x w = elim (holds_or w.packet l) [
 pub plain_leaf : (a : Tree) (cs ds : List (List Lit)) → a ≡ Leaf cs → ds ≡ cs → HasNoThreat [] (Leaf ds) → IsPlain a
 plain_leaf a cs ds e s h =
     subst (λ (z : Tree). IsPlain z) (sym e) (subst (λ (z : List (List Lit)). HasNoThreat [] (Leaf z)) s h)
+
+pub plain_of_leaf : (a : Tree) → IsLeaf a → HasNoThreat [] a → IsPlain a
+plain_of_leaf (Leaf cs) is h = h
+plain_of_leaf (Node l t e) is h = absurd is

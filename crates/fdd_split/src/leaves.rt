@@ -4,7 +4,9 @@ ghost use Rattle.nk_values.specs.declared.lit.Lit.{Lit};
 ghost use Rattle.nk_values.specs.Lits.{lit_field};
 ghost use Rattle.nk_values.specs.Members.{IsIn};
 ghost use Rattle.fdd_nodes.specs.Copies.{IsCopy};
-ghost use Rattle.fdd_nodes.specs.Trees.{Leaf};
+ghost use Rattle.fdd_nodes.specs.Roots.{IsLeaf};
+ghost use Rattle.fdd_store.specs.Made.{IsMade};
+ghost use Rattle.fdd_store.specs.Stores.{Has, tree_at};
 ghost use Rattle.fdd_split.specs.Pairs.{FieldThreat, IsCandidate, IsFirstOf, IsFirstWith};
 ghost use Rattle.fdd_split.specs.Threats.{Threat, KeepsField};
 
@@ -12,6 +14,7 @@ use crate::barring::are_barring;
 use crate::bars::Bar;
 use crate::pairs::meets_some;
 use fdd_nodes::Assignments;
+use fdd_store::{Id, Store};
 use nk_values::{Field, Lit};
 use std::alloc::{AllocError, Global};
 
@@ -21,15 +24,21 @@ use std::alloc::{AllocError, Global};
 /// found.
 pub(crate) fn leaf_threat(
     alloc: Global,
+    store: &Store,
     bars: &[Bar],
-    copies: &[Assignments],
+    a: Id,
 ) -> Result<Option<Lit>, AllocError>
-    requires { (x : List Lit) → IsIn copies.now x → IsCopy x }
-    ensures { IfOk result (λ o. IsFirstOf (Threat bars.now (Leaf copies.now)) o) }
+    requires has { Has store.now a }
+    requires leaf { IsLeaf (tree_at store.now a) }
+    requires made { IsMade (tree_at store.now a) }
+    ensures { IfOk result (λ o. IsFirstOf (Threat bars.now (tree_at store.now a)) o) }
 {
+    let copies = store.leaf(a).copies();
     let mut first = None;
     for field in Field::ALL {
-        first = field_threat(alloc, bars, copies, field, first)?;
+        if store.sets(a, field) {
+            first = field_threat(alloc, bars, copies, field, first)?;
+        }
     }
     Ok(first)
 }

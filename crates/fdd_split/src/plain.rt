@@ -1,16 +1,12 @@
 //! Diagrams in which no two copies of a leaf give one packet.
-ghost use Rattle.std.specs.Prelude.{[], IfOk, OnOk, IsTrue, List};
-ghost use Rattle.nk_values.specs.declared.lit.Lit.{Lit};
-ghost use Rattle.nk_values.specs.Members.{IsIn};
-ghost use Rattle.fdd_nodes.specs.Copies.{IsCopy};
-ghost use Rattle.fdd_nodes.specs.Trees.{Leaf};
+ghost use Rattle.std.specs.Prelude.{IfOk, OnOk, IsTrue};
+ghost use Rattle.fdd_nodes.specs.Roots.{IsLeaf};
+ghost use Rattle.fdd_store.specs.Made.{IsMade};
 ghost use Rattle.fdd_store.specs.Stores.{Has, tree_at};
 ghost use Rattle.fdd_split.specs.Memos.{AreKept, IsPlain};
-ghost use Rattle.fdd_split.specs.Threats.{HasNoThreat};
 
 use crate::leaves::leaf_threat;
 use crate::memo::Memo;
-use fdd_nodes::Assignments;
 use fdd_store::{Id, Look, Store};
 use std::alloc::{AllocError, Global};
 
@@ -49,7 +45,7 @@ fn is_plain_at(alloc: Global, store: &Store, memo: &mut Memo, a: Id) -> Result<b
     ensures kept { OnOk result (AreKept store.now memo.new) }
 {
     match store.look(a) {
-        Look::Leaf => is_plain_leaf(alloc, store.leaf(a).copies()),
+        Look::Leaf => is_plain_leaf(alloc, store, a),
         Look::Fork(_, t, e) => {
             if is_plain(alloc, store, memo, t)? {
                 is_plain(alloc, store, memo, e)
@@ -71,11 +67,13 @@ fn is_single(store: &Store, a: Id) -> bool
     }
 }
 
-fn is_plain_leaf(alloc: Global, copies: &[Assignments]) -> Result<bool, AllocError>
-    requires { (x : List Lit) → IsIn copies.now x → IsCopy x }
-    ensures { IfOk result (λ b. IsTrue b → HasNoThreat [] (Leaf copies.now)) }
+fn is_plain_leaf(alloc: Global, store: &Store, a: Id) -> Result<bool, AllocError>
+    requires has { Has store.now a }
+    requires leaf { IsLeaf (tree_at store.now a) }
+    requires made { IsMade (tree_at store.now a) }
+    ensures { IfOk result (λ b. IsTrue b → IsPlain (tree_at store.now a)) }
 {
-    match leaf_threat(alloc, &[], copies)? {
+    match leaf_threat(alloc, store, &[], a)? {
         None => Ok(true),
         Some(_) => Ok(false),
     }

@@ -60,7 +60,7 @@ fn threat_at(
     ensures kept { OnOk result (AreKept store.now memo.new) }
 {
     match store.look(a) {
-        Look::Leaf => leaf_threat(alloc, &bars, store.leaf(a).copies()),
+        Look::Leaf => leaf_threat(alloc, store, &bars, a),
         Look::Fork(l, t, e) => {
             let yes = bars_then(alloc, store, &bars, &l, t)?;
             let x = first_threat(alloc, store, memo, &yes, t)?;

@@ -6,7 +6,7 @@ use Rattle.fdd_split.specs.declared.bars.Bar.{Bar}
 use Rattle.fdd_split.specs.Pairs.{IsFirstOf}
 use Rattle.fdd_split.specs.Threats.{Threat}
 use Rattle.fdd_split.proofs.BarLaws.{narrows_as, narrows_of}
-use Rattle.fdd_split.proofs.ForkLaws.{leaf_first, then_unbarred, else_unbarred, fork_threats}
+use Rattle.fdd_split.proofs.ForkLaws.{then_unbarred, else_unbarred, fork_threats}
 use Rattle.fdd_split.proofs.PlainLaws.{plain_none}
 use Rattle.fdd_split.proofs.threats.+threat.Goals as goal
 
@@ -29,7 +29,7 @@ threat_at-threat_behind-requires t c =
     )
 
 pub threat_at-returns-in-Leaf-clause-first : goal.threat_at-returns-in-Leaf-clause-first
-threat_at-returns-in-Leaf-clause-first t c = if_ok c.leaf_threat.result _ _ c.leaf_threat.ensures (λ o h. subst (λ (k : List Bar). IsFirstOf (Threat k (tree_at c.args.store.now c.args.a)) o) c.deref.ensures.value (leaf_first _ _ _ _ _ c.leaf.ensures c.copies.ensures.list h))
+threat_at-returns-in-Leaf-clause-first t c = if_ok c.leaf_threat.result _ _ c.leaf_threat.ensures (λ o h. subst (λ (k : List Bar). IsFirstOf (Threat k (tree_at c.args.store.now c.args.a)) o) c.deref.ensures.value h)
 
 pub threat_at-returns-in_ok-y-in-Fork-clause-first : goal.threat_at-returns-in_ok-y-in-Fork-clause-first
 threat_at-returns-in_ok-y-in-Fork-clause-first t c =
