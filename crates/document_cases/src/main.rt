@@ -73,14 +73,15 @@ fn told(alloc: Global, document: &Document) -> Result<String, AllocError> {
     let topology = &document.topology;
     let settings = document.settings;
     let mut out = format!(in alloc;
-        "{} switches, {} links, {} edge ports; hops {}, capacity {}, stamps {} to {}",
+        "{} switches, {} links, {} edge ports; hops {}, capacity {}, stamps {} to {}, rejoins {}",
         topology.switches().len(),
         topology.links().len(),
         topology.edges().len(),
         settings.hops,
         settings.capacity,
         settings.stamps.0,
-        settings.stamps.1
+        settings.stamps.1,
+        settings.rejoins
     )?;
     for policy in &document.policies {
         let printed = policy.print(alloc)?;

@@ -23,7 +23,7 @@ use Rattle.document_text.specs.Packets.{Given, is_value, is_vlan_id, with_words,
 use Rattle.document_text.specs.Texts.{numeral, end_of, is_end}
 use Rattle.document_text.specs.States.{State, start, place_of_kind, is_late, is_empty, has_edge, with_policy}
 use Rattle.document_text.specs.Schedules.{refused_if, formed, at_switch, arrival, event_alone, event_of_one, event_of_two, event_of, is_index}
-use Rattle.document_text.specs.Lines.{is_end_value, at_edge, placed_by, switch_form, switch_line, link_form, link_line, behind_policies, one_numeral, two_numerals, hops_line, capacity_line, stamps_line, policy_line, packet_form, packet_line, schedule_line}
+use Rattle.document_text.specs.Lines.{is_end_value, at_edge, placed_by, switch_form, switch_line, link_form, link_line, behind_policies, one_numeral, two_numerals, hops_line, capacity_line, stamps_line, rejoins_line, policy_line, packet_form, packet_line, schedule_line}
 use Rattle.document_text.specs.Steps.{Next, Stops, head_of, event_too_many, is_too_many, next, opens, enters, happens, scheduled, declares, step}
 use Rattle.document_text.specs.Answers.{IsNext, IsOpening}
 use Rattle.document_text.specs.Laws.{Arrives, IsNamed, IsRead}
@@ -35,6 +35,9 @@ InHops n = (1 ≤ n) × (n ≤ 1000)
 abbrev pub InRows : ℕ → Type 0
 InRows n = (1 ≤ n) × (n ≤ 200000)
 
+abbrev pub InRejoins : ℕ → Type 0
+InRejoins n = n ≤ 1000
+
 abbrev pub AreStamps : ℕ × ℕ → Type 0
 AreStamps x = (1 ≤ x.0) × (x.0 < x.1) × (x.1 ≤ 4094)
 
@@ -42,6 +45,7 @@ pub record Holds (s : State) : Type 0 where
   pub hops : IfSome s.hops InHops
   pub capacity : IfSome s.capacity InRows
   pub stamps : IfSome s.stamps AreStamps
+  pub rejoins : IfSome s.rejoins InRejoins
   pub policies : length s.policies ≤ 64
   pub packets : length s.packets ≤ 10000
   pub events : length s.events ≤ 100000
@@ -57,6 +61,7 @@ start-holds = record {
   hops = tt;
   capacity = tt;
   stamps = tt;
+  rejoins = tt;
   policies = omega arith;
   packets = omega arith;
   events = omega arith;
@@ -107,6 +112,7 @@ layout-holds s k t h late low = record {
   hops = h.hops;
   capacity = h.capacity;
   stamps = h.stamps;
+  rejoins = h.rejoins;
   policies = h.policies;
   packets = h.packets;
   events = h.events;
@@ -128,6 +134,7 @@ kind-holds s k h late = record {
   hops = h.hops;
   capacity = h.capacity;
   stamps = h.stamps;
+  rejoins = h.rejoins;
   policies = h.policies;
   packets = h.packets;
   events = h.events;
@@ -140,22 +147,26 @@ kind-holds s k h late = record {
 }
 
 hops-holds : (s : State) (o : Option ℕ) → Holds s → IfSome o InHops → Holds (record s { hops = o })
-hops-holds s o h k = record { hops = k; capacity = h.capacity; stamps = h.stamps; policies = h.policies; packets = h.packets; events = h.events; read = h.read; arrives = h.arrives; named = h.named; no_packets = h.no_packets; no_events = h.no_events; inside = h.inside }
+hops-holds s o h k = record { hops = k; capacity = h.capacity; stamps = h.stamps; rejoins = h.rejoins; policies = h.policies; packets = h.packets; events = h.events; read = h.read; arrives = h.arrives; named = h.named; no_packets = h.no_packets; no_events = h.no_events; inside = h.inside }
 
 capacity-holds : (s : State) (o : Option ℕ) → Holds s → IfSome o InRows → Holds (record s { capacity = o })
-capacity-holds s o h k = record { hops = h.hops; capacity = k; stamps = h.stamps; policies = h.policies; packets = h.packets; events = h.events; read = h.read; arrives = h.arrives; named = h.named; no_packets = h.no_packets; no_events = h.no_events; inside = h.inside }
+capacity-holds s o h k = record { hops = h.hops; capacity = k; stamps = h.stamps; rejoins = h.rejoins; policies = h.policies; packets = h.packets; events = h.events; read = h.read; arrives = h.arrives; named = h.named; no_packets = h.no_packets; no_events = h.no_events; inside = h.inside }
 
 stamps-holds : (s : State) (o : Option (ℕ × ℕ)) → Holds s → IfSome o AreStamps → Holds (record s { stamps = o })
-stamps-holds s o h k = record { hops = h.hops; capacity = h.capacity; stamps = k; policies = h.policies; packets = h.packets; events = h.events; read = h.read; arrives = h.arrives; named = h.named; no_packets = h.no_packets; no_events = h.no_events; inside = h.inside }
+stamps-holds s o h k = record { hops = h.hops; capacity = h.capacity; stamps = k; rejoins = h.rejoins; policies = h.policies; packets = h.packets; events = h.events; read = h.read; arrives = h.arrives; named = h.named; no_packets = h.no_packets; no_events = h.no_events; inside = h.inside }
+
+rejoins-holds : (s : State) (o : Option ℕ) → Holds s → IfSome o InRejoins → Holds (record s { rejoins = o })
+rejoins-holds s o h k = record { hops = h.hops; capacity = h.capacity; stamps = h.stamps; rejoins = k; policies = h.policies; packets = h.packets; events = h.events; read = h.read; arrives = h.arrives; named = h.named; no_packets = h.no_packets; no_events = h.no_events; inside = h.inside }
 
 inside-holds : (s : State) (b : Bool) → Holds s → (b ≡ true → 5 ≤ place_of_kind s.reached) → Holds (record s { inside = b })
-inside-holds s b h k = record { hops = h.hops; capacity = h.capacity; stamps = h.stamps; policies = h.policies; packets = h.packets; events = h.events; read = h.read; arrives = h.arrives; named = h.named; no_packets = h.no_packets; no_events = h.no_events; inside = k }
+inside-holds s b h k = record { hops = h.hops; capacity = h.capacity; stamps = h.stamps; rejoins = h.rejoins; policies = h.policies; packets = h.packets; events = h.events; read = h.read; arrives = h.arrives; named = h.named; no_packets = h.no_packets; no_events = h.no_events; inside = k }
 
 pub policy-holds : (s : State) (p : Term) → Holds s → length s.policies < 64 → IsRead p → Holds (with_policy s p)
 policy-holds s p h few r = record {
   hops = h.hops;
   capacity = h.capacity;
   stamps = h.stamps;
+  rejoins = h.rejoins;
   policies = omega (arith, few, length-append s.policies (p ∷ []));
   packets = h.packets;
   events = h.events;
@@ -204,6 +215,16 @@ capacity-line-holds s t ws h e =
     let range = both-true (nat_le 1 x.0) (nat_le x.0 200000) c.0 in
     subst Holds (ok-is _ t c.1)
     (kind-holds (record s { capacity = Some x.0 }) kind.Setting (capacity-holds s (Some x.0) h (upto 1 x.0 range.0, upto x.0 200000 range.1)) (on-time s kind.Setting (left-false _ _ a.0)))
+
+rejoins-line-holds : (s t : State) (ws : List (List ℕ)) → Holds s → rejoins_line s ws ≡ Ok t → Holds t
+rejoins-line-holds s t ws h e =
+    let x = formed-ok (one_numeral ws) _ t e in
+    let a = refused-ok _ _ _ t x.2 in
+    let b = refused-ok _ _ _ t a.1 in
+    let c = refused-ok _ _ _ t b.1 in
+    let range = both-true (nat_le 0 x.0) (nat_le x.0 1000) c.0 in
+    subst Holds (ok-is _ t c.1)
+    (kind-holds (record s { rejoins = Some x.0 }) kind.Setting (rejoins-holds s (Some x.0) h (upto x.0 1000 range.1)) (on-time s kind.Setting (left-false _ _ a.0)))
 
 apart : (m n : ℕ) → (m == n) ≡ false → m ≢ n
 apart m n h = grind (arith, nat_tests)
@@ -284,6 +305,7 @@ packet-holds s p h few early at = record {
   hops = h.hops;
   capacity = h.capacity;
   stamps = h.stamps;
+  rejoins = h.rejoins;
   policies = h.policies;
   packets = omega (arith, few, length-append s.packets (p ∷ []));
   events = h.events;
@@ -301,6 +323,7 @@ event-holds s e h few late name = record {
   hops = h.hops;
   capacity = h.capacity;
   stamps = h.stamps;
+  rejoins = h.rejoins;
   policies = h.policies;
   packets = h.packets;
   events = omega (arith, few, length-append s.events (e ∷ []));
@@ -355,10 +378,11 @@ one-named s w n =
     (choose (Names s) (bytes_eq w (codes "reply")) _ _ (at-switch s (Names s) n (event.Reply n) (λ h. h))
     (choose (Names s) (bytes_eq w (codes "heard")) _ _ (at-switch s (Names s) n (event.Heard n) (λ h. h))
     (choose (Names s) (bytes_eq w (codes "lost")) _ _ (at-switch s (Names s) n (event.Lost n) (λ h. h))
+    (choose (Names s) (bytes_eq w (codes "rejoin")) _ _ (at-switch s (Names s) n (event.Rejoin n) (λ h. h))
     (choose (Names s) (bytes_eq w (codes "arrive")) _ _ (at-packet s (Names s) n (λ h. h))
     (choose (Names s) (bytes_eq w (codes "hop")) _ _ (ranged (Names s) (not (is_index n)) ValueRange (event.Hop n) tt)
     (choose (Names s) (bytes_eq w (codes "stuck")) _ _ (ranged (Names s) (not (is_index n)) ValueRange (event.Stuck n) tt)
-    (choose (Names s) (bytes_eq w (codes "drained")) _ _ (ranged (Names s) (not (is_vlan_id n)) ValueRange (event.Drained n) tt) (none-such (Names s))))))))))
+    (choose (Names s) (bytes_eq w (codes "drained")) _ _ (ranged (Names s) (not (is_vlan_id n)) ValueRange (event.Drained n) tt) (none-such (Names s)))))))))))
 
 two-named : (s : State) (w : List ℕ) (sw k : ℕ) (e : Event) → event_of_two s w sw k ≡ Ok e → Names s e
 two-named s w sw k =
@@ -397,6 +421,7 @@ few-events s head.Link ws e = e
 few-events s head.Hops ws e = e
 few-events s head.Capacity ws e = e
 few-events s head.Stamps ws e = e
+few-events s head.Rejoins ws e = e
 few-events s head.Schedule ws e = e
 few-events s head.Unlisted ws e = e
 
@@ -406,6 +431,7 @@ declares-holds s t head.Link all ws h few k = link-holds s t ws h (next-is (link
 declares-holds s t head.Hops all ws h few k = hops-line-holds s t ws h (next-is (hops_line s ws) t k)
 declares-holds s t head.Capacity all ws h few k = capacity-line-holds s t ws h (next-is (capacity_line s ws) t k)
 declares-holds s t head.Stamps all ws h few k = stamps-line-holds s t ws h (next-is (stamps_line s ws) t k)
+declares-holds s t head.Rejoins all ws h few k = rejoins-line-holds s t ws h (next-is (rejoins_line s ws) t k)
 declares-holds s t head.Policy all ws h few k = absurd (opens-no-next (policy_line s ws) t k)
 declares-holds s t head.Packet all ws h few k = enters-holds s t ws (packet_line s ws) refl h (below 10000 (length s.packets) (left-false _ _ few)) k
 declares-holds s t head.Schedule all ws h few k = schedule-line-holds s t ws h (next-is (schedule_line s ws) t k)
@@ -460,6 +486,7 @@ declares-opens s t head.Link all ws h few k = absurd (next-no-opening (link_line
 declares-opens s t head.Hops all ws h few k = absurd (next-no-opening (hops_line s ws) t k)
 declares-opens s t head.Capacity all ws h few k = absurd (next-no-opening (capacity_line s ws) t k)
 declares-opens s t head.Stamps all ws h few k = absurd (next-no-opening (stamps_line s ws) t k)
+declares-opens s t head.Rejoins all ws h few k = absurd (next-no-opening (rejoins_line s ws) t k)
 declares-opens s t head.Policy all ws h few k = opens-holds s t ws (policy_line s ws) refl h (below 64 (length s.policies) (left-false _ _ few)) k
 declares-opens s t head.Packet all ws h few k = absurd (enters-no-opening s (packet_line s ws) t k)
 declares-opens s t head.Schedule all ws h few k = absurd (next-no-opening (schedule_line s ws) t k)

@@ -10,7 +10,7 @@ use Rattle.document_text.specs.Texts.{lines_of, words_of, is_end}
 use Rattle.document_text.specs.Grammar.{Mode, Lines, Block, Does, Closes, Chosen, Goes, Ends, IsFrom, IsReading, finished, cut_off, most_bytes, line_behind}
 use Rattle.document_text.specs.Answers.{IsNext, IsOpening}
 use Rattle.document_text.specs.Laws.{IsWithin}
-use Rattle.document_text.proofs.Holding.{InHops, InRows, AreStamps, Holds, HasRoom, start-holds, policy-holds, step-holds, step-opens}
+use Rattle.document_text.proofs.Holding.{InHops, InRows, InRejoins, AreStamps, Holds, HasRoom, start-holds, policy-holds, step-holds, step-opens}
 
 abbrev HoldsIn : Mode → Type 0
 HoldsIn (Lines s) = Holds s
@@ -33,6 +33,7 @@ doc-within s h e = record {
     hops = or-default InHops s.hops 64 h.hops (omega arith, omega arith);
     capacity = or-default InRows s.capacity 200000 h.capacity (omega arith, omega arith);
     stamps = or-default AreStamps s.stamps (1, 4094) h.stamps (omega arith, omega arith, omega arith);
+    rejoins = or-default InRejoins s.rejoins 0 h.rejoins (omega arith);
   };
   policies = (some-policy s.policies e, h.policies);
   packets = h.packets;

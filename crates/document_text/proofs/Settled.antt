@@ -31,10 +31,10 @@ pub two-stamps : (low high : ℕ) → low ≢ high → (low == high) ≡ false
 two-stamps low high h = apart low high h
 
 -- a number that may not be given stops the line
-pub no-number : {U : Type 0} (s : State) (given given' : Bool) (most : ℕ) (ws : List (List ℕ)) (next : ℕ → Result State TextFault) (e : Stop) (r : Result U Stop) → given' ≡ given
-    → Leads (new_number s given' most ws) (Err e) → r ≡ Err e → Becomes (new_number s given most ws next) s s r
-no-number s given given' most ws next (stop.Fault f) r same h is = subst (λ x. Becomes (new_number s given most ws next) s s x) (sym is) (subst (λ g. new_number s g most ws next ≡ Err f) same (h next))
-no-number s given given' most ws next stop.Memory r same h is = subst (λ x. Becomes (new_number s given most ws next) s s x) (sym is) refl
+pub no-number : {U : Type 0} (s : State) (given given' : Bool) (least most : ℕ) (ws : List (List ℕ)) (next : ℕ → Result State TextFault) (e : Stop) (r : Result U Stop) → given' ≡ given
+    → Leads (new_number s given' least most ws) (Err e) → r ≡ Err e → Becomes (new_number s given least most ws next) s s r
+no-number s given given' least most ws next (stop.Fault f) r same h is = subst (λ x. Becomes (new_number s given least most ws next) s s x) (sym is) (subst (λ g. new_number s g least most ws next ≡ Err f) same (h next))
+no-number s given given' least most ws next stop.Memory r same h is = subst (λ x. Becomes (new_number s given least most ws next) s s x) (sym is) refl
 
 -- what passes all tests
 pub unset-ok-twice : (s : State) (given given' bad worse : Bool) (f g : TextFault) (t : State) → given' ≡ given → ((r : Result State TextFault) → unset s given' r ≡ r) → bad ≡ false → worse ≡ false

@@ -37,6 +37,7 @@ state t told = record {
   hops = told.hops;
   capacity = told.capacity;
   stamps = told.stamps;
+  rejoins = told.rejoins;
   policies = map term_of told.policies.items;
   packets = told.packets.items;
   inside = told.inside;

@@ -6,7 +6,7 @@ use Rattle.nk_syntax.specs.Terms.{Term}
 use Rattle.netkat_parser.specs.Grammar.{IsText}
 use Rattle.topology_model.specs.Layouts.{Layout, is_edge, has_switch, place_of}
 use Rattle.document_text.specs.declared.document.Event.{Event}
-use Rattle.document_text.specs.declared.document.Event.TheVariants.{Send, Take, Apply, Reply, Heard, Arrive, Lost}
+use Rattle.document_text.specs.declared.document.Event.TheVariants.{Send, Take, Apply, Reply, Heard, Arrive, Lost, Rejoin}
 use Rattle.document_text.specs.declared.document.PacketLine.{PacketLine}
 use Rattle.document_text.specs.declared.document.ScheduleLine.{ScheduleLine}
 use Rattle.document_text.specs.declared.document.Settings.{Settings}
@@ -34,6 +34,7 @@ IsNamed t n (Apply sw k) = has_switch t.switches sw ≡ true
 IsNamed t n (Reply sw) = has_switch t.switches sw ≡ true
 IsNamed t n (Heard sw) = has_switch t.switches sw ≡ true
 IsNamed t n (Lost sw) = has_switch t.switches sw ≡ true
+IsNamed t n (Rejoin sw) = has_switch t.switches sw ≡ true
 IsNamed t n (Arrive k) = (1 ≤ k) × (k ≤ n)
 IsNamed t n _ = Unit {0}
 
@@ -42,6 +43,7 @@ pub record AreSettings (s : Settings) : Type 0 where
   pub hops : (1 ≤ s.hops) × (s.hops ≤ 1000)
   pub capacity : (1 ≤ s.capacity) × (s.capacity ≤ 200000)
   pub stamps : (1 ≤ s.stamps.0) × (s.stamps.0 < s.stamps.1) × (s.stamps.1 ≤ 4094)
+  pub rejoins : s.rejoins ≤ 1000
 
 -- the policy is read from some text
 abbrev pub IsRead : Term → Type 0

@@ -70,21 +70,21 @@ abbrev pub two_numerals : List (List ℕ) → Option (ℕ × ℕ)
 two_numerals (a ∷ b ∷ []) = option_and_then (λ m. option_map (λ n. (m, n)) (numeral b)) (numeral a)
 two_numerals _ = None
 
--- the number of a setting, from 1 to the greatest
-abbrev pub new_number : State → Bool → ℕ → List (List ℕ) → (ℕ → Result State TextFault) → Result State TextFault
-new_number s given most ws next =
+-- the number of a setting, from the least to the greatest
+abbrev pub new_number : State → Bool → ℕ → ℕ → List (List ℕ) → (ℕ → Result State TextFault) → Result State TextFault
+new_number s given least most ws next =
     formed (one_numeral ws) (λ n.
     unset s given
-    (refused_if (not (nat_le 1 n && nat_le n most)) ValueRange
+    (refused_if (not (nat_le least n && nat_le n most)) ValueRange
     (next n)))
 
 -- `hops N`, 1 to 1,000
 abbrev pub hops_line : State → List (List ℕ) → Result State TextFault
-hops_line s ws = new_number s (is_some s.hops) 1000 ws (λ n. Ok (record s { reached = Setting; hops = Some n }))
+hops_line s ws = new_number s (is_some s.hops) 1 1000 ws (λ n. Ok (record s { reached = Setting; hops = Some n }))
 
 -- `capacity N`, 1 to 200,000
 abbrev pub capacity_line : State → List (List ℕ) → Result State TextFault
-capacity_line s ws = new_number s (is_some s.capacity) 200000 ws (λ n. Ok (record s { reached = Setting; capacity = Some n }))
+capacity_line s ws = new_number s (is_some s.capacity) 1 200000 ws (λ n. Ok (record s { reached = Setting; capacity = Some n }))
 
 -- `stamps LO HI`, two or more of 1 to 4094
 abbrev pub stamps_line : State → List (List ℕ) → Result State TextFault
@@ -94,6 +94,10 @@ stamps_line s ws =
     (refused_if (not (nat_le 1 x.0 && nat_le x.0 x.1 && nat_le x.1 4094)) StampRange
     (refused_if (x.0 == x.1) TooFewStamps
     (Ok (record s { reached = Setting; stamps = Some x })))))
+
+-- `rejoins N`, 0 to 1,000
+abbrev pub rejoins_line : State → List (List ℕ) → Result State TextFault
+rejoins_line s ws = new_number s (is_some s.rejoins) 0 1000 ws (λ n. Ok (record s { reached = Setting; rejoins = Some n }))
 
 -- `policy` alone, which begins a policy's text
 abbrev pub policy_line : State → List (List ℕ) → Result State TextFault

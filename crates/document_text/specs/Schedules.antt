@@ -6,7 +6,7 @@ use Rattle.nk_values.specs.declared.fault.TextFault.TheVariants.{BadLine, Unknow
 use Rattle.nk_values.specs.declared.field.Field.TheVariants.{Sw}
 use Rattle.topology_model.specs.Layouts.{has_switch}
 use Rattle.document_text.specs.declared.document.Event.{Event}
-use Rattle.document_text.specs.declared.document.Event.TheVariants.{Begin, Send, Take, Apply, Reply, Heard, Arrive, Hop, Drained, Lost, Stuck, Settle, Flow}
+use Rattle.document_text.specs.declared.document.Event.TheVariants.{Begin, Send, Take, Apply, Reply, Heard, Arrive, Hop, Drained, Lost, Rejoin, Stuck, Settle, Flow}
 use Rattle.document_text.specs.States.{State}
 use Rattle.document_text.specs.Packets.{is_value, is_vlan_id}
 use Rattle.document_text.specs.Texts.{numeral}
@@ -49,6 +49,7 @@ event_of_one s w n =
     if bytes_eq w (codes "reply") then at_switch s n (Reply n) else
     if bytes_eq w (codes "heard") then at_switch s n (Heard n) else
     if bytes_eq w (codes "lost") then at_switch s n (Lost n) else
+    if bytes_eq w (codes "rejoin") then at_switch s n (Rejoin n) else
     if bytes_eq w (codes "arrive") then arrival s n else
     if bytes_eq w (codes "hop") then refused_if (not (is_index n)) ValueRange (Ok (Hop n)) else
     if bytes_eq w (codes "stuck") then refused_if (not (is_index n)) ValueRange (Ok (Stuck n)) else

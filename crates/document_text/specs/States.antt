@@ -16,6 +16,7 @@ pub record State : Type 0 where
   pub hops : Option ℕ
   pub capacity : Option ℕ
   pub stamps : Option (ℕ × ℕ)
+  pub rejoins : Option ℕ
   pub policies : List Term
   pub packets : List PacketLine
   pub inside : Bool
@@ -29,6 +30,7 @@ start = record {
   hops = None;
   capacity = None;
   stamps = None;
+  rejoins = None;
   policies = [];
   packets = [];
   inside = false;
@@ -70,6 +72,7 @@ doc_of_state s = record {
     hops = unwrap_or s.hops 64;
     capacity = unwrap_or s.capacity 200000;
     stamps = unwrap_or s.stamps (1, 4094);
+    rejoins = unwrap_or s.rejoins 0;
   };
   schedule = s.events;
 }

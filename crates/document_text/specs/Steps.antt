@@ -11,7 +11,7 @@ use Rattle.document_text.specs.declared.head.Head.TheVariants as head
 use Rattle.document_text.specs.States.{State}
 use Rattle.document_text.specs.Texts.{is_end}
 use Rattle.document_text.specs.Schedules.{event_of}
-use Rattle.document_text.specs.Lines.{switch_line, link_line, hops_line, capacity_line, stamps_line, policy_line, packet_line, schedule_line}
+use Rattle.document_text.specs.Lines.{switch_line, link_line, hops_line, capacity_line, stamps_line, rejoins_line, policy_line, packet_line, schedule_line}
 
 -- What a line does: reading goes on; or it does where the packet is well shaped; or a policy's text begins; or reading stops.
 pub data Step : Type 0 where
@@ -25,8 +25,9 @@ abbrev pub head_of : List ℕ → Head
 head_of w =
     if bytes_eq w (codes "switch") then head.Switch else if bytes_eq w (codes "link") then head.Link else
     if bytes_eq w (codes "hops") then head.Hops else if bytes_eq w (codes "capacity") then head.Capacity else
-    if bytes_eq w (codes "stamps") then head.Stamps else if bytes_eq w (codes "policy") then head.Policy else
-    if bytes_eq w (codes "packet") then head.Packet else if bytes_eq w (codes "schedule") then head.Schedule else head.Unlisted
+    if bytes_eq w (codes "stamps") then head.Stamps else if bytes_eq w (codes "rejoins") then head.Rejoins else
+    if bytes_eq w (codes "policy") then head.Policy else if bytes_eq w (codes "packet") then head.Packet else
+    if bytes_eq w (codes "schedule") then head.Schedule else head.Unlisted
 
 -- the line is an event too many, the 100,001st
 abbrev pub event_too_many : State → List (List ℕ) → Bool
@@ -66,6 +67,7 @@ declares s head.Link ws = next (link_line s ws)
 declares s head.Hops ws = next (hops_line s ws)
 declares s head.Capacity ws = next (capacity_line s ws)
 declares s head.Stamps ws = next (stamps_line s ws)
+declares s head.Rejoins ws = next (rejoins_line s ws)
 declares s head.Policy ws = opens (policy_line s ws)
 declares s head.Packet ws = enters s (packet_line s ws)
 declares s head.Schedule ws = next (schedule_line s ws)

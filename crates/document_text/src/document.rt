@@ -10,12 +10,14 @@ pub struct PacketLine {
     pub tag: Tag,
 }
 
-/// The hop limit, the rows that a switch has room for, and the first and last stamp of the policies.
+/// The hop limit, the rows that a switch has room for, the first and last stamp of the policies, and how many
+/// sessions may be lost without a halt.
 #[derive(Clone, Copy, Debug, PartialEq, Eq)]
 pub struct Settings {
     pub hops: u32,
     pub capacity: u32,
     pub stamps: (u16, u16),
+    pub rejoins: u32,
 }
 
 /// A command of a schedule. Switches go by their numbers, packet lines count from 1, and flow mods and
@@ -32,6 +34,7 @@ pub enum Event {
     Hop(u32),
     Drained(u16),
     Lost(u16),
+    Rejoin(u16),
     Stuck(u32),
     Settle,
     Flow,

@@ -11,6 +11,7 @@ pub enum Head {
     Hops,
     Capacity,
     Stamps,
+    Rejoins,
     Policy,
     Packet,
     Schedule,
@@ -31,6 +32,8 @@ pub fn head_of(word: &[u8]) -> Head
         Head::Capacity
     } else if is_text(word, "stamps") {
         Head::Stamps
+    } else if is_text(word, "rejoins") {
+        Head::Rejoins
     } else if is_text(word, "policy") {
         Head::Policy
     } else if is_text(word, "packet") {

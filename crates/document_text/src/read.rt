@@ -18,6 +18,7 @@ use std::alloc::Global;
 /// hops N                      1 to 1,000
 /// capacity N                  1 to 200,000
 /// stamps LO HI                two or more of 1 to 4094
+/// rejoins N                   0 to 1,000
 /// policy .. end               a policy's text in lines of its own
 /// packet S:B name=value ..    header fields, and vlan for a tag
 /// schedule .. end             events in lines of their own

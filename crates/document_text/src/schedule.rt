@@ -76,6 +76,8 @@ fn event_of_one(reader: &Reader, word: &[u8], number: u64) -> Result<Event, Stop
         Ok(Event::Heard(declared(reader, number)?))
     } else if is_text(word, "lost") {
         Ok(Event::Lost(declared(reader, number)?))
+    } else if is_text(word, "rejoin") {
+        Ok(Event::Rejoin(declared(reader, number)?))
     } else if is_text(word, "arrive") {
         arrive(reader, number)
     } else if is_text(word, "hop") {

@@ -1,7 +1,7 @@
 //! The settings, and the line that begins a policy.
 ghost use Rattle.std.specs.Prelude.{◌≡◌, ◌≤◌, true, IfOk, OnOk};
 ghost use Rattle.document_text.specs.States.{State, has_edge};
-ghost use Rattle.document_text.specs.Lines.{unset, one_numeral, two_numerals, new_number, hops_line, capacity_line, stamps_line, policy_line};
+ghost use Rattle.document_text.specs.Lines.{unset, one_numeral, two_numerals, new_number, hops_line, capacity_line, stamps_line, rejoins_line, policy_line};
 ghost use Rattle.document_text.specs.Answers.{texts, state_of, Becomes, Forms, Leads, Lets};
 
 use crate::fault::Stop;
@@ -11,10 +11,12 @@ use crate::words::number;
 use nk_values::{GREATEST_VLAN_ID, TextFault};
 use std::alloc::Global;
 
-// The greatest hop limit and capacity.
+// The greatest hop limit, capacity and number of sessions that may be lost.
 const MOST_HOPS: u64 = 1000;
 
 const MOST_ROWS: u64 = 200_000;
+
+const MOST_REJOINS: u64 = 1000;
 
 // Stops if a setting may not stand here, or was given before.
 fn unset(reader: &Reader, alloc: Global, given: bool) -> Result<(), Stop>
@@ -49,21 +51,22 @@ fn two_numerals(words: &[&[u8]]) -> Result<(u64, u64), Stop>
     }
 }
 
-// The number of a setting that was not given before, from 1 to `most`.
+// The number of a setting that was not given before, from `least` to `most`.
 fn new_number(
     reader: &Reader,
     alloc: Global,
     words: &[&[u8]],
     given: bool,
+    least: u64,
     most: u64,
 ) -> Result<u64, Stop>
-    ensures leads { Leads {A = State} (new_number (state_of reader.now) given most (texts words.now)) result }
+    ensures leads { Leads {A = State} (new_number (state_of reader.now) given least most (texts words.now)) result }
     ensures range { IfOk result (λ n. n ≤ most) }
     ensures edge { OnOk result (has_edge reader.now.draft ≡ true) }
 {
     let number = one_numeral(words)?;
     unset(reader, alloc, given)?;
-    if number < 1 || number > most {
+    if number < least || number > most {
         return Err(Stop::Fault(TextFault::ValueRange));
     }
     Ok(number)
@@ -74,7 +77,7 @@ pub fn hops_line(reader: &mut Reader, alloc: Global, words: &[&[u8]]) -> Result<
     ensures { Becomes (hops_line (state_of reader.old) (texts words.now)) (state_of reader.old) (state_of reader.new) result }
 {
     let given = reader.told.hops.is_some();
-    let hops = new_number(reader, alloc, words, given, MOST_HOPS)?;
+    let hops = new_number(reader, alloc, words, given, 1, MOST_HOPS)?;
     reader.told.hops = Some(hops as u32);
     reader.told.reached = Kind::Setting;
     Ok(())
@@ -85,7 +88,7 @@ pub fn capacity_line(reader: &mut Reader, alloc: Global, words: &[&[u8]]) -> Res
     ensures { Becomes (capacity_line (state_of reader.old) (texts words.now)) (state_of reader.old) (state_of reader.new) result }
 {
     let given = reader.told.capacity.is_some();
-    let capacity = new_number(reader, alloc, words, given, MOST_ROWS)?;
+    let capacity = new_number(reader, alloc, words, given, 1, MOST_ROWS)?;
     reader.told.capacity = Some(capacity as u32);
     reader.told.reached = Kind::Setting;
     Ok(())
@@ -104,6 +107,17 @@ pub fn stamps_line(reader: &mut Reader, alloc: Global, words: &[&[u8]]) -> Resul
         return Err(Stop::Fault(TextFault::TooFewStamps));
     }
     reader.told.stamps = Some((low as u16, high as u16));
+    reader.told.reached = Kind::Setting;
+    Ok(())
+}
+
+/// Takes `rejoins N`.
+pub fn rejoins_line(reader: &mut Reader, alloc: Global, words: &[&[u8]]) -> Result<(), Stop>
+    ensures { Becomes (rejoins_line (state_of reader.old) (texts words.now)) (state_of reader.old) (state_of reader.new) result }
+{
+    let given = reader.told.rejoins.is_some();
+    let rejoins = new_number(reader, alloc, words, given, 0, MOST_REJOINS)?;
+    reader.told.rejoins = Some(rejoins as u32);
     reader.told.reached = Kind::Setting;
     Ok(())
 }

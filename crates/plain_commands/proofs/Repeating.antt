@@ -41,6 +41,7 @@ does-same sites packets (order.Arrive n) w x es v fs u k a p q = one-same (event
 does-same sites packets (order.Hop n) w x es v fs u k a p q = one-same (event_of sites packets (order.Hop n)) w x es v fs u k a p q
 does-same sites packets (order.Drained stamp) w x es v fs u k a p q = one-same (event_of sites packets (order.Drained stamp)) w x es v fs u k a p q
 does-same sites packets (order.Lost sw) w x es v fs u k a p q = one-same (event_of sites packets (order.Lost sw)) w x es v fs u k a p q
+does-same sites packets (order.Rejoin sw) w x es v fs u k a p q = one-same (event_of sites packets (order.Rejoin sw)) w x es v fs u k a p q
 does-same sites packets (order.Stuck n) w x es v fs u k a p q = one-same (event_of sites packets (order.Stuck n)) w x es v fs u k a p q
 
 carried-same : (sites : List Site) (packets : List PacketLine) (w x : WorldValue) (ls : List ScheduleLine) (es : List Event) (v : WorldValue) (fs : List Event) (u : WorldValue) → IsKept w → AreAlike w x →
@@ -86,6 +87,7 @@ no-does sites packets (order.Arrive n) w x es v k a d h = no-one (event_of sites
 no-does sites packets (order.Hop n) w x es v k a d h = no-one (event_of sites packets (order.Hop n)) w x es v k a d h
 no-does sites packets (order.Drained stamp) w x es v k a d h = no-one (event_of sites packets (order.Drained stamp)) w x es v k a d h
 no-does sites packets (order.Lost sw) w x es v k a d h = no-one (event_of sites packets (order.Lost sw)) w x es v k a d h
+no-does sites packets (order.Rejoin sw) w x es v k a d h = no-one (event_of sites packets (order.Rejoin sw)) w x es v k a d h
 no-does sites packets (order.Stuck n) w x es v k a d h = no-one (event_of sites packets (order.Stuck n)) w x es v k a d h
 
 -- lines that are all carried out stop nowhere

@@ -59,6 +59,7 @@ does-runs sites packets (order.Arrive n) w es v d = one-runs (event_of sites pac
 does-runs sites packets (order.Hop k) w es v d = one-runs (event_of sites packets (order.Hop k)) w es v d
 does-runs sites packets (order.Drained stamp) w es v d = one-runs (event_of sites packets (order.Drained stamp)) w es v d
 does-runs sites packets (order.Lost sw) w es v d = one-runs (event_of sites packets (order.Lost sw)) w es v d
+does-runs sites packets (order.Rejoin sw) w es v d = one-runs (event_of sites packets (order.Rejoin sw)) w es v d
 does-runs sites packets (order.Stuck k) w es v d = one-runs (event_of sites packets (order.Stuck k)) w es v d
 
 pub carried-runs : (sites : List Site) (packets : List PacketLine) (w : WorldValue) (ls : List ScheduleLine) (es : List Event) (v : WorldValue) → CarriedOut sites packets w ls es v → Runs w es v
@@ -81,6 +82,7 @@ does-one sites packets (order.Arrive n) w es v a b d = d
 does-one sites packets (order.Hop k) w es v a b d = d
 does-one sites packets (order.Drained stamp) w es v a b d = d
 does-one sites packets (order.Lost sw) w es v a b d = d
+does-one sites packets (order.Rejoin sw) w es v a b d = d
 does-one sites packets (order.Stuck k) w es v a b d = d
 
 -- and cannot happen where its event cannot
@@ -97,6 +99,7 @@ cannot-one sites packets (order.Arrive n) w a b h = h
 cannot-one sites packets (order.Hop k) w a b h = h
 cannot-one sites packets (order.Drained stamp) w a b h = h
 cannot-one sites packets (order.Lost sw) w a b h = h
+cannot-one sites packets (order.Rejoin sw) w a b h = h
 cannot-one sites packets (order.Stuck k) w a b h = h
 
 -- one line more is carried out

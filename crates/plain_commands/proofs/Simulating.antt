@@ -43,9 +43,9 @@ reported halts d versions w packets schedule text s r =
       text_is = r.text_is;
     }
 
-pub starts : (d : Document) (versions : List Version) (w : WorldValue) (hops capacity : ℕ) (packets : List PacketLine) (schedule : List ScheduleLine) → w ≡ start d.topology versions (record { hops = hops; capacity = capacity; rejoins = 0 }) → hops ≡ d.settings.hops → capacity ≡ d.settings.capacity → EveryRunIsGood w →
+pub starts : (d : Document) (versions : List Version) (w : WorldValue) (hops capacity rejoins : ℕ) (packets : List PacketLine) (schedule : List ScheduleLine) → w ≡ start d.topology versions (record { hops = hops; capacity = capacity; rejoins = rejoins }) → hops ≡ d.settings.hops → capacity ≡ d.settings.capacity → rejoins ≡ d.settings.rejoins → EveryRunIsGood w →
     packets ≡ d.packets.items → schedule ≡ d.schedule.items → Starts d versions w packets schedule
-starts d versions w hops capacity packets schedule a b c r p l = record { world = a ∙ (λ i. start d.topology versions (record { hops = b i; capacity = c i; rejoins = 0 })); runs = r; packets_are = p; schedule_is = l }
+starts d versions w hops capacity rejoins packets schedule a b c e r p l = record { world = a ∙ (λ i. start d.topology versions (record { hops = b i; capacity = c i; rejoins = e i })); runs = r; packets_are = p; schedule_is = l }
 
 pub simulated : (d : Document) (versions : List Version) (w : WorldValue) (packets : List PacketLine) (schedule : List ScheduleLine) (r : Result Answer AnswerError) → Starts d versions w packets schedule → IfOk r (IsReported packets w schedule) → IfOk r (IsSimulatedAs d versions)
 simulated d versions w packets schedule (Ok a) s h = record { halts = h.halts; status = h.status; simulation = reported h.halts d versions w packets schedule a.text s h.report }

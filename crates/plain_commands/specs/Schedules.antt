@@ -28,6 +28,7 @@ event_of sites packets (order.Arrive n) = option_map arrive (slice_get packets (
 event_of sites packets (order.Hop k) = Some (event.Hop k)
 event_of sites packets (order.Drained stamp) = Some (event.Drained stamp)
 event_of sites packets (order.Lost sw) = option_map event.Lost (place_in sites sw)
+event_of sites packets (order.Rejoin sw) = option_map event.Rejoin (place_in sites sw)
 event_of sites packets (order.Stuck k) = Some (event.Stuck k)
 event_of sites packets order.Settle = None
 event_of sites packets order.Flow = None

@@ -87,6 +87,7 @@ fn event_of(topology: &Topology, packets: &[PacketLine], order: Order) -> Option
         Order::Hop(copy) => Some(Event::Hop(copy as usize)),
         Order::Drained(stamp) => Some(Event::Drained(stamp)),
         Order::Lost(sw) => Some(Event::Lost(topology.place(sw)?)),
+        Order::Rejoin(sw) => Some(Event::Rejoin(topology.place(sw)?)),
         Order::Stuck(copy) => Some(Event::Stuck(copy as usize)),
         Order::Settle | Order::Flow => None,
     }

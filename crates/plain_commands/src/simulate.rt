@@ -51,7 +51,7 @@ fn simulation(
     let settings = Settings {
         hops,
         capacity: settings.capacity as usize,
-        rejoins: 0,
+        rejoins: settings.rejoins as usize,
     };
     let mut world = World::start(alloc, versions, topology, settings)?;
     report(alloc, &mut world, &packets, &schedule)

@@ -15,6 +15,7 @@ sound text d read =
     record {
       stamps = record { low = w.settings.stamps.0; rising = w.settings.stamps.1; high = w.settings.stamps.2 };
       hops = omega (arith, w.settings.hops.0);
+      rejoins = w.settings.rejoins;
       policies = w.policies.1;
       few = λ p m. let r = w.read p m in few_named p (text-few r.0 p r.1);
       packets = λ l m. let a = w.arrives l m in record { shaped = a.shaped; edge = test_edge d.layout (standing l.packet) a.edge };

@@ -26,7 +26,7 @@ use Rattle.program_answer.specs.declared.answer.AnswerError.TheVariants as error
 use Rattle.program_answer.specs.Answers.{Reads, Stops}
 use Rattle.program_answer.specs.Called.{Change, HasRisen, NetSeen, SourceSeen}
 use Rattle.program_answer.specs.Input.{IsAccepted, IsAcceptedAs, IsRefused}
-use Rattle.program_answer.specs.Worlds.{IsWorldAnswer, start_of}
+use Rattle.program_answer.specs.Worlds.{IsWorldAnswer, start_with}
 use Rattle.program_answer.proofs.Stopping.{reads_more}
 use Rattle.thread_commands.specs.Run.{AreGathered, AreToldSince, HasNext, HaveStreams, IsRanAs, IsRunAnswer, RunStops, TellsCut, line_of, lines_of, told}
 use Rattle.thread_commands.proofs.KeptEnds.{kept-at, told-before}
@@ -68,7 +68,7 @@ still-done lines w still (inr done) = done
 
 -- the report of a run is that of its journal and world
 pub ran_as : {E : Type 0} (named faults : E → ℕ) (received : E → Option (List ℕ)) (net : NetSeen) (d : Doc) (versions : List Version) (s0 w : WorldValue) (journal : List Entry) (ends : List E) (lines : List Line) (a : Answer)
-    → s0 ≡ start_of d versions → EveryRunIsGood s0 → IsJournal named faults received s0 w journal ends → AreCounted faults ends net.broken → AreGathered received ends net.gathered → lines ≡ lines_of d → IsOver lines w → IsWorldAnswer w (events_of journal) a → IsRanAs net d versions a
+    → s0 ≡ start_with d versions 0 → EveryRunIsGood s0 → IsJournal named faults received s0 w journal ends → AreCounted faults ends net.broken → AreGathered received ends net.gathered → lines ≡ lines_of d → IsOver lines w → IsWorldAnswer w (events_of journal) a → IsRanAs net d versions a
 ran_as named faults received net d versions s0 w journal ends lines a is good j counts g same over r = record {
   halts = is_some w.fleet.control.halt;
   status = r.status;
@@ -91,7 +91,7 @@ lines_more [] l = refl
 lines_more (x ∷ ls) l = ap (λ (xs : List Line). line_of x ∷ xs) (lines_more ls l)
 
 -- the world that the call made is the document's
-pub starts_as : (d : Document) (versions : List Version) (w : WorldValue) (hops capacity : ℕ) → w ≡ start d.topology versions (record { hops = hops; capacity = capacity; rejoins = 0 }) → hops ≡ d.settings.hops → capacity ≡ d.settings.capacity → w ≡ start_of (doc_of d) versions
+pub starts_as : (d : Document) (versions : List Version) (w : WorldValue) (hops capacity : ℕ) → w ≡ start d.topology versions (record { hops = hops; capacity = capacity; rejoins = 0 }) → hops ≡ d.settings.hops → capacity ≡ d.settings.capacity → w ≡ start_with (doc_of d) versions 0
 starts_as d versions w hops capacity a b c = a ∙ (λ i. start d.topology versions (record { hops = b i; capacity = c i; rejoins = 0 }))
 
 -- ---- of a source

@@ -26,7 +26,7 @@ use Rattle.program_answer.specs.Answers.{Reads, StopsBy}
 use Rattle.program_answer.specs.Called.{Change, HasRisen, IsSame, NetSeen, SourceSeen}
 use Rattle.program_answer.specs.Input.{IsAccepted, IsAcceptedAs, IsRefused}
 use Rattle.program_answer.specs.Statuses.{report_status}
-use Rattle.program_answer.specs.Worlds.{start_of}
+use Rattle.program_answer.specs.Worlds.{start_with}
 
 -- the packet of a line of the document
 abbrev pub line_of : PacketLine → Line
@@ -71,7 +71,7 @@ told s side events = length (filter (is_told s side) events)
 pub record IsRunOf (halts : Bool) (net : NetSeen) (d : Doc) (versions : List Version) (text : List ℕ) : Type 0 where
   pub events : List Event
   pub world : WorldValue
-  pub runs : Runs (start_of d versions) events world
+  pub runs : Runs (start_with d versions 0) events world
   pub good : AreGood world
   pub ends : is_some world.fleet.control.halt ≡ halts
   pub done : halts ≡ false → IsDone (lines_of d) world

@@ -67,7 +67,7 @@ document_of n = record {
   layout = layout_of (topology_lines (switch_count n));
   policies = policies (switch_count n) (policy_count n) (seeded n);
   packets = packets (switch_count n) (packet_count n) (behind (policy_count n) (seeded n));
-  settings = record { hops = 64; capacity = 200000; stamps = (1, 4094) };
+  settings = record { hops = 64; capacity = 200000; stamps = (1, 4094); rejoins = 0 };
   schedule = [];
 }
 

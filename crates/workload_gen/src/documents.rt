@@ -34,6 +34,7 @@ pub fn generate(alloc: Global, number: u64) -> Result<(Document, Lcg64Xsh32), Al
             hops: 64,
             capacity: 200_000,
             stamps: (1, 4094),
+            rejoins: 0,
         },
         schedule: Vec::new(alloc),
     };

@@ -8,4 +8,4 @@ pub returns-in_err-capacity : goal.returns-in_err-capacity
 returns-in_err-capacity c =
     let s = state_of c.args.reader.now in
     let is : c.from_residual.result ≡ Err c.in_err-capacity.field-0.0 = search rules in
-    no-number s _ _ 200000 (texts c.args.words.now) (λ (n : ℕ). Ok (record s { reached = Setting; capacity = Some n })) _ c.from_residual.result c.is_some-given.ensures c.in_err-capacity.ensures.leads is
+    no-number s _ _ 1 200000 (texts c.args.words.now) (λ (n : ℕ). Ok (record s { reached = Setting; capacity = Some n })) _ c.from_residual.result c.is_some-given.ensures c.in_err-capacity.ensures.leads is

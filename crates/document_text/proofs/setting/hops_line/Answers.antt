@@ -8,4 +8,4 @@ pub returns-in_err-hops : goal.returns-in_err-hops
 returns-in_err-hops c =
     let s = state_of c.args.reader.now in
     let is : c.from_residual.result ≡ Err c.in_err-hops.field-0.0 = search rules in
-    no-number s _ _ 1000 (texts c.args.words.now) (λ (n : ℕ). Ok (record s { reached = Setting; hops = Some n })) _ c.from_residual.result c.is_some-given.ensures c.in_err-hops.ensures.leads is
+    no-number s _ _ 1 1000 (texts c.args.words.now) (λ (n : ℕ). Ok (record s { reached = Setting; hops = Some n })) _ c.from_residual.result c.is_some-given.ensures c.in_err-hops.ensures.leads is

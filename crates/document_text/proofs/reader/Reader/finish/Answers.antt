@@ -13,6 +13,6 @@ returns-then-is_empty c =
 pub returns : goal.returns
 returns c =
     let policies = c.args.self.told.policies in
-    rw (c.in-Ok.ensures.layout, c.unwrap_or.ensures, c.unwrap_or-2.ensures, c.unwrap_or-3.ensures)
+    rw (c.in-Ok.ensures.layout, c.unwrap_or.ensures, c.unwrap_or-2.ensures, c.unwrap_or-3.ensures, c.unwrap_or-4.ensures)
     (finish-ok (state_of c.args.self) c.args.line c.if-self.false (edge_from c.args.self.draft c.in-Ok.ensures.faultless)
     (filled-map policies.items policies.len (omega (arith, policies.ok.0)) (sym c.is_empty.ensures ∙ c.if-is_empty.false)))
