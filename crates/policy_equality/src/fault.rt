@@ -1,0 +1,23 @@
+// Why two policies are not compared.
+use fdd_apart::Side;
+use nk_values::CompileFault;
+use std::alloc::AllocError;
+
+/// A policy has no diagram, or memory ran out.
+#[derive(Clone, Copy, Debug, PartialEq, Eq)]
+pub enum CompareError {
+    /// The fault of one of the two policies.
+    Fault { side: Side, fault: CompileFault },
+    Memory,
+}
+
+impl From<AllocError> for CompareError {
+    ghost use Rattle.std.specs.Prelude.{◌≡◌};
+    ghost use Rattle.policy_equality.specs.declared.fault.CompareError.TheVariants.{Memory};
+
+    ghost from_gives = { λ _ e. e ≡ Memory };
+
+    fn from(_: AllocError) -> Self {
+        CompareError::Memory
+    }
+}

@@ -1,0 +1,10 @@
+//! Whether two policies give each well-shaped packet the same results (POPL 2014, section 4; ICFP 2015, section 3).
+#![tactic(auto)]
+
+mod comparison;
+mod fault;
+mod names;
+
+pub use comparison::compare;
+pub use fault::CompareError;
+pub use fdd_apart::{Apart, Side};
