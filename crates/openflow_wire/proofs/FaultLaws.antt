@@ -2,7 +2,6 @@
 use Rattle.std.proofs.Common.{◌≡◌, ◌≢◌, ℕ, ◌-◌, ◌%◌, ◌<◌, ◌≤◌, ◌⊎◌, Bool, true, false, eqb, leb, List, [], ◌∷◌, length, drop, Option, Some, None, Result, Ok, Err, refl, sym, ap, subst, ◌∙◌, inl, inr, arith}
 use Rattle.std.specs.Prelude.{◌&&◌, not, IfOk, IfErr, is_ok}
 use Rattle.std.proofs.lemmas.Bool.{le-ltb, lt-ltb, lt-leb, le-leb, eq-eqb, cases_lt}
-use Rattle.nk_values.specs.declared.action.Action.{Action}
 use Rattle.nk_values.specs.declared.row.FlowMod.{FlowMod}
 use Rattle.nk_values.specs.declared.row.Command.{Command}
 use Rattle.openflow_wire.specs.declared.message.Message.{Message}
@@ -13,16 +12,13 @@ use Rattle.openflow_wire.specs.declared.fault.WireError.{WireError}
 use Rattle.openflow_wire.specs.declared.fault.WireError.TheVariants.{Fault, Memory}
 use Rattle.openflow_wire.specs.Places.{number_at}
 use Rattle.openflow_wire.specs.Matches.{match_at}
-use Rattle.openflow_wire.specs.Spelling.{Spells, IsLight, KeepsBytes, IsNoneOf, known}
+use Rattle.openflow_wire.specs.Spelling.{Spells, IsLight, KeepsBytes, IsNoneOf}
 use Rattle.openflow_wire.specs.Faults.{IsSpoken, IsSoundHead, among, body_lengths, has_length, HasCommand, HasActions, IsBodyFault, IsFirstFault, IsRefusal}
-use Rattle.openflow_wire.specs.Reading.{◌>>=◌, or_fault, ReadsAs, command_of, actions_of, change_of, error_of, features_of, bare, body_rows, body_of, reads}
-use Rattle.openflow_wire.proofs.Laws.{by-row, keys, among-none, actions-again, actions-spelled, command-again, command-spelled, read-spelled, spelled-read, test}
-
-abbrev err : {A : Type 0} → WireFault → Result A WireFault
-err f = Err f
-
-err-is : {A : Type 0} (f g : WireFault) → err {A = A} f ≡ Err g → f ≡ g
-err-is f g e = cc
+use Rattle.openflow_wire.specs.Reading.{◌>>=◌, ReadsAs, command_of, change_of, error_of, features_of, bare, body_rows, body_of, reads}
+use Rattle.openflow_wire.proofs.TestLaws.{err, err-is, test}
+use Rattle.openflow_wire.proofs.ActionLaws.{actions-again, actions-case, actions-spelled}
+use Rattle.openflow_wire.proofs.StatsLaws.{request-told, reply-told, request-short, reply-short, request-misled, reply-fault}
+use Rattle.openflow_wire.proofs.Laws.{by-row, keys, among-none, command-again, command-spelled, read-spelled, spelled-read}
 
 abbrev EachAt : {A : Type 0} → (A → Type 0) → ℕ → List (ℕ × A) → Type 0
 EachAt P kind [] = Unit {0}
@@ -40,14 +36,6 @@ each-row P kind (row ∷ rows) other each none =
 some-case : {A : Type 0} (o : Option A) → (o ≡ None) ⊎ ((x : A) × (o ≡ Some x))
 some-case None = inl refl
 some-case (Some x) = inr (x, refl)
-
-or-fault-case : {A : Type 0} (f : WireFault) (o : Option A) → (or_fault f o ≡ Err f) ⊎ ((x : A) × (or_fault f o ≡ Ok x))
-or-fault-case f None = inl refl
-or-fault-case f (Some x) = inr (x, refl)
-
-actions-case : (bytes : List ℕ) → (actions_of bytes ≡ Err BadAction) ⊎ ((x : List Action) × (actions_of bytes ≡ Ok x))
-unfolding actions_of
-actions-case bytes = or-fault-case BadAction _
 
 -- ---- a flow mod: the tests in order, each with what it says
 
@@ -82,7 +70,7 @@ change-way body =
 -- ---- what is told of a body is its fault
 
 wrong : (kind k : ℕ) (body : List ℕ) (f : WireFault) → kind ≡ k → BadLength ≡ f → has_length k (length body) ≡ false → IsBodyFault kind body f
-wrong kind k body f is e h = subst (λ (g : WireFault). IsBodyFault kind body g) e (subst (λ (i : ℕ). has_length i (length body) ≡ false) (sym is) h)
+wrong kind k body f is e h = subst (λ (g : WireFault). IsBodyFault kind body g) e (inl (subst (λ (i : ℕ). has_length i (length body) ≡ false) (sym is) h))
 
 error-told : (kind xid : ℕ) (body : List ℕ) (f : WireFault) → kind ≡ 1 → error_of xid body ≡ Err f → IsBodyFault kind body f
 unfolding error_of
@@ -116,7 +104,7 @@ change-told kind xid body f is e =
     elim (change-way body) [
       | short lt r ↦ wrong kind 14 body f is (err-is {A = Message} BadLength f (rw r at e)) (lt-leb 64 (length body) lt)
       | no_command long lacks r ↦ subst (λ (g : WireFault). IsBodyFault kind body g) (err-is {A = Message} BadCommand f (rw r at e)) (is, long, lacks)
-      | no_actions long has lacks r ↦ subst (λ (g : WireFault). IsBodyFault kind body g) (err-is {A = Message} BadAction f (rw r at e)) (is, long, has, lacks)
+      | no_actions long has lacks r ↦ subst (λ (g : WireFault). IsBodyFault kind body g) (err-is {A = Message} BadAction f (rw r at e)) (inl (is, long, has, lacks))
       | right change long has all r ↦ (let q = rw r at e in absurd cc)
     ]
 
@@ -136,7 +124,13 @@ body-told version kind xid body f e =
                 λ k e. features-told kind xid body f k e,
                 (
                   λ k e. change-told kind xid body f k e,
-                  (λ k e. bare-told kind 18 (to.BarrierRequest xid) body f k refl e, (λ k e. bare-told kind 19 (to.BarrierReply xid) body f k refl e, tt)),
+                  (
+                    λ k e. request-told kind xid body f k e,
+                    (
+                      λ k e. reply-told kind xid body f k e,
+                      (λ k e. bare-told kind 18 (to.BarrierRequest xid) body f k refl e, (λ k e. bare-told kind 19 (to.BarrierReply xid) body f k refl e, tt)),
+                    ),
+                  ),
                 ),
               ),
             ),
@@ -175,10 +169,10 @@ change-short xid body h =
 bare-long : (m : Message) (body : List ℕ) → eqb (length body) 0 ≡ false → bare m body ≡ Err BadLength
 bare-long m body h = rw h refl
 
-any-length : (kind n : ℕ) → IsNoneOf known kind → has_length kind n ≡ true
+any-length : (kind n : ℕ) → IsNoneOf (0 ∷ 1 ∷ 2 ∷ 3 ∷ 5 ∷ 6 ∷ 14 ∷ 16 ∷ 17 ∷ 18 ∷ 19 ∷ []) kind → has_length kind n ≡ true
 any-length kind n h =
     ap (λ (p : ℕ → Bool). p n) (among-none kind body_lengths (λ n. true)
-    (h.1.0, (h.1.1.1.1.0, (h.1.1.1.1.1.0, (h.1.1.1.1.1.1.0, (h.1.1.1.1.1.1.1.0, (h.1.1.1.1.1.1.1.1.0, tt)))))))
+    (h.1.0, (h.1.1.1.1.0, (h.1.1.1.1.1.0, (h.1.1.1.1.1.1.0, (h.1.1.1.1.1.1.1.0, (h.1.1.1.1.1.1.1.1.0, (h.1.1.1.1.1.1.1.1.1.0, (h.1.1.1.1.1.1.1.1.1.1.0, tt)))))))))
 
 length-read : (version kind xid : ℕ) (body : List ℕ) → has_length kind (length body) ≡ false → body_of version kind xid body ≡ Err BadLength
 length-read version kind xid body h =
@@ -197,7 +191,13 @@ length-read version kind xid body h =
                 λ k. features-short xid body (at 6 k),
                 (
                   λ k. change-short xid body (at 14 k),
-                  (λ k. bare-long (to.BarrierRequest xid) body (at 18 k), (λ k. bare-long (to.BarrierReply xid) body (at 19 k), tt)),
+                  (
+                    λ k. request-short xid body (at 16 k),
+                    (
+                      λ k. reply-short xid body (at 17 k),
+                      (λ k. bare-long (to.BarrierRequest xid) body (at 18 k), (λ k. bare-long (to.BarrierReply xid) body (at 19 k), tt)),
+                    ),
+                  ),
                 ),
               ),
             ),
@@ -227,9 +227,15 @@ action-read xid body long has lacks =
 
 body-read : (version kind xid : ℕ) (body : List ℕ) (f : WireFault) → IsBodyFault kind body f → body_of version kind xid body ≡ Err f
 body-read version kind xid body BadVersion h = absurd h
-body-read version kind xid body BadLength h = length-read version kind xid body h
+body-read version kind xid body BadLength (inl h) = length-read version kind xid body h
+body-read version kind xid body BadLength (inr (inl h)) =
+    subst (λ (k : ℕ). body_of version k xid body ≡ Err BadLength) (sym h.kind_is) (request-misled xid body h.long h.form_is h.size)
+body-read version kind xid body BadLength (inr (inr h)) =
+    subst (λ (k : ℕ). body_of version k xid body ≡ Err BadLength) (sym h.kind_is) (reply-fault xid body BadLength h.long h.form_is h.entries)
 body-read version kind xid body BadCommand h = subst (λ (k : ℕ). body_of version k xid body ≡ Err BadCommand) (sym h.0) (command-read xid body h.1 h.2)
-body-read version kind xid body BadAction h = subst (λ (k : ℕ). body_of version k xid body ≡ Err BadAction) (sym h.0) (action-read xid body h.1 h.2 h.3)
+body-read version kind xid body BadAction (inl h) = subst (λ (k : ℕ). body_of version k xid body ≡ Err BadAction) (sym h.0) (action-read xid body h.1 h.2 h.3)
+body-read version kind xid body BadAction (inr h) =
+    subst (λ (k : ℕ). body_of version k xid body ≡ Err BadAction) (sym h.kind_is) (reply-fault xid body BadAction h.long h.form_is h.entries)
 
 -- ---- whole messages: the tests of the head in order, each with what it says
 
@@ -345,11 +351,13 @@ is-told bytes (Ok m) given = tt
 is-told bytes (Err (Fault f)) given = read-fault bytes f given
 is-told bytes (Err Memory) given = memory-told bytes (reads bytes) refl given
 
-light-kind : (bytes : List ℕ) (m : Message) → Spells bytes m → IsLight m → ¬ (KeepsBytes (number_at 1 1 bytes))
-light-kind bytes (to.Hello version xid) s l k = k.0 s.kind_is
-light-kind bytes (to.FeaturesRequest xid) s l k = k.1.0 s.0.kind_is
-light-kind bytes (to.BarrierRequest xid) s l k = k.1.1.0 s.0.kind_is
-light-kind bytes (to.BarrierReply xid) s l k = k.1.1.1.0 s.0.kind_is
+light-kind : (bytes : List ℕ) (m : Message) → Spells bytes m → IsLight m → ¬ (KeepsBytes (number_at 1 1 bytes) (drop 8 bytes))
+light-kind bytes (to.Hello version xid) s l k = k.other.0 s.kind_is
+light-kind bytes (to.FeaturesRequest xid) s l k = k.other.1.0 s.0.kind_is
+light-kind bytes (to.BarrierRequest xid) s l k = k.other.1.1.0 s.0.kind_is
+light-kind bytes (to.BarrierReply xid) s l k = k.other.1.1.1.0 s.0.kind_is
+light-kind bytes (to.FlowStatsRequest xid pattern table out_port) s l k = k.no_request s.0.kind_is s.1.form_is
+light-kind bytes (to.FlowStatsReply xid more entries) s l k = l
 light-kind bytes (to.Error xid form code payload) s l k = l
 light-kind bytes (to.EchoRequest xid payload) s l k = l
 light-kind bytes (to.EchoReply xid payload) s l k = l
@@ -358,7 +366,7 @@ light-kind bytes (to.FlowMod xid change) s l k = l
 light-kind bytes (to.Other number xid body) s l k = l
 
 pub is-light : (bytes : List ℕ) (m : Message) (r : Result Message WireError) → Spells bytes m → IsLight m → (r ≡ Ok m) ⊎ (r ≡ Err Memory)
-    → (r ≡ Err Memory → KeepsBytes (number_at 1 1 bytes)) → r ≡ Ok m
+    → (r ≡ Err Memory → KeepsBytes (number_at 1 1 bytes) (drop 8 bytes)) → r ≡ Ok m
 is-light bytes m r s l (inl e) keeps = e
 is-light bytes m r s l (inr e) keeps = absurd (light-kind bytes m s l (keeps e))
 

@@ -1,6 +1,6 @@
 // Messages in short.
 use nk_values::FlowMod;
-use openflow_wire::Message;
+use openflow_wire::{FlowStats, Message};
 use std::alloc::{AllocError, Global};
 
 /// A message in short: its kind, its transaction number and its numbers. Bytes that it keeps are left out.
@@ -27,6 +27,19 @@ pub fn short(alloc: Global, message: &Message) -> Result<String, AllocError> {
             )
         }
         Message::FlowMod { change, .. } => short_change(alloc, xid, change),
+        Message::FlowStatsRequest {
+            pattern,
+            table,
+            out_port,
+            ..
+        } => {
+            format!(in alloc;
+                "FLOW_STATS_REQUEST {xid}: {pattern:?} table {table} out_port {out_port}"
+            )
+        }
+        Message::FlowStatsReply { more, entries, .. } => {
+            short_reply(alloc, xid, *more, entries.as_slice())
+        }
         Message::BarrierRequest { .. } => format!(in alloc; "BARRIER_REQUEST {xid}"),
         Message::BarrierReply { .. } => format!(in alloc; "BARRIER_REPLY {xid}"),
         Message::Other { number, .. } => format!(in alloc; "type {number} {xid}"),
@@ -42,5 +55,37 @@ fn short_change(alloc: Global, xid: u32, change: &FlowMod) -> Result<String, All
         change.priority,
         change.out_port,
         change.actions.as_slice()
+    )
+}
+
+// A reply with rows: whether more come, and each entry.
+fn short_reply(
+    alloc: Global,
+    xid: u32,
+    more: bool,
+    entries: &[FlowStats],
+) -> Result<String, AllocError> {
+    let mut text = format!(in alloc; "FLOW_STATS_REPLY {xid}: more {more}")?;
+    for entry in entries {
+        text.push_str(&short_entry(alloc, entry)?)?;
+    }
+    Ok(text)
+}
+
+// An entry: its row, and the numbers that stand beside it.
+fn short_entry(alloc: Global, entry: &FlowStats) -> Result<String, AllocError> {
+    format!(in alloc;
+        ", table {} {:?} priority {} {:?} seconds {} nanoseconds {} idle {} hard {} cookie {} packets {} bytes {}",
+        entry.table,
+        entry.row.pattern,
+        entry.row.priority,
+        entry.row.actions.as_slice(),
+        entry.seconds,
+        entry.nanoseconds,
+        entry.idle_timeout,
+        entry.hard_timeout,
+        entry.cookie,
+        entry.packets,
+        entry.bytes
     )
 }

@@ -87,6 +87,8 @@ other-form m form e n f = n (e ∙ ap form-of f.is)
 at-once : (sw : ℕ) (x m : Message) → answer_of sw x ≡ Some m → IsError m → IsFullError m → ⊥
 at-once sw (to.EchoRequest xid payload) m e r f = subst IsError (sym (some-is _ m e)) r
 at-once sw (to.FeaturesRequest xid) m e r f = subst IsError (sym (some-is _ m e)) r
+at-once sw (to.FlowStatsRequest xid pattern table out_port) m e r f = other-form m 1 (some-form _ m e) (λ d. omega (arith, d)) f
+at-once sw (to.FlowStatsReply xid more entries) m e r f = other-form m 1 (some-form _ m e) (λ d. omega (arith, d)) f
 at-once sw (to.Other number xid body) m e r f = other-form m 1 (some-form _ m e) (λ d. omega (arith, d)) f
 at-once sw _ m e r f = absurd (let n : None ≡ Some m = e in cc)
 
