@@ -97,7 +97,7 @@ fn going_in(versions: &[Rows], phase: Phase) -> Option<&Rows>
 }
 
 // The rows of a policy, if there is one: policies are numbered from 1.
-fn version_at(versions: &[Rows], policy: usize) -> Option<&Rows>
+pub(crate) fn version_at(versions: &[Rows], policy: usize) -> Option<&Rows>
     ensures { option_map (λ r. r.now) result ≡ version_at versions.now policy }
 {
     if policy == 0 {

@@ -8,7 +8,7 @@ use crate::phase::Phase;
 use crate::refusal::Refusal;
 use crate::sites::{begin_phases, come_back, hear, lose};
 use barrier_tracker::Heard;
-use openflow_wire::Message;
+use openflow_wire::{Message, WireFault};
 use session_core::Move;
 
 impl Coordinator {
@@ -16,7 +16,8 @@ impl Coordinator {
     ghost use Rattle.update_coordinator.specs.Calls.{IsRefusedAway, IsRefusedPresent};
     ghost use Rattle.update_coordinator.specs.Controls.{halted, in_phase};
     ghost use Rattle.update_coordinator.specs.Counts.{comes_to, behind};
-    ghost use Rattle.update_coordinator.specs.Hearing.{IsHeard, IsAnswered, IsLost, IsBack, IsAway, IsSentAway, due};
+    ghost use Rattle.update_coordinator.specs.Sending.{HasGreeted};
+    ghost use Rattle.update_coordinator.specs.Hearing.{IsHeard, IsAnswered, IsLost, IsGarbled, IsBack, IsAway, IsSentAway, due};
 
     /// Takes a message of the switch at a place.
     pub fn heard(&mut self, place: usize, message: &Message) -> Result<Move, Refusal>
@@ -41,6 +42,14 @@ impl Coordinator {
             Move::Greeted | Move::Up | Move::Echo | Move::Ignored => {}
         }
         Ok(answer)
+    }
+
+    /// Whether the switch at a place has greeted.
+    pub fn has_greeted(&self, place: usize) -> bool
+        requires { place < length self.now.sites }
+        ensures { IsTrue result ↔ HasGreeted place self.now }
+    {
+        self.sites[place].has_greeted()
     }
 
     /// Whether the session with the switch at a place is lost.
@@ -71,6 +80,21 @@ impl Coordinator {
         } else {
             self.lose(place);
         }
+        Ok(())
+    }
+
+    /// Takes the news that the stream of the switch at a place has a fault.
+    pub fn garbled(&mut self, place: usize, fault: WireFault) -> Result<(), Refusal>
+        requires { place < length self.old.sites }
+        ensures ok { OnOk result (IsGarbled place fault self.old self.new) }
+        ensures refused { IfErr result (λ r. (r ≡ Refusal.Halted) × (self.old.halt ≢ None)) }
+        ensures err { OnErr result (self.new ≡ self.old) }
+    {
+        if self.halt.is_some() {
+            return Err(Refusal::Halted);
+        }
+        let sw = self.sites[place].sw();
+        self.stand(Cause::Garbled(sw, fault));
         Ok(())
     }
 

@@ -1,5 +1,5 @@
 //! One switch, as the coordinator sees it.
-ghost use Rattle.std.specs.Prelude.{◌≡◌, ◌+◌, ◌<◌, ◌^◌, true, false, IfNone, IfSome};
+ghost use Rattle.std.specs.Prelude.{IsTrue, ◌↔◌, ◌≡◌, ◌≢◌, ◌+◌, ◌<◌, ◌^◌, true, false, IfNone, IfSome};
 ghost use Rattle.openflow_wire.specs.Writing.{Fits};
 ghost use Rattle.update_coordinator.specs.Controls.{Change, Fence, message_of, sends_in};
 ghost use Rattle.update_coordinator.specs.Hearing.{still_asked};
@@ -44,6 +44,7 @@ impl Site {
     ghost use Rattle.update_coordinator.specs.Sites.{in_batch, has_orders, GreetsBy};
     ghost use Rattle.update_coordinator.specs.Starts.{new_site};
     ghost use Rattle.session_core.specs.Sessions.{move_of};
+    ghost use Rattle.session_core.specs.declared.session.SessionState.TheVariants as state;
 
     /// A switch from which nothing was heard and to which nothing was sent.
     pub fn new(sw: u16) -> Site
@@ -75,6 +76,13 @@ impl Site {
         ensures { result ≡ self.now.away }
     {
         self.away
+    }
+
+    /// Whether the switch has greeted in this session.
+    pub fn has_greeted(&self) -> bool
+        ensures { IsTrue result ↔ (self.now.session.state ≢ state.Fresh) }
+    {
+        self.session.state() != SessionState::Fresh
     }
 
     /// How many flow mods of the batch went out in this session.

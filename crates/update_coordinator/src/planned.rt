@@ -1,0 +1,146 @@
+//! The rows that a switch holds once the batch of the phase is done.
+ghost use Rattle.std.specs.Prelude.{◌≡◌, ◌++◌, ◌∷◌, [], ◌-◌, ◌==◌, IfOk, OnOk, take};
+ghost use Rattle.std.specs.List.{filter};
+ghost use Rattle.update_coordinator.specs.Batches.{part_at, part_len, part_of, planned, version_at};
+
+use crate::batch::version_at;
+use crate::coordinator::Coordinator;
+use crate::phase::Phase;
+use nk_values::{Band, Duplicate, PortKind, PortRows, Row, Rows};
+use std::alloc::{AllocError, Global};
+
+/// How many rows are there of a list that comes or goes round by round.
+#[derive(Clone, Copy, PartialEq, Eq)]
+pub(crate) enum Part {
+    /// The first ones, so many.
+    First(usize),
+    /// All but the last ones, so many.
+    AllBut(usize),
+}
+
+impl Part {
+    fn len(self, all: usize) -> usize
+        ensures { result ≡ part_len self all }
+    {
+        match self {
+            Part::First(count) => count,
+            Part::AllBut(count) => all.saturating_sub(count),
+        }
+    }
+}
+
+impl Coordinator {
+    /// The rows that the switch with this number holds once the batch of the phase is done, if it refuses none. A halt
+    /// keeps the phase.
+    pub fn planned(&self, alloc: Global, sw: u16) -> Result<Vec<Row>, AllocError>
+        ensures { IfOk result (λ v. v.items ≡ planned self.now.versions self.now.phase sw) }
+    {
+        planned_in(alloc, &self.versions, self.phase, sw)
+    }
+}
+
+fn planned_in(
+    alloc: Global,
+    versions: &[Rows],
+    phase: Phase,
+    sw: u16,
+) -> Result<Vec<Row>, AllocError>
+    ensures { IfOk result (λ v. v.items ≡ planned versions.now phase sw) }
+{
+    match phase {
+        Phase::Opening => Ok(Vec::new(alloc)),
+        Phase::Idle(i) | Phase::Clean(i) => rows_of(alloc, versions, i, sw, Part::AllBut(0)),
+        Phase::Install(i) => both(alloc, versions, i, sw, Part::AllBut(0), Part::First(0)),
+        Phase::Flip(i, round) => {
+            both(
+                alloc,
+                versions,
+                i,
+                sw,
+                Part::AllBut(round),
+                Part::First(round),
+            )
+        }
+        Phase::Drain(i) => both(alloc, versions, i, sw, Part::First(0), Part::AllBut(0)),
+    }
+}
+
+// The rows of a switch by the policy before this one, and by this one.
+fn both(
+    alloc: Global,
+    versions: &[Rows],
+    policy: usize,
+    sw: u16,
+    old: Part,
+    new: Part,
+) -> Result<Vec<Row>, AllocError>
+    ensures { IfOk result (λ v. v.items ≡ part_of old (version_at versions.now (policy - 1)) sw ++ part_of new (version_at versions.now policy) sw) }
+{
+    let mut rows = rows_of(alloc, versions, policy.saturating_sub(1), sw, old)?;
+    let more = rows_of(alloc, versions, policy, sw, new)?;
+    append(alloc, &mut rows, &more)?;
+    Ok(rows)
+}
+
+// The rows of a switch by a policy.
+fn rows_of(
+    alloc: Global,
+    versions: &[Rows],
+    policy: usize,
+    sw: u16,
+    part: Part,
+) -> Result<Vec<Row>, AllocError>
+    ensures { IfOk result (λ v. v.items ≡ part_of part (version_at versions.now policy) sw) }
+{
+    match version_at(versions, policy) {
+        None => Ok(Vec::new(alloc)),
+        Some(rows) => rows_at(alloc, rows.band, rows.ports.as_slice(), sw, part),
+    }
+}
+
+fn rows_at(
+    alloc: Global,
+    band: Band,
+    ports: &[PortRows],
+    sw: u16,
+    part: Part,
+) -> Result<Vec<Row>, AllocError>
+    ensures { IfOk result (λ v. v.items ≡ part_at part band (filter (λ p. p.sw == sw) ports.now)) }
+{
+    let mut rows = Vec::new(alloc);
+    for port in ports {
+        if port.sw == sw {
+            append(alloc, &mut rows, there(band, port, part))?;
+        }
+    }
+    Ok(rows)
+}
+
+// The rows of a port that are there: all that come and go at once, and a part of those that do round by round.
+fn there(band: Band, port: &PortRows, part: Part) -> &[Row]
+    ensures { result.now ≡ part_at part band (port.now ∷ []) }
+{
+    let rows = port.rows.as_slice();
+    match (band, port.kind) {
+        (Band::High, PortKind::Edge) => first(rows, part.len(rows.len())),
+        _ => rows,
+    }
+}
+
+// The first rows, so many, or all.
+fn first(rows: &[Row], count: usize) -> &[Row]
+    ensures { result.now ≡ take count rows.now }
+{
+    let (first, _) = rows.split_at(count.min(rows.len()));
+    first
+}
+
+// Puts copies of rows at the end.
+fn append(alloc: Global, rows: &mut Vec<Row>, more: &[Row]) -> Result<(), AllocError>
+    ensures { OnOk result (rows.new.items ≡ rows.old.items ++ more.now) }
+{
+    for row in more {
+        rows.push(row.copy(alloc)?)?;
+    }
+    Ok(())
+}
