@@ -2,7 +2,11 @@
 //! and for each is printed whether all is as it must be, or the first case that is not.
 //!
 //! - `links`: each call on a link of a run, counted in the order made, until none is left that could fail;
-//! - `starts`, `pairs`: each thread of a run, and each pair of ends;
+//! - `returns`: the same in a document that lets lost switches return;
+//! - `second`: hostile links of a second session;
+//! - `random N`: N runs over links that fail at random, whose events are a schedule with the same report;
+//! - `reports N`: the document of such runs, and then the report of each behind a line `run`, for others to judge;
+//! - `starts`, `pairs`, `no return`: each thread of a run, each pair of ends, and the pair of a return;
 //! - `reads`, `writes`: each read of a document in pieces of 16 bytes, and each write of a trace in such pieces;
 //! - `events`: a session that is lost behind each event of an update, with two packets that come in behind it.
 //!
@@ -13,6 +17,7 @@
 mod calls;
 mod meaning;
 mod report;
+mod returns;
 mod tables;
 
 use std::alloc::{AllocError, Global};
@@ -34,19 +39,33 @@ fn table<R: Wait + Threads + AllocGlobal + Copy + Clone + Drop + Send + Sync + '
     name: &str,
 ) -> Result<String, AllocError> {
     let alloc = rt.alloc();
+    if let Some(count) = count_in(name, "reports ") {
+        return returns::reports(rt, count);
+    }
     let wrong = match name {
         "links" => tables::links(rt)?,
+        "returns" => returns::returns(rt)?,
+        "second" => returns::second(rt)?,
+        "no return" => returns::no_return(rt)?,
         "starts" => tables::starts(rt)?,
         "pairs" => tables::pairs(rt)?,
         "reads" => tables::reads(alloc)?,
         "writes" => tables::writes(alloc)?,
         "events" => tables::events(alloc)?,
-        _ => return "no such table".to_string(alloc),
+        _ => match count_in(name, "random ") {
+            Some(count) => returns::random(rt, count)?,
+            None => return "no such table".to_string(alloc),
+        },
     };
     match wrong {
         None => "as it must be".to_string(alloc),
         Some(case) => told(alloc, case),
     }
+}
+
+// The number behind a word.
+fn count_in(name: &str, word: &str) -> Option<usize> {
+    name.strip_prefix(word)?.parse::<usize>().ok()
 }
 
 // A case that is not as it must be.

@@ -78,6 +78,12 @@ fn have_one_policy(
     )
 }
 
+/// Whether each packet that came in, of the two switches in a line, has one policy.
+pub fn line_has_one_policy(alloc: Global, report: &str) -> Result<bool, AllocError> {
+    let meanings = meanings(alloc, LINE, LINE_WIRING, &LINE_POLICIES)?;
+    have_one_policy(alloc, report, &meanings, &[])
+}
+
 /// Each call on a link fails, one a run, until three runs behind one another do not come so far. A run ends by itself: it
 /// is done, or it lost a session and says which one.
 pub fn links<R: Wait + Threads + AllocGlobal + Copy + Clone + Drop + Send + Sync + 'static>(

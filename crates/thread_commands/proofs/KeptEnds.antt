@@ -5,8 +5,7 @@ use Rattle.update_coordinator.specs.declared.cause.Side.{Side}
 use Rattle.world_core.specs.declared.event.Event.{Event}
 use Rattle.world_journal.specs.declared.entry.Entry.{Entry}
 use Rattle.world_journal.specs.Makers.{is_cut}
-use Rattle.world_journal.specs.Journals.{events_of, is_told, told_before, Kept, MetBy}
-use Rattle.thread_commands.specs.Run.{told}
+use Rattle.world_journal.specs.Journals.{events_of, Kept, MetBy}
 use Rattle.thread_commands.proofs.Gathering.{in-front, in-last}
 
 -- ---- lists with one more at their end
@@ -35,49 +34,39 @@ split-last [] y (b ∷ bs) x rest e = none-is bs x rest _ (tail-is y b [] (bs ++
 split-last (z ∷ zs) y [] x rest e = inr (zs, ap (λ w. w ∷ zs) (head-is z x (zs ++ y ∷ []) rest e))
 split-last (z ∷ zs) y (b ∷ bs) x rest e = split-next z b zs bs y x rest (head-is z b (zs ++ y ∷ []) (bs ++ x ∷ rest) e) (split-last zs y bs x rest (tail-is z b (zs ++ y ∷ []) (bs ++ x ∷ rest) e))
 
--- ---- what was told before
-
-told-by : (s : ℕ) (side : Side) (e : Entry) (es : List Entry) (b : Bool) → is_told s side e.event ≡ b → told_before s side es ≡ told s side (events_of es) → told_before s side (e ∷ es) ≡ told s side (events_of (e ∷ es))
-told-by s side e es true is same = rw is (ap (λ (n : ℕ). suc n) same)
-told-by s side e es false is same = rw is same
-
-pub told-before : (s : ℕ) (side : Side) (es : List Entry) → told_before s side es ≡ told s side (events_of es)
-told-before s side [] = refl
-told-before s side (e ∷ es) = told-by s side e es (is_told s side e.event) refl (told-before s side es)
-
 -- ---- the end
 
-events-last : (es : List Entry) (e : Entry) → events_of (es ++ e ∷ []) ≡ events_of es ++ e.event ∷ []
+pub events-last : (es : List Entry) (e : Entry) → events_of (es ++ e ∷ []) ≡ events_of es ++ e.event ∷ []
 events-last [] e = refl
 events-last (x ∷ es) e = ap (λ (ys : List Event). x.event ∷ ys) (events-last es e)
 
 -- an end that met the conditions of this event, behind entries with these events
-pub record IsKeptAt {E : Type 0} (named faults : E → ℕ) (received : E → Option (List ℕ)) (ends : List E) (before : List Event) (x : Event) : Type 0 where
+pub record IsKeptAt {E : Type 0} (n : ℕ) (named faults : E → ℕ) (received : E → Option (List ℕ)) (ends : List E) (before : List Event) (x : Event) : Type 0 where
   pub end : E
   pub entries : List Entry
   pub same : events_of entries ≡ before
   pub kept : IsIn ends end
-  pub met : MetBy named faults received entries x end
+  pub met : MetBy n named faults received entries x end
 
 no-cut : (b : Bool) (P : Type 0) → b ≡ true → b ≡ false → P
 no-cut true P t f = absurd (cc)
 no-cut false P t f = absurd (cc)
 
-at-goes : {E : Type 0} (named faults : E → ℕ) (received : E → Option (List ℕ)) (es : List Entry) (ends : List E) (e : Entry) (before rest : List Event) (x : Event)
-    → ((more : List Event) → events_of es ≡ before ++ x ∷ more → IsKeptAt named faults received ends before x) → is_cut x ≡ true → is_cut e.event ≡ false → IsSplit (events_of es) e.event before x rest → IsKeptAt named faults received ends before x
-at-goes named faults received es ends e before rest x earlier cut plain (inl (same, last)) = no-cut (is_cut x) _ cut (ap is_cut (sym last) ∙ plain)
-at-goes named faults received es ends e before rest x earlier cut plain (inr (more, same)) = earlier more same
+at-goes : {E : Type 0} (n : ℕ) (named faults : E → ℕ) (received : E → Option (List ℕ)) (es : List Entry) (ends : List E) (e : Entry) (before rest : List Event) (x : Event)
+    → ((more : List Event) → events_of es ≡ before ++ x ∷ more → IsKeptAt n named faults received ends before x) → is_cut x ≡ true → is_cut e.event ≡ false → IsSplit (events_of es) e.event before x rest → IsKeptAt n named faults received ends before x
+at-goes n named faults received es ends e before rest x earlier cut plain (inl (same, last)) = no-cut (is_cut x) _ cut (ap is_cut (sym last) ∙ plain)
+at-goes n named faults received es ends e before rest x earlier cut plain (inr (more, same)) = earlier more same
 
-at-cuts : {E : Type 0} (named faults : E → ℕ) (received : E → Option (List ℕ)) (es : List Entry) (ends : List E) (e : Entry) (end : E) (before rest : List Event) (x : Event)
-    → ((more : List Event) → events_of es ≡ before ++ x ∷ more → IsKeptAt named faults received ends before x) → MetBy named faults received es e.event end → IsSplit (events_of es) e.event before x rest → IsKeptAt named faults received (ends ++ end ∷ []) before x
-at-cuts named faults received es ends e end before rest x earlier met (inl (same, last)) =
-    record { end = end; entries = es; same = same; kept = in-last ends end; met = subst (λ (y : Event). MetBy named faults received es y end) last met }
-at-cuts named faults received es ends e end before rest x earlier met (inr (more, same)) =
+at-cuts : {E : Type 0} (n : ℕ) (named faults : E → ℕ) (received : E → Option (List ℕ)) (es : List Entry) (ends : List E) (e : Entry) (end : E) (before rest : List Event) (x : Event)
+    → ((more : List Event) → events_of es ≡ before ++ x ∷ more → IsKeptAt n named faults received ends before x) → MetBy n named faults received es e.event end → IsSplit (events_of es) e.event before x rest → IsKeptAt n named faults received (ends ++ end ∷ []) before x
+at-cuts n named faults received es ends e end before rest x earlier met (inl (same, last)) =
+    record { end = end; entries = es; same = same; kept = in-last ends end; met = subst (λ (y : Event). MetBy n named faults received es y end) last met }
+at-cuts n named faults received es ends e end before rest x earlier met (inr (more, same)) =
     let k = earlier more same in record { end = k.end; entries = k.entries; same = k.same; kept = in-front ends (end ∷ []) k.end k.kept; met = k.met }
 
-pub kept-at : {E : Type 0} (named faults : E → ℕ) (received : E → Option (List ℕ)) (es : List Entry) (ends : List E) → Kept named faults received es ends → (before rest : List Event) (x : Event) → is_cut x ≡ true → events_of es ≡ before ++ x ∷ rest → IsKeptAt named faults received ends before x
-kept-at named faults received es ends Kept.none before rest x cut e = none-is before x rest _ e
-kept-at named faults received es ends (Kept.goes fs xs e plain k) before rest x cut same =
-    at-goes named faults received fs xs e before rest x (λ more is. kept-at named faults received fs xs k before more x cut is) cut plain (split-last (events_of fs) e.event before x rest (sym (events-last fs e) ∙ same))
-kept-at named faults received es ends (Kept.cuts fs xs e end met k) before rest x cut same =
-    at-cuts named faults received fs xs e end before rest x (λ more is. kept-at named faults received fs xs k before more x cut is) met (split-last (events_of fs) e.event before x rest (sym (events-last fs e) ∙ same))
+pub kept-at : {E : Type 0} (n : ℕ) (named faults : E → ℕ) (received : E → Option (List ℕ)) (es : List Entry) (ends : List E) → Kept n named faults received es ends → (before rest : List Event) (x : Event) → is_cut x ≡ true → events_of es ≡ before ++ x ∷ rest → IsKeptAt n named faults received ends before x
+kept-at n named faults received es ends Kept.none before rest x cut e = none-is before x rest _ e
+kept-at n named faults received es ends (Kept.goes fs xs e plain k) before rest x cut same =
+    at-goes n named faults received fs xs e before rest x (λ more is. kept-at n named faults received fs xs k before more x cut is) cut plain (split-last (events_of fs) e.event before x rest (sym (events-last fs e) ∙ same))
+kept-at n named faults received es ends (Kept.cuts fs xs e end met k) before rest x cut same =
+    at-cuts n named faults received fs xs e end before rest x (λ more is. kept-at n named faults received fs xs k before more x cut is) met (split-last (events_of fs) e.event before x rest (sym (events-last fs e) ∙ same))

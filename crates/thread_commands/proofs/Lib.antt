@@ -1,3 +1,4 @@
 mod Gathering
 mod KeptEnds
+mod Losing
 mod RunLaws

@@ -12,13 +12,13 @@ use Rattle.value_text.specs.declared.fault.Fault.TheVariants as fault
 use Rattle.worker_desk.specs.Streams.{TellsWhereKnown}
 use Rattle.world_core.specs.declared.event.Event.{Event}
 use Rattle.world_core.specs.declared.event.Event.TheVariants as event
-use Rattle.world_core.specs.Laws.{EveryRunIsGood}
+use Rattle.world_core.specs.Laws.{EveryRunIsGood, LossesCount, LastLossHalts, losses}
 use Rattle.world_core.specs.Steps.{Runs}
 use Rattle.world_core.specs.Worlds.{WorldValue, start}
 use Rattle.world_journal.specs.declared.entry.Entry.{Entry}
 use Rattle.world_journal.specs.declared.line.Line.{Line}
 use Rattle.world_journal.specs.Arriving.{IsDone, IsOver}
-use Rattle.world_journal.specs.Journals.{events_of, switches, told_before, IsJournal}
+use Rattle.world_journal.specs.Journals.{events_of, switches, told, told_before, IsJournal}
 use Rattle.world_journal.proofs.Ended.{kept-cut}
 use Rattle.program_answer.specs.declared.answer.Answer.{Answer}
 use Rattle.program_answer.specs.declared.answer.AnswerError.{AnswerError}
@@ -26,10 +26,11 @@ use Rattle.program_answer.specs.declared.answer.AnswerError.TheVariants as error
 use Rattle.program_answer.specs.Answers.{Reads, Stops}
 use Rattle.program_answer.specs.Called.{Change, HasRisen, NetSeen, SourceSeen}
 use Rattle.program_answer.specs.Input.{IsAccepted, IsAcceptedAs, IsRefused}
-use Rattle.program_answer.specs.Worlds.{IsWorldAnswer, start_with}
+use Rattle.program_answer.specs.Worlds.{IsWorldAnswer, start_of}
 use Rattle.program_answer.proofs.Stopping.{reads_more}
-use Rattle.thread_commands.specs.Run.{AreGathered, AreToldSince, HasNext, HaveStreams, IsRanAs, IsRunAnswer, RunStops, TellsCut, line_of, lines_of, told}
-use Rattle.thread_commands.proofs.KeptEnds.{kept-at, told-before}
+use Rattle.thread_commands.specs.Run.{AreGathered, AreToldSince, HasNext, HaveStreams, IsRanAs, IsRunAnswer, RunStops, TellsCut, HaltsLast, HasRisenBy, line_of, lines_of, many_broken}
+use Rattle.thread_commands.proofs.KeptEnds.{kept-at}
+use Rattle.thread_commands.proofs.Losing.{halts-last, losses-broken, rose-fewer}
 
 -- ---- the ends that were kept
 
@@ -39,7 +40,7 @@ AreCounted {E} faults ends broken = (e : E) → IsIn ends e → 0 < faults e →
 was-lost : {E : Type 0} (named faults : E → ℕ) (received : E → Option (List ℕ)) (s0 w : WorldValue) (journal : List Entry) (ends : List E) (broken : Change ℕ) → IsJournal named faults received s0 w journal ends → AreCounted faults ends broken
     → (s : ℕ) → IsIn (events_of journal) (event.Lost s) → HasRisen broken
 was-lost named faults received s0 w journal ends broken j counts s i =
-    let k = kept-cut named faults received journal ends j.kept (event.Lost s) refl i in counts k.0 k.2 k.3.1
+    let k = kept-cut (switches s0) named faults received journal ends j.kept (event.Lost s) refl i in counts k.0 k.2 k.3.1
 
 has-next : {E : Type 0} (received : E → Option (List ℕ)) (ends : List E) (e : E) (k : ℕ) (got : List ℕ) (streams : List (List ℕ)) → HaveStreams received ends streams → IsIn ends e → TellsWhereKnown (received e) k got → HasNext k got streams
 has-next received ends e k got streams h i t = let s = h e i in (s.0, s.2, subst (λ (r : Option (List ℕ)). TellsWhereKnown r k got) s.1 t)
@@ -52,8 +53,8 @@ came-next received ends first (Some streams) e k got g i t = record { earlier = 
 was-foreign : {E : Type 0} (named faults : E → ℕ) (received : E → Option (List ℕ)) (s0 w : WorldValue) (journal : List Entry) (ends : List E) (gathered : Change (Option (List (List ℕ)))) → IsJournal named faults received s0 w journal ends → AreGathered received ends gathered
     → (before rest : List Event) (s : ℕ) (side : Side) (got : List ℕ) → events_of journal ≡ before ++ event.Foreign s side got ∷ rest → AreToldSince gathered (HasNext (told s side before) got)
 was-foreign named faults received s0 w journal ends gathered j g before rest s side got is =
-    let k = kept-at named faults received journal ends j.kept before rest (event.Foreign s side got) refl is in
-    let many : told_before s side k.entries ≡ told s side before = told-before s side k.entries ∙ ap (told s side) k.same in
+    let k = kept-at (switches s0) named faults received journal ends j.kept before rest (event.Foreign s side got) refl is in
+    let many : told_before s side k.entries ≡ told s side before = ap (told s side) k.same in
     subst (λ (n : ℕ). AreToldSince gathered (HasNext n got)) many (came-next received ends gathered.before gathered.after k.end (told_before s side k.entries) got g k.kept k.met.1)
 
 -- ---- the run
@@ -66,10 +67,19 @@ still-done lines w still (inl halted) = absurd (halted (none-of w.fleet.control.
     none-of (Some x) e = cc
 still-done lines w still (inr done) = done
 
+all-cost : {E : Type 0} (named faults : E → ℕ) (received : E → Option (List ℕ)) (s0 w : WorldValue) (journal : List Entry) (ends : List E) (broken : Change ℕ) → IsJournal named faults received s0 w journal ends → HasRisenBy (many_broken faults ends) broken → HasRisenBy (losses (events_of journal)) broken
+all-cost named faults received s0 w journal ends broken j many = rose-fewer broken.before (losses (events_of journal)) (many_broken faults ends) broken.after (losses-broken (switches s0) named faults received journal ends j.kept) many
+
+start-rejoins : (d : Doc) (versions : List Version) (w : WorldValue) → w ≡ start_of d versions → w.fleet.control.rejoins ≡ d.settings.rejoins
+start-rejoins d versions w is = ap (λ (x : WorldValue). x.fleet.control.rejoins) is
+
+loss-halts : LossesCount → LastLossHalts → (d : Doc) (versions : List Version) → HaltsLast d versions
+loss-halts counting last d versions before v x s runs lost halts = halts-last counting last (start_of d versions) before v x s runs lost halts ∙ start-rejoins d versions (start_of d versions) refl
+
 -- the report of a run is that of its journal and world
 pub ran_as : {E : Type 0} (named faults : E → ℕ) (received : E → Option (List ℕ)) (net : NetSeen) (d : Doc) (versions : List Version) (s0 w : WorldValue) (journal : List Entry) (ends : List E) (lines : List Line) (a : Answer)
-    → s0 ≡ start_with d versions 0 → EveryRunIsGood s0 → IsJournal named faults received s0 w journal ends → AreCounted faults ends net.broken → AreGathered received ends net.gathered → lines ≡ lines_of d → IsOver lines w → IsWorldAnswer w (events_of journal) a → IsRanAs net d versions a
-ran_as named faults received net d versions s0 w journal ends lines a is good j counts g same over r = record {
+    → s0 ≡ start_of d versions → EveryRunIsGood s0 → LossesCount → LastLossHalts → IsJournal named faults received s0 w journal ends → AreCounted faults ends net.broken → HasRisenBy (many_broken faults ends) net.broken → AreGathered received ends net.gathered → lines ≡ lines_of d → IsOver lines w → IsWorldAnswer w (events_of journal) a → IsRanAs net d versions a
+ran_as named faults received net d versions s0 w journal ends lines a is good counting last j counts many g same over r = record {
   halts = is_some w.fleet.control.halt;
   status = r.status;
   run = record {
@@ -80,6 +90,8 @@ ran_as named faults received net d versions s0 w journal ends lines a is good j 
     ends = refl;
     done = λ still. still-done (lines_of d) w still (subst (λ (ls : List Line). IsOver ls w) same over);
     lost = was-lost named faults received s0 w journal ends net.broken j counts;
+    costs = all-cost named faults received s0 w journal ends net.broken j many;
+    last = loss-halts counting last d versions;
     foreign = was-foreign named faults received s0 w journal ends net.gathered j g;
     text_is = r.report;
   };
@@ -91,8 +103,8 @@ lines_more [] l = refl
 lines_more (x ∷ ls) l = ap (λ (xs : List Line). line_of x ∷ xs) (lines_more ls l)
 
 -- the world that the call made is the document's
-pub starts_as : (d : Document) (versions : List Version) (w : WorldValue) (hops capacity : ℕ) → w ≡ start d.topology versions (record { hops = hops; capacity = capacity; rejoins = 0 }) → hops ≡ d.settings.hops → capacity ≡ d.settings.capacity → w ≡ start_with (doc_of d) versions 0
-starts_as d versions w hops capacity a b c = a ∙ (λ i. start d.topology versions (record { hops = b i; capacity = c i; rejoins = 0 }))
+pub starts_as : (d : Document) (versions : List Version) (w : WorldValue) (hops capacity rejoins : ℕ) → w ≡ start d.topology versions (record { hops = hops; capacity = capacity; rejoins = rejoins }) → hops ≡ d.settings.hops → capacity ≡ d.settings.capacity → rejoins ≡ d.settings.rejoins → w ≡ start_of (doc_of d) versions
+starts_as d versions w hops capacity rejoins a b c e = a ∙ (λ i. start d.topology versions (record { hops = b i; capacity = c i; rejoins = e i }))
 
 -- ---- of a source
 
@@ -111,10 +123,12 @@ pub cut_stops : (s : SourceSeen) (pairs threads : Change ℕ) (d : Doc) (version
 cut_stops s pairs threads d versions error.Memory read h = read.faultless
 cut_stops s pairs threads d versions (error.Fault fault.Net) read h = record { read = is-accepted s d versions read; rose = h }
 cut_stops s pairs threads d versions (error.Fault fault.NoThread) read h = record { read = is-accepted s d versions read; rose = h }
+cut_stops s pairs threads d versions (error.Fault fault.Report) read h = absurd h
 cut_stops s pairs threads d versions (error.Fault fault.Read) read h = absurd h
 cut_stops s pairs threads d versions (error.Fault fault.Usage) read h = absurd h
 cut_stops s pairs threads d versions (error.Fault (fault.Line line column f)) read h = absurd h
 cut_stops s pairs threads d versions (error.Fault (fault.NotEnabled line)) read h = absurd h
+cut_stops s pairs threads d versions (error.Fault (fault.NotTwo line)) read h = absurd h
 cut_stops s pairs threads d versions (error.Fault (fault.Compile policy f)) read h = absurd h
 cut_stops s pairs threads d versions (error.Fault (fault.Emit policy f)) read h = absurd h
 
@@ -123,9 +137,11 @@ pub input_stops : (s : SourceSeen) (pairs threads : Change ℕ) (e : AnswerError
 input_stops s pairs threads error.Memory h = h
 input_stops s pairs threads (error.Fault fault.Net) h = absurd h
 input_stops s pairs threads (error.Fault fault.NoThread) h = absurd h
+input_stops s pairs threads (error.Fault fault.Report) h = absurd h
 input_stops s pairs threads (error.Fault fault.Read) h = h
 input_stops s pairs threads (error.Fault fault.Usage) h = h
 input_stops s pairs threads (error.Fault (fault.Line line column f)) h = h
 input_stops s pairs threads (error.Fault (fault.NotEnabled line)) h = h
+input_stops s pairs threads (error.Fault (fault.NotTwo line)) h = h
 input_stops s pairs threads (error.Fault (fault.Compile policy f)) h = h
 input_stops s pairs threads (error.Fault (fault.Emit policy f)) h = h

@@ -1,5 +1,5 @@
 -- What `nkctl run` answers: the report of a run of a document's policies, with a worker for each session and each switch.
-use Rattle.std.specs.Prelude.{◌≡◌, ℕ, Bool, false, List, ◌∷◌, ◌++◌, length, map, Option, Some, IfSome, is_some}
+use Rattle.std.specs.Prelude.{◌≡◌, ◌≢◌, ℕ, ◌+◌, ◌-◌, ◌^◌, ◌≤◌, min, ltb, Bool, false, List, ◌∷◌, ◌++◌, length, map, None, Option, Some, IfSome, is_some}
 use Rattle.std.specs.List.{filter}
 use Rattle.nk_values.specs.Members.{IsIn}
 use Rattle.document_text.specs.declared.document.PacketLine.{PacketLine}
@@ -12,12 +12,12 @@ use Rattle.value_text.specs.declared.fault.Fault.TheVariants as fault
 use Rattle.worker_desk.specs.Streams.{TellsAt}
 use Rattle.world_core.specs.declared.event.Event.{Event}
 use Rattle.world_core.specs.declared.event.Event.TheVariants as event
-use Rattle.world_core.specs.Laws.{AreGood}
-use Rattle.world_core.specs.Steps.{Runs}
+use Rattle.world_core.specs.Laws.{AreGood, losses}
+use Rattle.world_core.specs.Steps.{Runs, Step}
 use Rattle.world_core.specs.Worlds.{WorldValue}
 use Rattle.world_journal.specs.declared.line.Line.{Line}
 use Rattle.world_journal.specs.Arriving.{IsDone}
-use Rattle.world_journal.specs.Journals.{is_told}
+use Rattle.world_journal.specs.Journals.{told}
 use Rattle.program_answer.specs.declared.answer.Answer.{Answer}
 use Rattle.program_answer.specs.declared.answer.AnswerError.{AnswerError}
 use Rattle.program_answer.specs.declared.answer.AnswerError.TheVariants as error
@@ -26,7 +26,7 @@ use Rattle.program_answer.specs.Answers.{Reads, StopsBy}
 use Rattle.program_answer.specs.Called.{Change, HasRisen, IsSame, NetSeen, SourceSeen}
 use Rattle.program_answer.specs.Input.{IsAccepted, IsAcceptedAs, IsRefused}
 use Rattle.program_answer.specs.Statuses.{report_status}
-use Rattle.program_answer.specs.Worlds.{start_with}
+use Rattle.program_answer.specs.Worlds.{start_of}
 
 -- the packet of a line of the document
 abbrev pub line_of : PacketLine → Line
@@ -61,21 +61,31 @@ HaveStreams {E} received ends streams = (e : E) → IsIn ends e → (stream : Li
 abbrev pub AreGathered : {E : Type 0} → (E → Option (List ℕ)) → List E → Change (Option (List (List ℕ))) → Type 0
 AreGathered {E} received ends gathered = AreToldSince gathered (HaveStreams received ends)
 
+-- how many of these ends had failed
+abbrev pub many_broken : {E : Type 0} → (E → ℕ) → List E → ℕ
+many_broken {E} faults ends = length (filter (λ (e : E). ltb 0 (faults e)) ends)
+
 -- ---- the run
 
--- how many messages were told at this side of switch s
-abbrev pub told : ℕ → Side → List Event → ℕ
-told s side events = length (filter (is_told s side) events)
+-- a count rose by as much, or stands at its greatest value
+abbrev pub HasRisenBy : ℕ → Change ℕ → Type 0
+HasRisenBy n count = min (count.before + n) (2 ^ 64 - 1) ≤ count.after
 
--- The events lead from the start of the document's policies to this world, and each packet that came in is handled by one policy. If the updates do not stand still, the last policy handles all packets, each line came in once, and no copy may take another hop. A session is lost only if the net's count of broken ends rose. Foreign bytes came next at an end that was given back in this call, behind as many messages as that side of the switch was told before. The text is the report of the events and of that world; `halts` says whether the updates stand still.
+-- A loss by which the updates come to stand still is behind as many others as the document lets return.
+abbrev pub HaltsLast : Doc → List Version → Type 0
+HaltsLast d versions = (before : List Event) (v x : WorldValue) (s : ℕ) → Runs (start_of d versions) before v → Step v (event.Lost s) x → x.fleet.control.halt ≢ None → losses before ≡ d.settings.rejoins
+
+-- The events lead from the start of the document's policies to this world, and each packet that came in is handled by one policy. If the updates do not stand still, the last policy handles all packets, each line came in once, and no copy may take another hop. Each lost session cost a broken end: the net's count of these rose by as many. The updates stand still by a lost session only if as many as the document lets return were lost before it. Foreign bytes came next at an end that was given back in this call, behind as many messages as that side of the switch was told before in its session. The text is the report of the events and of that world; `halts` says whether the updates stand still.
 pub record IsRunOf (halts : Bool) (net : NetSeen) (d : Doc) (versions : List Version) (text : List ℕ) : Type 0 where
   pub events : List Event
   pub world : WorldValue
-  pub runs : Runs (start_with d versions 0) events world
+  pub runs : Runs (start_of d versions) events world
   pub good : AreGood world
   pub ends : is_some world.fleet.control.halt ≡ halts
   pub done : halts ≡ false → IsDone (lines_of d) world
   pub lost : (s : ℕ) → IsIn events (event.Lost s) → HasRisen net.broken
+  pub costs : HasRisenBy (losses events) net.broken
+  pub last : HaltsLast d versions
   pub foreign : (before rest : List Event) (s : ℕ) (side : Side) (got : List ℕ) → events ≡ before ++ event.Foreign s side got ∷ rest → AreToldSince net.gathered (HasNext (told s side before) got)
   pub text_is : IsWorldReport world events text
 
@@ -103,10 +113,12 @@ pub record IsCut (source : SourceSeen) (count : Change ℕ) : Type 0 where
 abbrev pub RunStopsBy : SourceSeen → Change ℕ → Change ℕ → Fault → Type 0
 RunStopsBy source pairs threads fault.Net = IsCut source pairs
 RunStopsBy source pairs threads fault.NoThread = IsCut source threads
+RunStopsBy source pairs threads fault.Report = StopsBy IsRefused source fault.Report
 RunStopsBy source pairs threads fault.Read = StopsBy IsRefused source fault.Read
 RunStopsBy source pairs threads fault.Usage = StopsBy IsRefused source fault.Usage
 RunStopsBy source pairs threads (fault.Line line column f) = StopsBy IsRefused source (fault.Line line column f)
 RunStopsBy source pairs threads (fault.NotEnabled line) = StopsBy IsRefused source (fault.NotEnabled line)
+RunStopsBy source pairs threads (fault.NotTwo line) = StopsBy IsRefused source (fault.NotTwo line)
 RunStopsBy source pairs threads (fault.Compile policy f) = StopsBy IsRefused source (fault.Compile policy f)
 RunStopsBy source pairs threads (fault.Emit policy f) = StopsBy IsRefused source (fault.Emit policy f)
 
@@ -128,9 +140,11 @@ abbrev pub TellsCut : Change ℕ → Change ℕ → AnswerError → Type 0
 TellsCut pairs threads error.Memory = Unit {0}
 TellsCut pairs threads (error.Fault fault.Net) = HasRisen pairs
 TellsCut pairs threads (error.Fault fault.NoThread) = HasRisen threads
+TellsCut pairs threads (error.Fault fault.Report) = ⊥
 TellsCut pairs threads (error.Fault fault.Read) = ⊥
 TellsCut pairs threads (error.Fault fault.Usage) = ⊥
 TellsCut pairs threads (error.Fault (fault.Line line column f)) = ⊥
 TellsCut pairs threads (error.Fault (fault.NotEnabled line)) = ⊥
+TellsCut pairs threads (error.Fault (fault.NotTwo line)) = ⊥
 TellsCut pairs threads (error.Fault (fault.Compile policy f)) = ⊥
 TellsCut pairs threads (error.Fault (fault.Emit policy f)) = ⊥

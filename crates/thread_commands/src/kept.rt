@@ -4,7 +4,7 @@ ghost use Rattle.nk_values.specs.Members.{IsIn};
 ghost use Rattle.outside_io.specs.Causes.{Rose};
 ghost use Rattle.world_journal.specs.Journals.{events_of};
 ghost use Rattle.program_answer.specs.Called.{change};
-ghost use Rattle.thread_commands.specs.Run.{AreGathered};
+ghost use Rattle.thread_commands.specs.Run.{AreGathered, HasRisenBy, many_broken};
 
 use outside_net::Net;
 use std::alloc::{AllocError, Global};
@@ -15,6 +15,7 @@ use world_journal::Entry;
 pub fn take_back<N: Net>(net: &mut N, ends: Vec<N::End>)
     ensures later { N.broken net.old ≤ N.broken net.new }
     ensures broken { (e : N.End) → IsIn ends.items e → 0 < N.End.faults e → Rose (N.broken net.old) (N.broken net.new) }
+    ensures counted { HasRisenBy (many_broken N.End.faults ends.items) (change N.broken net.old net.new) }
     ensures gathered { AreGathered N.End.received ends.items (change N.gathered net.old net.new) }
     ensures faults { N.faults net.new ≡ N.faults net.old }
 {

@@ -21,12 +21,12 @@ use program_answer::{Answer, AnswerError, read_input, world_answer};
 use std::alloc::{AllocError, Global};
 use std::sync::{Arc, Wait};
 use value_text::Fault;
-use world_core::{Settings, World};
+use world_core::{Settings, World, losses_count};
 use world_journal::{Entry, Line, RunFault};
 
 /// The report of a run of the policies of a source's document, with a worker in a thread of its own for each session
 /// and each switch, and two that bring its packets in. Pairs of links are made once the document is accepted, and then
-/// threads. It may wait for a link or a thread.
+/// threads; and a new pair for each switch that was lost and returns. It may wait for a link or a thread.
 pub fn run_answer<
     R: Wait + Clone + Drop + Send + 'static,
     S: Source,
@@ -93,7 +93,7 @@ where
     let settings = Settings {
         hops,
         capacity: settings.capacity as usize,
-        rejoins: 0,
+        rejoins: settings.rejoins as usize,
     };
     let world = World::start(alloc, versions, topology, settings)?;
     let ends = match make_pairs(alloc, net, count) {
@@ -101,12 +101,14 @@ where
         Err(NetFault::Broken) => return Err(AnswerError::Fault(Fault::Net)),
         Err(NetFault::Memory) => return Err(AnswerError::Memory),
     };
-    match run_world(rt, alloc, world, lines, ends, threads, gate) {
+    losses_count();
+    match run_world(rt, alloc, world, lines, ends, threads, gate, net) {
         Ok((world, journal, kept)) => {
             take_back(net, kept);
             report(alloc, &world, journal)
         }
         Err(RunFault::NoThread) => Err(AnswerError::Fault(Fault::NoThread)),
+        Err(RunFault::NetFault) => Err(AnswerError::Fault(Fault::Net)),
         Err(RunFault::Memory) => Err(AnswerError::Memory),
     }
 }

@@ -1,7 +1,7 @@
 // The five calls of a worker, and their answers.
 ghost use Rattle.std.specs.Prelude.{◌≡◌, ◌<◌, ℕ, List, Option, IfOk, IfSome, [], ◌∷◌};
 ghost use Rattle.openflow_wire.specs.declared.message.Message.{Message};
-ghost use Rattle.worker_desk.specs.Answers.{grown, gave, CanBeWritten, GivesBack, OnKept};
+ghost use Rattle.worker_desk.specs.Answers.{grown, gave, CanBeWritten, GivesBack, OnKept, OnNewEnd, OnShutNewEnd};
 ghost use Rattle.worker_desk.specs.Streams.{TellsWhereKnown};
 
 use openflow_wire::Message;
@@ -13,13 +13,15 @@ pub type Made = Option<Kind>;
 
 /// What a worker is to do next.
 #[derive(Drop)]
-pub enum Given {
+pub enum Given<E> {
     /// To send this message.
     Out { message: Message, made: Made },
     /// To receive: a message is on its way to it.
     Expect { made: Made },
     /// To ask again.
     Nothing { made: Made },
+    /// To begin a new session over this end.
+    NewEnd(E),
     /// To stop.
     Stop,
 }
@@ -31,13 +33,15 @@ pub enum Told<E> {
     Back { end: E, made: Made },
     /// The step that ends the session was made, and the end is kept with it.
     Kept,
-    /// Want of memory: no step was made, and the end comes back.
+    /// Out of memory: no step was made, and the end comes back.
     Memory(E),
 }
 
-/// What a worker whose end is closed is to do.
-#[derive(Clone, Copy, Debug, PartialEq, Eq)]
-pub enum Shut {
+/// What a worker without an open end is to do.
+#[derive(Drop)]
+pub enum Shut<E> {
+    /// To begin a new session over this end.
+    NewEnd(E),
     /// To ask again.
     Nothing,
     /// To stop.
@@ -45,7 +49,8 @@ pub enum Shut {
 }
 
 /// What a session's or a switch's worker asks of its run. A seat stays that of the same worker, and an end that comes
-/// back is the one that was handed in. What a worker was given and told may be known of its seat.
+/// back is the one that was handed in. A new end is of a pair of its switch, and nothing was received over it. What a
+/// worker was given and told may be known of its seat.
 pub trait Desk {
     /// A worker's seat.
     type Seat;
@@ -59,6 +64,9 @@ pub trait Desk {
     /// The place of its switch, from 0.
     ghost place: { Self.Seat → ℕ };
 
+    /// The place of the switch of a pair with this name. A switch has a pair for each of its sessions.
+    ghost place_of: { ℕ → ℕ };
+
     /// The messages that it was given, where they are known.
     ghost given: { Self.Seat → Option (List Message) };
 
@@ -68,12 +76,14 @@ pub trait Desk {
     /// Its end that was kept, where it is known.
     ghost kept: { Self.Seat → Option Self.End };
 
-    /// What is to be done next. A message that is given can be written. Where memory is wanting a step may have been
-    /// made; its message is given later.
-    fn give(&self, seat: &mut Self::Seat) -> Result<Given, AllocError>
+    /// What is to be done next. A message that is given can be written. Out of memory a step may have been made; its
+    /// message is given later.
+    fn give(&self, seat: &mut Self::Seat) -> Result<Given<Self::End>, AllocError>
         requires { seated seat.old }
         ensures seat { seated seat.new × (place seat.new ≡ place seat.old) }
         ensures fits { IfOk result CanBeWritten }
+        ensures named { IfOk result (OnNewEnd (λ e. place_of (Self.End.named e) ≡ place seat.old)) }
+        ensures fresh { IfOk result (OnNewEnd (λ e. IfSome (Self.End.received e) (λ xs. xs ≡ []))) }
         ensures given { given seat.new ≡ grown (given seat.old) (gave result) }
         ensures told { told seat.new ≡ told seat.old };
 
@@ -81,7 +91,7 @@ pub trait Desk {
     /// has a fault behind these, the bytes that are held there.
     fn tell(&self, seat: &mut Self::Seat, bytes: &[u8], end: Self::End, k: u64) -> Told<Self::End>
         requires seat { seated seat.old }
-        requires name { Self.End.named end ≡ place seat.old }
+        requires name { place_of (Self.End.named end) ≡ place seat.old }
         requires stream { TellsWhereKnown (Self.End.received end) k bytes.now }
         ensures seat { seated seat.new × (place seat.new ≡ place seat.old) }
         ensures back { GivesBack end result }
@@ -92,7 +102,7 @@ pub trait Desk {
     /// Tells that a call on this end failed.
     fn lost(&self, seat: &mut Self::Seat, end: Self::End) -> Told<Self::End>
         requires seat { seated seat.old }
-        requires name { Self.End.named end ≡ place seat.old }
+        requires name { place_of (Self.End.named end) ≡ place seat.old }
         requires failed { 0 < Self.End.faults end }
         ensures seat { seated seat.new × (place seat.new ≡ place seat.old) }
         ensures back { GivesBack end result }
@@ -100,14 +110,17 @@ pub trait Desk {
         ensures given { given seat.new ≡ given seat.old }
         ensures told { told seat.new ≡ told seat.old };
 
-    /// Asks whether to stop, once the end is closed. It makes no step.
-    fn shut(&self, seat: &mut Self::Seat) -> Shut
+    /// Asks what to do without an open end: to begin a new session, or to stop. It makes no step.
+    fn shut(&self, seat: &mut Self::Seat) -> Shut<Self::End>
         requires { seated seat.old }
         ensures seat { seated seat.new × (place seat.new ≡ place seat.old) }
+        ensures named { OnShutNewEnd (λ e. place_of (Self.End.named e) ≡ place seat.old) result }
+        ensures fresh { OnShutNewEnd (λ e. IfSome (Self.End.received e) (λ xs. xs ≡ [])) result }
+        ensures kept { kept seat.new ≡ kept seat.old }
         ensures given { given seat.new ≡ given seat.old }
         ensures told { told seat.new ≡ told seat.old };
 
-    /// Makes every later `give` a Stop: memory was wanting.
+    /// Makes every later `give` a Stop: memory ran out.
     fn close(&self, seat: &mut Self::Seat)
         requires { seated seat.old }
         ensures seat { seated seat.new × (place seat.new ≡ place seat.old) }

@@ -12,7 +12,7 @@ runs-more : (w : WorldValue) (es : List Event) (e : Event) (u v : WorldValue) �
 runs-more w [] e u v r s = (v, subst (λ (x : WorldValue). Step x e v) (sym r) s, refl)
 runs-more w (x ∷ es) e u v r s = (r.0, r.1, runs-more r.0 es e u v r.2 s)
 
-events-more : (es : List Entry) (e : Entry) → events_of (es ++ e ∷ []) ≡ events_of es ++ e.event ∷ []
+pub events-more : (es : List Entry) (e : Entry) → events_of (es ++ e ∷ []) ≡ events_of es ++ e.event ∷ []
 events-more [] e = refl
 events-more (x ∷ es) e = ap (λ (ys : List Event). x.event ∷ ys) (events-more es e)
 
@@ -54,7 +54,7 @@ goes-held named faults received start world next journal room now ends w e total
 -- a step for which an end is kept
 pub cuts-held : {E : Type 0} (named faults : E → ℕ) (received : E → Option (List ℕ)) (start world next : WorldValue) (journal room now : List Entry) (ends place all : List E) (w : ℕ) (e : Event) (end : E) (total booked : ℕ)
     → Books named faults received start world journal ends total → room ≡ journal → now ≡ room ++ entry w e ∷ [] → place ≡ ends → all ≡ place ++ end ∷ [] → booked ≡ total + 1
-    → Step world e next → MayMake (switches start) w e → MetBy named faults received journal e end → Books named faults received start next now all booked
+    → Step world e next → MayMake (switches start) w e → MetBy (switches start) named faults received journal e end → Books named faults received start next now all booked
 cuts-held named faults received start world next journal room now ends place all w e end total booked h same pushed same_ends added book s may met =
     let is : now ≡ journal ++ entry w e ∷ [] = rw (← same) pushed in
     let are : all ≡ ends ++ end ∷ [] = rw (← same_ends) added in
@@ -75,7 +75,7 @@ none-held named faults received start world journal ends total begins no_entry n
       record {
         runs = sym begins;
         makers = tt;
-        kept = subst (λ es. Kept named faults received [] es) (sym no_end) Kept.none;
+        kept = subst (λ es. Kept (switches start) named faults received [] es) (sym no_end) Kept.none;
       },
       zero,
     )

@@ -1,8 +1,11 @@
 pub mod Crossing
 pub mod Ended
+pub mod Giving
 pub mod Growing
 pub mod Marks
+pub mod Numbers
 pub mod Passing
 pub mod Searching
+pub mod Returning
 pub mod Sharing
 pub mod Staying

@@ -52,6 +52,7 @@ use Rattle.barrier_tracker.proofs.tracker.Tracker.TheSendSync as trackers
 use Rattle.session_core.proofs.session.SessionFault.TheSendSync as faults
 use Rattle.openflow_wire.specs.contracts.octets.Octets as octets
 use Rattle.openflow_wire.proofs.octets.Octets.TheSendSync as octet
+use Rattle.openflow_wire.proofs.fault.WireFault.TheSendSync as wires
 use Rattle.nk_values.specs.contracts.rows.Rows as rows
 use Rattle.nk_values.proofs.rows.Rows.TheSendSync as rowed
 use Rattle.flight_queues.specs.contracts.numbered.Mark as mark
@@ -90,7 +91,7 @@ pub arrival-send : IsSend arrival.the_row
 arrival-send = view_send arrival_inside.the_row _ _ _ _ (declared_send arrival_inside.the_type (packets.the_send, (tags.the_send, (entries.the_send, (vec-send history.the_row history-send, tt)))))
 
 cause-send : IsSend cause.the_row
-cause-send = variants_send cause.enum ((as_row_send u16-field (search sendable), tt), ((as_row_send u16-field (search sendable), (faults.the_send, tt)), ((as_row_send u16-field (search sendable), (sides.the_send, (options.the_send octets.the_row octet.the_send, (octet.the_send, tt)))), ((history-send, tt), tt))))
+cause-send = variants_send cause.enum ((as_row_send u16-field (search sendable), tt), ((as_row_send u16-field (search sendable), (faults.the_send, tt)), ((as_row_send u16-field (search sendable), (sides.the_send, (options.the_send octets.the_row octet.the_send, (octet.the_send, tt)))), ((as_row_send u16-field (search sendable), (wires.the_send, tt)), ((history-send, tt), tt)))))
 
 coordinator-inside : IsSend coordinator_inside.the_row
 coordinator-inside = declared_send coordinator_inside.the_type (

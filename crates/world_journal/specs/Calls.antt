@@ -11,14 +11,14 @@ use Rattle.world_core.specs.Channels.{newest_at, sent_at}
 use Rattle.world_core.specs.Ends.{channel, IsFront}
 use Rattle.world_core.specs.Steps.{Step, Stands, IsEnabled}
 use Rattle.worker_desk.specs.declared.desk.Given.{Given}
-use Rattle.worker_desk.specs.declared.desk.Given.TheVariants.{Out, Expect, Nothing, Stop}
+use Rattle.worker_desk.specs.declared.desk.Given.TheVariants.{Out, Expect, Nothing, NewEnd, Stop}
 use Rattle.worker_desk.specs.declared.desk.Told.{Told}
 use Rattle.worker_desk.specs.declared.desk.Told.TheVariants.{Back, Kept, Memory}
 use Rattle.worker_desk.specs.declared.desk.Shut.{Shut}
 use Rattle.worker_desk.specs.declared.desk.Shut.TheVariants as shut
-use Rattle.world_journal.specs.Journals.{entry, told_before}
+use Rattle.world_journal.specs.Journals.{entry, told_before, present_name}
 use Rattle.world_journal.specs.declared.line.Line.{Line}
-use Rattle.world_journal.specs.Runs.{RunValue, Stops, waits, marking}
+use Rattle.world_journal.specs.Runs.{RunValue, Stops, waits, marking, end_at, taking, dropping, laying}
 
 -- ---- workers by their numbers
 
@@ -46,6 +46,8 @@ pub record IsBeside {E : Type 0} (old new : RunValue E) : Type 0 where
   pub back : new.back ≡ old.back
   pub to_waits : new.to_waits ≡ old.to_waits
   pub back_waits : new.back_waits ≡ old.back_waits
+  pub to_ends : new.to_ends ≡ old.to_ends
+  pub back_ends : new.back_ends ≡ old.back_ends
 
 -- worker w made this step, and nothing else changed
 pub record Made {E : Type 0} (w : ℕ) (e : Event) (old new : RunValue E) : Type 0 where
@@ -112,26 +114,34 @@ pub record Rests {E : Type 0} (w : ℕ) (side : Side) (s : ℕ) (old new : RunVa
   pub put : has_put side s old.held.world new.held.world ≡ false
 
 -- where no message is put on the channel one may be received
-abbrev pub RestsAs : WorldValue → Side → ℕ → Option Kind → Given → Type 0
+abbrev pub RestsAs : {E : Type 0} → WorldValue → Side → ℕ → Option Kind → Given E → Type 0
 RestsAs w side s made (Expect m) = (m ≡ made) × IsEnabled w (receipt side s)
 RestsAs w side s made (Nothing m) = (m ≡ made) × ¬ IsEnabled w (receipt side s)
 RestsAs w side s made _ = ⊥
 
 -- what is answered where the worker goes on and no message waits
-abbrev pub GoesOn : {E : Type 0} → ℕ → Side → ℕ → RunValue E → RunValue E → Given → Type 0
+abbrev pub GoesOn : {E : Type 0} → ℕ → Side → ℕ → RunValue E → RunValue E → Given E → Type 0
 GoesOn w side s old new Stop = ⊥
+GoesOn w side s old new (NewEnd e) = ⊥
 GoesOn w side s old new (Out m None) = ⊥
 GoesOn w side s old new (Out m (Some k)) = Puts w side s old new (Some k) false × (newest_at new.held.world side s ≡ Some m)
 GoesOn w side s old new (Expect made) = Rests w side s old new made × IsEnabled new.held.world (receipt side s)
 GoesOn w side s old new (Nothing made) = Rests w side s old new made × ¬ IsEnabled new.held.world (receipt side s)
 
--- What `give` answers to the worker at this side of switch s: that it is to stop; the message that waits; or what its next step comes to.
-abbrev pub Gives : {E : Type 0} → ℕ → Side → ℕ → RunValue E → RunValue E → Given → Type 0
-Gives w side s old new Stop = Stops old side s × (new ≡ old)
-Gives w side s old new (Out m None) = (¬ Stops old side s) × (waits old side s ≡ true) × (newest_at old.held.world side s ≡ Some m) × (new ≡ marking old side s false)
-Gives w side s old new g = (¬ Stops old side s) × (waits old side s ≡ false) × GoesOn w side s old new g
+-- what is answered where the worker goes on over its end
+abbrev pub Works : {E : Type 0} → ℕ → Side → ℕ → RunValue E → RunValue E → Given E → Type 0
+Works w side s old new Stop = ⊥
+Works w side s old new (NewEnd e) = ⊥
+Works w side s old new (Out m None) = (waits old side s ≡ true) × (newest_at old.held.world side s ≡ Some m) × (new ≡ marking old side s false)
+Works w side s old new g = (waits old side s ≡ false) × GoesOn w side s old new g
 
--- Where memory was wanting nothing changed, or a step stands and its message waits.
+-- What `give` answers to the worker at this side of switch s: that it is to stop; a new end; the message that waits; or what its next step comes to.
+abbrev pub Gives : {E : Type 0} → ℕ → Side → ℕ → RunValue E → RunValue E → Given E → Type 0
+Gives w side s old new Stop = Stops old s × (new ≡ old)
+Gives w side s old new (NewEnd e) = (¬ Stops old s) × (end_at old side s ≡ Some e) × (new ≡ taking old side s)
+Gives w side s old new g = (¬ Stops old s) × (end_at old side s ≡ None) × Works w side s old new g
+
+-- Out of memory nothing changed, or a step stands and its message waits.
 abbrev pub RunsOut : {E : Type 0} → ℕ → Side → ℕ → RunValue E → RunValue E → Type 0
 RunsOut w side s old new = (new ≡ old) ⊎ ((made : Option Kind) × Puts w side s old new made true)
 
@@ -170,18 +180,50 @@ TurnsAway w side s bytes k end old new (Back e None) = (e ≡ end) × (new ≡ o
 TurnsAway w side s bytes k end old new Kept = (told_before s side old.held.journal ≡ k) × Cuts w (event.Foreign s side bytes) end old new
 TurnsAway w side s bytes k end old new (Memory e) = (e ≡ end) × (new ≡ old)
 
--- What `tell` answers: the front is received, where it can be; other bytes end the session, where they came next.
-abbrev pub Tells : {E : Type 0} → ℕ → Side → ℕ → List ℕ → ℕ → E → RunValue E → RunValue E → Told E → Type 0
-Tells w side s bytes k end old new told = (IsFrontAt bytes side s old.held.world × TakesIn w side s end old new told) ⊎ ((¬ IsFrontAt bytes side s old.held.world) × TurnsAway w side s bytes k end old new told)
+-- what is answered over an end of an earlier session
+abbrev pub IsStale : {E : Type 0} → E → RunValue E → RunValue E → Told E → Type 0
+IsStale end old new (Back e None) = (e ≡ end) × (new ≡ old)
+IsStale end old new (Back e (Some made)) = ⊥
+IsStale end old new Kept = ⊥
+IsStale end old new (Memory e) = ⊥
 
--- what `lost` answers
-abbrev pub Loses : {E : Type 0} → ℕ → ℕ → E → RunValue E → RunValue E → Told E → Type 0
-Loses w s end old new (Back e None) = (e ≡ end) × (¬ IsEnabled old.held.world (event.Lost s)) × (new ≡ old)
-Loses w s end old new (Back e (Some made)) = ⊥
-Loses w s end old new Kept = Cuts w (event.Lost s) end old new
-Loses w s end old new (Memory e) = (e ≡ end) × (new ≡ old)
+-- whether an end with this name is of the present session with switch s, of n
+abbrev pub IsPresent : {E : Type 0} → ℕ → ℕ → ℕ → RunValue E → Type 0
+IsPresent n s name run = name ≡ present_name n s run.held.journal
+
+-- what is answered over an end of the present session
+abbrev pub TellsNow : {E : Type 0} → ℕ → Side → ℕ → List ℕ → ℕ → E → RunValue E → RunValue E → Told E → Type 0
+TellsNow w side s bytes k end old new told = (IsFrontAt bytes side s old.held.world × TakesIn w side s end old new told) ⊎ ((¬ IsFrontAt bytes side s old.held.world) × TurnsAway w side s bytes k end old new told)
+
+-- What `tell` answers over an end with this name: in its present session the front is received, where it can be; other bytes end the session, where they came next.
+abbrev pub Tells : {E : Type 0} → ℕ → ℕ → ℕ → Side → ℕ → List ℕ → ℕ → E → RunValue E → RunValue E → Told E → Type 0
+Tells n name w side s bytes k end old new told = (IsPresent n s name old × TellsNow w side s bytes k end old new told) ⊎ ((¬ IsPresent n s name old) × IsStale end old new told)
+
+-- The session was lost and the end kept, and nothing waits for the workers of the switch any more.
+pub record Drops {E : Type 0} (w s : ℕ) (end : E) (old new : RunValue E) : Type 0 where
+  pub between : RunValue E
+  pub step : Cuts w (event.Lost s) end old between
+  pub now : new ≡ dropping between s
+
+-- what is answered where the end of the present session failed
+abbrev pub LosesNow : {E : Type 0} → ℕ → ℕ → E → RunValue E → RunValue E → Told E → Type 0
+LosesNow w s end old new (Back e None) = (e ≡ end) × (¬ IsEnabled old.held.world (event.Lost s)) × (new ≡ old)
+LosesNow w s end old new (Back e (Some made)) = ⊥
+LosesNow w s end old new Kept = Drops w s end old new
+LosesNow w s end old new (Memory e) = (e ≡ end) × (new ≡ old)
+
+-- what `lost` answers over an end with this name
+abbrev pub Loses : {E : Type 0} → ℕ → ℕ → ℕ → ℕ → E → RunValue E → RunValue E → Told E → Type 0
+Loses n name w s end old new told = (IsPresent n s name old × LosesNow w s end old new told) ⊎ ((¬ IsPresent n s name old) × IsStale end old new told)
 
 -- what `shut` answers
-abbrev pub Shuts : Type 0 → Shut → Type 0
-Shuts stop shut.Nothing = ¬ stop
-Shuts stop shut.Stop = stop
+abbrev pub Shuts : {E : Type 0} → Side → ℕ → RunValue E → RunValue E → Shut E → Type 0
+Shuts side s old new (shut.NewEnd e) = (¬ Stops old s) × (end_at old side s ≡ Some e) × (new ≡ taking old side s)
+Shuts side s old new shut.Nothing = (¬ Stops old s) × (end_at old side s ≡ None) × (new ≡ old)
+Shuts side s old new shut.Stop = Stops old s × (new ≡ old)
+
+-- The caller made switch s return, and both ends of a pair are laid out for its workers.
+pub record Returns {E : Type 0} (w s : ℕ) (pair : E × E) (old new : RunValue E) : Type 0 where
+  pub between : RunValue E
+  pub step : Made w (event.Rejoin s) old between
+  pub now : new ≡ laying between s pair

@@ -23,7 +23,6 @@ abbrev pub WorksAt : ℕ → ℕ → Side → ℕ → Type 0
 WorksAt n w side.Controller s = IsSession n w s
 WorksAt n w side.Switch s = IsSwitch n w s
 
--- No worker makes a switch return: a run ends with the first session that is lost.
 abbrev pub MayMake : ℕ → ℕ → Event → Type 0
 MayMake n w event.Begin = IsCaller w
 MayMake n w (event.Send s) = IsSession n w s
@@ -35,7 +34,7 @@ MayMake n w (event.Arrive pk tag) = IsTraffic n w
 MayMake n w (event.Hop k) = IsTraffic n w
 MayMake n w (event.Drained stamp) = IsCaller w
 MayMake n w (event.Lost s) = IsSession n w s ⊎ IsSwitch n w s
-MayMake n w (event.Rejoin s) = ⊥
+MayMake n w (event.Rejoin s) = IsCaller w
 MayMake n w (event.Stuck k) = IsCaller w
 MayMake n w (event.Foreign s side got) = WorksAt n w side s
 
@@ -44,3 +43,8 @@ abbrev pub is_cut : Event → Bool
 is_cut (event.Lost s) = true
 is_cut (event.Foreign s side got) = true
 is_cut _ = false
+
+-- a switch returns, over a new pair of ends
+abbrev pub is_rejoin : Event → Bool
+is_rejoin (event.Rejoin s) = true
+is_rejoin _ = false

@@ -1,14 +1,18 @@
 -- What the calls of the caller and of the workers that bring packets in answer, by the state that they find.
-use Rattle.std.specs.Prelude.{◌≡◌, ◌⊎◌, ℕ, true, List, None, Some, slice_get}
+use Rattle.std.specs.Prelude.{◌≡◌, ◌≢◌, ◌⊎◌, ℕ, ◌+◌, ◌<◌, true, List, None, Some, slice_get}
 use Rattle.world_core.specs.declared.event.Event.{Event}
 use Rattle.world_core.specs.declared.event.Event.TheVariants as event
 use Rattle.world_core.specs.Steps.{IsEnabled}
-use Rattle.world_journal.specs.Arriving.{IsOver}
-use Rattle.world_journal.specs.Calls.{Made, Arrives, IsBarred}
+use Rattle.world_journal.specs.Arriving.{IsOver, last_phase}
+use Rattle.world_journal.specs.Calls.{Made, Arrives, IsBarred, Returns}
+use Rattle.world_journal.specs.Journals.{events_of, name_of, session}
 use Rattle.world_journal.specs.Runs.{RunValue}
 use Rattle.world_journal.specs.declared.line.Line.{Line}
 use Rattle.world_journal.specs.declared.moves.Did.{Did}
 use Rattle.world_journal.specs.declared.moves.Did.TheVariants.{Step, Nothing, Stop}
+use Rattle.world_journal.specs.declared.updates.Absence.{Absence}
+use Rattle.world_journal.specs.declared.updates.Update.{Update}
+use Rattle.world_journal.specs.declared.updates.Update.TheVariants as update
 
 -- The packet at a place comes in; or it has come in before, or cannot; or there is none there, or the run was closed.
 abbrev pub ComesIn : {E : Type 0} → ℕ → List Line → ℕ → RunValue E → RunValue E → Did → Type 0
@@ -29,8 +33,25 @@ IsUpdate (event.Drained stamp) = Unit {0}
 IsUpdate (event.Stuck k) = Unit {0}
 IsUpdate _ = ⊥
 
--- Such a step is made; or none can be made now; or the run was closed or is over.
-abbrev pub Updates : {E : Type 0} → ℕ → List Line → RunValue E → RunValue E → Did → Type 0
-Updates w lines old new Step = (e : Event) × IsUpdate e × Made w e old new
-Updates w lines old new Nothing = ((e : Event) → IsUpdate e → ¬ IsEnabled old.held.world e) × (new ≡ old)
-Updates w lines old new Stop = ((old.closed ≡ true) ⊎ IsOver lines old.held.world) × (new ≡ old)
+-- Switch s is to return: it is away, and not all updates are done.
+abbrev pub IsMissing : {E : Type 0} → ℕ → RunValue E → Type 0
+IsMissing s run = IsEnabled run.held.world (event.Rejoin s) × (run.held.world.fleet.control.phase ≢ last_phase run.held.world)
+
+-- it is one of n switches, and is to return over a pair with this name
+pub record IsAbsence {E : Type 0} (n : ℕ) (run : RunValue E) (a : Absence) : Type 0 where
+  pub here : a.place < n
+  pub missing : IsMissing a.place run
+  pub name : a.name ≡ name_of n a.place (session a.place (events_of run.held.journal) + 1)
+
+-- Such a step is made; or a switch is to return; or neither can be now; or the run was closed or is over.
+abbrev pub Updates : {E : Type 0} → ℕ → ℕ → List Line → RunValue E → RunValue E → Update → Type 0
+Updates n w lines old new update.Step = (e : Event) × IsUpdate e × Made w e old new
+Updates n w lines old new (update.Absent a) = IsAbsence n old a × (new ≡ old)
+Updates n w lines old new update.Nothing = ((e : Event) → IsUpdate e → ¬ IsEnabled old.held.world e) × ((s : ℕ) → s < n → ¬ IsMissing s old) × (new ≡ old)
+Updates n w lines old new update.Stop = ((old.closed ≡ true) ⊎ IsOver lines old.held.world) × (new ≡ old)
+
+-- The switch of an absence returns over a pair; or it is not to return any more.
+abbrev pub Rejoins : {E : Type 0} → ℕ → ℕ → Absence → E × E → RunValue E → RunValue E → Did → Type 0
+Rejoins n w a pair old new Step = IsAbsence n old a × Returns w a.place pair old new
+Rejoins n w a pair old new Nothing = (¬ IsAbsence n old a) × (new ≡ old)
+Rejoins n w a pair old new Stop = (old.closed ≡ true) × (new ≡ old)

@@ -1,14 +1,14 @@
 // What a session's or a switch's worker asks of a run: each answer is decided by the state found.
-ghost use Rattle.std.specs.Prelude.{◌≡◌, ◌<◌, ◌+◌, ◌≤◌, ◌↔◌, IfOk, IfErr, OnOk, OnErr, Err, Some, IsTrue};
+ghost use Rattle.std.specs.Prelude.{◌≡◌, ◌<◌, ◌+◌, ◌%◌, ◌^◌, ◌≤◌, ◌↔◌, [], IfOk, IfErr, IfSome, OnOk, OnErr, Err, Some, IsTrue};
 ghost use Rattle.openflow_wire.specs.Writing.{Fits};
-ghost use Rattle.worker_desk.specs.Answers.{CanBeWritten, GivesBack};
+ghost use Rattle.worker_desk.specs.Answers.{CanBeWritten, GivesBack, OnNewEnd, OnShutNewEnd};
 ghost use Rattle.worker_desk.specs.Streams.{TellsWhereKnown};
 ghost use Rattle.world_core.specs.Channels.{newest_at};
 ghost use Rattle.world_core.specs.Steps.{IsEnabled};
 ghost use Rattle.world_core.specs.declared.fault.StepFault.TheVariants as faults;
-ghost use Rattle.world_journal.specs.Journals.{switches, is_told, told_before};
+ghost use Rattle.world_journal.specs.Journals.{switches, is_return, is_told, present_name, told_before, told_on};
 ghost use Rattle.world_journal.specs.Makers.{WorksAt};
-ghost use Rattle.world_journal.specs.Runs.{Stops, waits};
+ghost use Rattle.world_journal.specs.Runs.{waits};
 ghost use Rattle.world_journal.specs.Calls.{
   Advances,
   Gives,
@@ -17,12 +17,15 @@ ghost use Rattle.world_journal.specs.Calls.{
   IsUnmoved,
   IsWorker,
   Loses,
+  LosesNow,
   RestsAs,
   RunsOut,
   Shuts,
   TakesIn,
   Tells,
+  TellsNow,
   TurnsAway,
+  Works,
   place_of,
   receipt,
   side_of,
@@ -41,13 +44,16 @@ use worker_desk::{Given, Made, Shut, Told};
 use world_core::{Event, StepFault, World};
 
 impl<L: RunName, E: Link> Run<L, E> {
-    /// What the worker of this seat is to do next: to stop; to send the message that waits, or the one that its next
-    /// step puts on its channel; to receive, where a message is on its way to it and it can be taken; or nothing.
-    /// Where memory is wanting a step may stand, and its message then waits.
-    pub fn give(&mut self, alloc: Global, seat: &mut Seat<L>) -> Result<Given, AllocError>
+    /// What the worker of this seat is to do next: to stop, to begin a new session, to send, to receive, or nothing. A
+    /// new session is over the end that is laid out for it. It sends the message that waits, or the one that its next
+    /// step puts on its channel. It receives if a message is on its way to it and can be taken. Out of memory a step
+    /// may stand, and its message then waits.
+    pub fn give(&mut self, alloc: Global, seat: &mut Seat<L>) -> Result<Given<E>, AllocError>
         requires seat { IsWorker (switches L.start) seat.old.worker }
         ensures seat { IsUnmoved seat.old.worker seat.new.worker seat.old.share.parts seat.new.share.parts }
         ensures fits { IfOk result CanBeWritten }
+        ensures named { IfOk result (OnNewEnd (λ e. E.named e % switches L.start ≡ place_of (switches L.start) seat.old.worker)) }
+        ensures fresh { IfOk result (OnNewEnd (λ e. IfSome (E.received e) (λ xs. xs ≡ []))) }
         ensures answer { IfOk result (Gives seat.old.worker (side_of (switches L.start) seat.old.worker) (place_of (switches L.start) seat.old.worker) self.old self.new) }
         ensures memory { OnErr result (RunsOut seat.old.worker (side_of (switches L.start) seat.old.worker) (place_of (switches L.start) seat.old.worker) self.old self.new) }
     {
@@ -55,9 +61,9 @@ impl<L: RunName, E: Link> Run<L, E> {
         give_at(self, alloc, seat, side, s)
     }
 
-    /// Takes the bytes of a message that the worker of this seat received behind k others, or those at which the
-    /// stream has a fault. Where they are the front of its channel it is taken, if that can be; where they are not,
-    /// and came next, the session ends and the end is kept.
+    /// Takes the bytes of a message that the worker of this seat received after k others, or those at which the
+    /// stream has a fault. If they are the front of its channel it is taken, if that can be; if they are not, and came
+    /// next, the session ends and the end is kept. Over an end of an earlier session nothing happens.
     pub fn tell(
         &mut self,
         alloc: Global,
@@ -67,43 +73,52 @@ impl<L: RunName, E: Link> Run<L, E> {
         k: u64,
     ) -> Told<E>
         requires seat { IsWorker (switches L.start) seat.old.worker }
-        requires name { E.named end ≡ place_of (switches L.start) seat.old.worker }
+        requires name { E.named end % switches L.start ≡ place_of (switches L.start) seat.old.worker }
         requires stream { TellsWhereKnown (E.received end) k bytes.now }
         ensures seat { IsUnmoved seat.old.worker seat.new.worker seat.old.share.parts seat.new.share.parts }
-        ensures answer { Tells seat.old.worker (side_of (switches L.start) seat.old.worker) (place_of (switches L.start) seat.old.worker) bytes.now k end self.old self.new result }
+        ensures answer { Tells (switches L.start) (E.named end) seat.old.worker (side_of (switches L.start) seat.old.worker) (place_of (switches L.start) seat.old.worker) bytes.now k end self.old self.new result }
         ensures back { GivesBack end result }
     {
         let (side, s) = position(self.switch_count(), seat.worker());
-        if self.world().is_front(s, side, bytes) {
-            receive_at(self, alloc, seat, side, s, end)
+        if self.is_present(s, end.name()) {
+            tell_at(self, alloc, seat, side, s, bytes, end, k)
         } else {
-            refuse_at(self, alloc, seat, side, s, bytes, end, k)
+            Told::Back { end, made: None }
         }
     }
 
-    /// The end of the worker of this seat failed: the session is lost, unless the coordinator has halted.
+    /// The end of the worker of this seat failed: the session is lost, unless the coordinator has halted or the end is
+    /// of an earlier session.
     pub fn lost(&mut self, alloc: Global, seat: &mut Seat<L>, end: E) -> Told<E>
         requires seat { IsWorker (switches L.start) seat.old.worker }
-        requires name { E.named end ≡ place_of (switches L.start) seat.old.worker }
+        requires name { E.named end % switches L.start ≡ place_of (switches L.start) seat.old.worker }
         requires failed { 0 < E.faults end }
         ensures seat { IsUnmoved seat.old.worker seat.new.worker seat.old.share.parts seat.new.share.parts }
-        ensures answer { Loses seat.old.worker (place_of (switches L.start) seat.old.worker) end self.old self.new result }
+        ensures answer { Loses (switches L.start) (E.named end) seat.old.worker (place_of (switches L.start) seat.old.worker) end self.old self.new result }
         ensures back { GivesBack end result }
     {
         let (side, s) = position(self.switch_count(), seat.worker());
-        lose_at(self, alloc, seat, side, s, end)
+        if self.is_present(s, end.name()) {
+            lose_at(self, alloc, seat, side, s, end)
+        } else {
+            Told::Back { end, made: None }
+        }
     }
 
-    /// Whether the worker of this seat, whose end is closed, is to stop.
-    pub fn shut(&self, seat: &Seat<L>) -> Shut
+    /// What the worker of this seat, which has no open end, is to do: to stop, to begin a new session, or nothing.
+    pub fn shut(&mut self, seat: &Seat<L>) -> Shut<E>
         requires seat { IsWorker (switches L.start) seat.now.worker }
-        ensures answer { Shuts (Stops self.now (side_of (switches L.start) seat.now.worker) (place_of (switches L.start) seat.now.worker)) result }
+        ensures named { OnShutNewEnd (λ e. E.named e % switches L.start ≡ place_of (switches L.start) seat.now.worker) result }
+        ensures fresh { OnShutNewEnd (λ e. IfSome (E.received e) (λ xs. xs ≡ [])) result }
+        ensures answer { Shuts (side_of (switches L.start) seat.now.worker) (place_of (switches L.start) seat.now.worker) self.old self.new result }
     {
         let (side, s) = position(self.switch_count(), seat.worker());
-        if self.stops(side, s) {
-            Shut::Stop
-        } else {
-            Shut::Nothing
+        if self.stops(s) {
+            return Shut::Stop;
+        }
+        match self.take_end(side, s) {
+            Some(end) => Shut::NewEnd(end),
+            None => Shut::Nothing,
         }
     }
 }
@@ -129,16 +144,38 @@ fn give_at<L: RunName, E: Link>(
     seat: &mut Seat<L>,
     side: Side,
     s: usize,
-) -> Result<Given, AllocError>
+) -> Result<Given<E>, AllocError>
     requires seat { WorksAt (switches L.start) seat.old.worker side s }
     ensures seat { IsUnmoved seat.old.worker seat.new.worker seat.old.share.parts seat.new.share.parts }
     ensures fits { IfOk result CanBeWritten }
+    ensures named { IfOk result (OnNewEnd (λ e. E.named e % switches L.start ≡ s)) }
+    ensures fresh { IfOk result (OnNewEnd (λ e. IfSome (E.received e) (λ xs. xs ≡ []))) }
     ensures answer { IfOk result (Gives seat.old.worker side s run.old run.new) }
     ensures memory { OnErr result (RunsOut seat.old.worker side s run.old run.new) }
 {
-    if run.stops(side, s) {
+    if run.stops(s) {
         return Ok(Given::Stop);
     }
+    match run.take_end(side, s) {
+        Some(end) => Ok(Given::NewEnd(end)),
+        None => work_at(run, alloc, seat, side, s),
+    }
+}
+
+// The same where the worker goes on over its end.
+fn work_at<L: RunName, E: Link>(
+    run: &mut Run<L, E>,
+    alloc: Global,
+    seat: &mut Seat<L>,
+    side: Side,
+    s: usize,
+) -> Result<Given<E>, AllocError>
+    requires seat { WorksAt (switches L.start) seat.old.worker side s }
+    ensures seat { IsUnmoved seat.old.worker seat.new.worker seat.old.share.parts seat.new.share.parts }
+    ensures fits { IfOk result CanBeWritten }
+    ensures answer { IfOk result (Works seat.old.worker side s run.old run.new) }
+    ensures memory { OnErr result (RunsOut seat.old.worker side s run.old run.new) }
+{
     if run.waits(side, s) {
         let message = newest_copy(run.world(), alloc, side, s)?;
         run.mark(side, s, false);
@@ -157,7 +194,7 @@ fn go_on<L: RunName, E: Link>(
     seat: &mut Seat<L>,
     side: Side,
     s: usize,
-) -> Result<Given, AllocError>
+) -> Result<Given<E>, AllocError>
     requires seat { WorksAt (switches L.start) seat.old.worker side s }
     ensures seat { IsUnmoved seat.old.worker seat.new.worker seat.old.share.parts seat.new.share.parts }
     ensures fits { IfOk result CanBeWritten }
@@ -219,7 +256,7 @@ fn advance<L: RunName, E: Link>(
 }
 
 // What is to be done where no message was put on the channel.
-fn rest(world: &World, side: Side, s: usize, made: Made) -> Given
+fn rest<E>(world: &World, side: Side, s: usize, made: Made) -> Given<E>
     ensures { RestsAs world.now side s made result }
 {
     if world.enabled(&receipt(side, s)) {
@@ -246,6 +283,31 @@ fn newest_copy(world: &World, alloc: Global, side: Side, s: usize) -> Result<Mes
     match world.newest(s, side) {
         None => Err(AllocError),
         Some(message) => message.copy(alloc),
+    }
+}
+
+// Bytes were received over an end of the present session.
+fn tell_at<L: RunName, E: Link>(
+    run: &mut Run<L, E>,
+    alloc: Global,
+    seat: &mut Seat<L>,
+    side: Side,
+    s: usize,
+    bytes: &[u8],
+    end: E,
+    k: u64,
+) -> Told<E>
+    requires seat { WorksAt (switches L.start) seat.old.worker side s }
+    requires name { E.named end ≡ present_name (switches L.start) s run.old.held.journal }
+    requires stream { TellsWhereKnown (E.received end) k bytes.now }
+    ensures seat { IsUnmoved seat.old.worker seat.new.worker seat.old.share.parts seat.new.share.parts }
+    ensures answer { TellsNow seat.old.worker side s bytes.now k end run.old run.new result }
+    ensures back { GivesBack end result }
+{
+    if run.world().is_front(s, side, bytes) {
+        receive_at(run, alloc, seat, side, s, end)
+    } else {
+        refuse_at(run, alloc, seat, side, s, bytes, end, k)
     }
 }
 
@@ -295,7 +357,7 @@ fn refuse_at<L: RunName, E: Link>(
     k: u64,
 ) -> Told<E>
     requires seat { WorksAt (switches L.start) seat.old.worker side s }
-    requires name { E.named end ≡ s }
+    requires name { E.named end ≡ present_name (switches L.start) s run.old.held.journal }
     requires stream { TellsWhereKnown (E.received end) k bytes.now }
     ensures seat { IsUnmoved seat.old.worker seat.new.worker seat.old.share.parts seat.new.share.parts }
     ensures answer { TurnsAway seat.old.worker side s bytes.now k end run.old run.new result }
@@ -315,7 +377,7 @@ fn refuse_at<L: RunName, E: Link>(
     }
 }
 
-// The end failed.
+// The end of the present session failed.
 fn lose_at<L: RunName, E: Link>(
     run: &mut Run<L, E>,
     alloc: Global,
@@ -325,27 +387,55 @@ fn lose_at<L: RunName, E: Link>(
     end: E,
 ) -> Told<E>
     requires seat { WorksAt (switches L.start) seat.old.worker side s }
-    requires name { E.named end ≡ s }
+    requires name { E.named end ≡ present_name (switches L.start) s run.old.held.journal }
     requires failed { 0 < E.faults end }
     ensures seat { IsUnmoved seat.old.worker seat.new.worker seat.old.share.parts seat.new.share.parts }
-    ensures answer { Loses seat.old.worker s end run.old run.new result }
+    ensures answer { LosesNow seat.old.worker s end run.old run.new result }
     ensures back { GivesBack end result }
 {
     match run.cut(alloc, seat, Event::Lost(s), end) {
-        Ok(()) => Told::Kept,
+        Ok(()) => {
+            run.drop_waiting(s);
+            Told::Kept
+        }
         Err(CutFault::NotEnabled(end)) => Told::Back { end, made: None },
         Err(CutFault::Memory(end)) => Told::Memory(end),
     }
 }
 
-// How many messages were told at this side of a switch.
+// How many messages were told at this side of a switch in its present session.
 fn told_count(journal: &[Entry], side: Side, s: usize) -> usize
     ensures { result ≡ told_before s side journal.now }
 {
-    journal
-        .iter()
-        .filter(|entry| is_told(&entry.event, side, s))
-        .count()
+    let mut count = 0;
+    for entry in journal {
+        count = told_on(count, &entry.event, side, s);
+    }
+    count
+}
+
+// The same behind one event more.
+fn told_on(count: usize, event: &Event, side: Side, s: usize) -> usize
+    requires { count + 1 < 2 ^ 64 }
+    ensures { result ≡ told_on s side event.now count }
+{
+    if is_return(event, s) {
+        0
+    } else if is_told(event, side, s) {
+        count + 1
+    } else {
+        count
+    }
+}
+
+// Whether a switch returns by an event.
+fn is_return(event: &Event, s: usize) -> bool
+    ensures { result ≡ is_return s event.now }
+{
+    match event {
+        Event::Rejoin(place) => *place == s,
+        _ => false,
+    }
 }
 
 // Whether an event tells a message at this side of a switch.

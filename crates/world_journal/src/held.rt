@@ -39,7 +39,7 @@ impl<L: RunName, E: Link> Model for Held<L, E> {
 pub enum CutFault<E: Link> {
     /// It cannot happen now.
     NotEnabled(E),
-    /// Want of memory.
+    /// Out of memory.
     Memory(E),
 }
 
@@ -101,7 +101,7 @@ impl<L: RunName, E: Link> Held<L, E> {
         end: E,
     ) -> Result<(), CutFault<E>>
         requires maker { MayMake (switches L.start) seat.old.worker event }
-        requires met { MetBy E.named E.faults E.received self.old.journal event end }
+        requires met { MetBy (switches L.start) E.named E.faults E.received self.old.journal event end }
         ensures world { OnOk result (Step self.old.world event self.new.world) }
         ensures refused { IfErr result (λ e. Refuses (¬ IsEnabled self.old.world event) e) }
         ensures journal { OnOk result (self.new.journal ≡ self.old.journal ++ entry seat.old.worker event ∷ []) }

@@ -11,6 +11,8 @@ mod name;
 mod run;
 mod run_desk;
 mod seat;
+mod sessions;
+mod updates;
 
 pub use entry::Entry;
 pub use held::{CutFault, Held};
@@ -21,4 +23,5 @@ pub use name::RunName;
 pub use run::{Run, RunFault};
 pub use run_desk::RunDesk;
 pub use seat::Seat;
+pub use updates::{Absence, Update};
 pub use worker_desk::Desk;

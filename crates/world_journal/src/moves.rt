@@ -1,11 +1,10 @@
-// What the caller and the workers that bring packets in ask of a run.
+// What the workers that bring packets in ask of a run.
 ghost use Rattle.std.specs.Prelude.{◌≡◌, ℕ, IfOk, IfSome, IfNone, OnErr};
-ghost use Rattle.world_core.specs.declared.event.Event.{Event as EventValue};
 ghost use Rattle.world_core.specs.declared.event.Event.TheVariants as event;
 ghost use Rattle.world_core.specs.Steps.{IsEnabled};
 ghost use Rattle.world_journal.specs.Journals.{switches};
-ghost use Rattle.world_journal.specs.Makers.{IsCaller, IsTraffic};
-ghost use Rattle.world_journal.specs.Moves.{ComesIn, HopsOn, IsUpdate, Updates};
+ghost use Rattle.world_journal.specs.Makers.{IsTraffic};
+ghost use Rattle.world_journal.specs.Moves.{ComesIn, HopsOn};
 ghost use Rattle.world_journal.specs.Calls.{IsUnmoved};
 
 use crate::name::RunName;
@@ -27,8 +26,8 @@ pub enum Did {
 }
 
 impl<L: RunName, E: Link> Run<L, E> {
-    /// Lets the packet at a place of the lines come in. There is no more to do at a place behind the last one, or
-    /// where the run was closed.
+    /// Lets the packet at a place of the lines come in. There is no more to do at a place after the last one, or
+    /// if the run was closed.
     pub fn come_in(
         &mut self,
         alloc: Global,
@@ -54,7 +53,7 @@ impl<L: RunName, E: Link> Run<L, E> {
         }
     }
 
-    /// Lets the first copy that may take another hop take it. There is no more to do where the run was closed.
+    /// Lets the first copy that may take another hop take it. There is no more to do if the run was closed.
     pub fn hop_on(&mut self, alloc: Global, seat: &mut Seat<L>) -> Result<Did, AllocError>
         requires { IsTraffic (switches L.start) seat.old.worker }
         ensures seat { IsUnmoved seat.old.worker seat.new.worker seat.old.share.parts seat.new.share.parts }
@@ -73,27 +72,6 @@ impl<L: RunName, E: Link> Run<L, E> {
             Err(StepFault::Memory) => Err(AllocError),
         }
     }
-
-    /// Begins the next update, or reports what became of the drain: that no copy carries the old stamp any more, or
-    /// that one with it can go no further. There is no more to do where the run was closed or is over.
-    pub fn update(&mut self, alloc: Global, seat: &mut Seat<L>) -> Result<Did, AllocError>
-        requires { IsCaller seat.old.worker }
-        ensures seat { IsUnmoved seat.old.worker seat.new.worker seat.old.share.parts seat.new.share.parts }
-        ensures answer { IfOk result (Updates seat.old.worker L.lines self.old self.new) }
-        ensures memory { OnErr result (self.new ≡ self.old) }
-    {
-        if self.is_closed() || self.is_over() {
-            return Ok(Did::Stop);
-        }
-        let Some(event) = next_update(self.world()) else {
-            return Ok(Did::Nothing);
-        };
-        match self.step(alloc, seat, event) {
-            Ok(()) => Ok(Did::Step),
-            Err(StepFault::NotEnabled) => Ok(Did::Nothing),
-            Err(StepFault::Memory) => Err(AllocError),
-        }
-    }
 }
 
 // The first copy that may take another hop.
@@ -107,34 +85,4 @@ fn first_hop(world: &World) -> Option<usize>
         }
     }
     None
-}
-
-// The first copy that bars the drain and can go no further.
-fn first_stuck(world: &World) -> Option<usize>
-    ensures some { IfSome result (λ place. IsEnabled world.now (event.Stuck place)) }
-    ensures none { IfNone result ((k : ℕ) → ¬ IsEnabled world.now (event.Stuck k)) }
-{
-    for place in 0..world.flights().len() {
-        if world.enabled(&Event::Stuck(place)) {
-            return Some(place);
-        }
-    }
-    None
-}
-
-// What the caller may do now.
-fn next_update(world: &World) -> Option<Event>
-    ensures update { IfSome result IsUpdate }
-    ensures some { IfSome result (λ e. IsEnabled world.now e) }
-    ensures none { IfNone result ((e : EventValue) → IsUpdate e → ¬ IsEnabled world.now e) }
-{
-    if world.enabled(&Event::Begin) {
-        return Some(Event::Begin);
-    }
-    let stamp = world.coordinator().draining()?;
-    if world.enabled(&Event::Drained(stamp)) {
-        return Some(Event::Drained(stamp));
-    }
-    let place = first_stuck(world)?;
-    Some(Event::Stuck(place))
 }

@@ -1,5 +1,5 @@
 // What lies under the one lock of a run.
-ghost use Rattle.std.specs.Prelude.{◌≡◌, ◌↔◌, IsTrue, true};
+ghost use Rattle.std.specs.Prelude.{◌≡◌, ◌↔◌, IfOk, IsTrue, None, replicate, true};
 ghost use Rattle.world_core.specs.Worlds.{WorldValue};
 ghost use Rattle.world_journal.specs.Arriving.{AreSpent, last_phase};
 
@@ -9,7 +9,7 @@ use crate::line::Line;
 use crate::name::RunName;
 use crate::seat::Seat;
 use outside_net::Link;
-use std::alloc::Global;
+use std::alloc::{AllocError, Global};
 use std::marker::Model;
 use std::sync::ledger::Share;
 use update_coordinator::{Phase, Side};
@@ -20,15 +20,18 @@ use world_core::{Event, StepFault, World};
 pub enum RunFault {
     /// A thread could not be made.
     NoThread,
-    /// Want of memory.
+    /// A pair of ends could not be made.
+    NetFault,
+    /// Out of memory.
     Memory,
 }
 
 /// A journal with its world; which of the packets that `L` names have come in, each once; whether the run was closed;
-/// and the seats that were laid back.
+/// and the seats that were laid back. Of each switch it has the number of its present session, and the new ends that
+/// are laid out for its workers.
 #[derive(Drop)]
 pub struct Run<L: RunName, E: Link> {
-    held: Held<L, E>,
+    pub(crate) held: Held<L, E>,
     lines: Vec<Line>,
     arrived: Vec<bool>,
     left: usize,
@@ -36,15 +39,18 @@ pub struct Run<L: RunName, E: Link> {
     laid: Share<L>,
     back: u64,
     all: u64,
-    to_waits: Vec<bool>,
-    back_waits: Vec<bool>,
+    pub(crate) to_waits: Vec<bool>,
+    pub(crate) back_waits: Vec<bool>,
+    pub(crate) sessions: Vec<u32>,
+    pub(crate) to_ends: Vec<Option<E>>,
+    pub(crate) back_ends: Vec<Option<E>>,
 }
 
 impl<L: RunName, E: Link> Model for Run<L, E> {
     ghost use Rattle.std.specs.Prelude.{◌≡◌, length};
     ghost use Rattle.world_journal.specs.Arriving.{HaveArrived, unmarked};
     ghost use Rattle.world_journal.specs.Journals.{switches};
-    ghost use Rattle.world_journal.specs.Runs.{RunValue};
+    ghost use Rattle.world_journal.specs.Runs.{HasSessions, RunValue};
     ghost use Rattle.nk_syntax.specs.contracts.pol.Pol as pols;
     ghost use Rattle.std.specs.Coded.{codes};
 
@@ -53,18 +59,18 @@ impl<L: RunName, E: Link> Model for Run<L, E> {
     // a policy holds itself, so its code is named
     ghost coded = { Prim.hlevel (codes, pols.the_row.coded) };
 
-    ghost view = { λ r. record { held = r.held; arrived = r.arrived.items; closed = r.closed; back = r.back; to_waits = r.to_waits.items; back_waits = r.back_waits.items } };
+    ghost view = { λ r. record { held = r.held; arrived = r.arrived.items; closed = r.closed; back = r.back; to_waits = r.to_waits.items; back_waits = r.back_waits.items; to_ends = r.to_ends.items; back_ends = r.back_ends.items } };
 
-    ghost invariant = { λ r. (r.lines.items ≡ L.lines) × HaveArrived L.lines r.arrived.items r.held.world.arrivals × (r.left ≡ unmarked r.arrived.items) × (r.laid.parts ≡ r.back) × (r.all ≡ L.all) × (length r.to_waits.items ≡ switches L.start) × (length r.back_waits.items ≡ switches L.start) };
+    ghost invariant = { λ r. (r.lines.items ≡ L.lines) × HaveArrived L.lines r.arrived.items r.held.world.arrivals × (r.left ≡ unmarked r.arrived.items) × (r.laid.parts ≡ r.back) × (r.all ≡ L.all) × (length r.to_waits.items ≡ switches L.start) × (length r.back_waits.items ≡ switches L.start) × HasSessions (switches L.start) E.named E.received r.held.journal r.sessions.items r.to_ends.items r.back_ends.items };
 }
 
 impl<L: RunName, E: Link> Run<L, E> {
-    ghost use Rattle.std.specs.Prelude.{◌<◌, ◌+◌, ◌++◌, ◌∷◌, [], false, true, OnOk, OnErr, Err, IfErr, IfOk, IfSome, ◌⊎◌, replicate, length, Some, slice_get, slice_set};
+    ghost use Rattle.std.specs.Prelude.{◌<◌, ◌+◌, ◌++◌, ◌∷◌, [], false, true, OnOk, OnErr, Err, IfErr, IfOk, IfSome, ◌⊎◌, replicate, length, None, Some, slice_get, slice_set};
     ghost use Rattle.nk_values.specs.declared.packet.Packet.{Packet as PacketValue};
     ghost use Rattle.world_core.specs.Steps.{Step, IsEnabled};
     ghost use Rattle.world_core.specs.declared.event.Event.TheVariants as event;
     ghost use Rattle.world_core.specs.declared.fault.StepFault.TheVariants as faults;
-    ghost use Rattle.world_journal.specs.Makers.{MayMake, IsTraffic, is_cut};
+    ghost use Rattle.world_journal.specs.Makers.{MayMake, IsTraffic, is_cut, is_rejoin};
     ghost use Rattle.world_journal.specs.Journals.{switches, entry, MetBy};
     ghost use Rattle.world_journal.specs.Cuts.{HandsBack, Refuses};
     ghost use Rattle.world_journal.specs.Arriving.{IsOver, is_arrival};
@@ -79,7 +85,7 @@ impl<L: RunName, E: Link> Run<L, E> {
         lines: Vec<Line>,
         all: u64,
     ) -> Option<Run<L, E>>
-        requires arrivals { held.world.arrivals ≡ [] }
+        requires begins { (held.world.arrivals ≡ []) × (held.journal ≡ []) }
         requires lines { lines.items ≡ L.lines }
         requires all { all ≡ L.all }
         ensures held { IfSome result (λ r. r.held ≡ held) }
@@ -99,6 +105,15 @@ impl<L: RunName, E: Link> Run<L, E> {
         let Ok(back_waits) = vec![in alloc; true; count] else {
             return None;
         };
+        let Ok(sessions) = vec![in alloc; 0; count] else {
+            return None;
+        };
+        let Ok(to_ends) = no_ends(alloc, count) else {
+            return None;
+        };
+        let Ok(back_ends) = no_ends(alloc, count) else {
+            return None;
+        };
         Some(Run {
             held,
             lines,
@@ -110,13 +125,16 @@ impl<L: RunName, E: Link> Run<L, E> {
             all,
             to_waits,
             back_waits,
+            sessions,
+            to_ends,
+            back_ends,
         })
     }
 
-    /// Makes a step, but for arrivals and for what ends a session.
+    /// Makes a step, but for arrivals and for what begins or ends a session.
     pub fn step(&mut self, alloc: Global, seat: &mut Seat<L>, event: Event) -> Result<(), StepFault>
         requires maker { MayMake (switches L.start) seat.old.worker event }
-        requires plain { (is_cut event ≡ false) × (is_arrival event ≡ false) }
+        requires plain { (is_cut event ≡ false) × (is_arrival event ≡ false) × (is_rejoin event ≡ false) }
         ensures made { OnOk result (Made seat.old.worker event self.old self.new) }
         ensures refused { result ≡ Err faults.NotEnabled → ¬ IsEnabled self.old.held.world event }
         ensures seat { (seat.new.worker ≡ seat.old.worker) × (seat.new.share.parts ≡ seat.old.share.parts) }
@@ -135,7 +153,7 @@ impl<L: RunName, E: Link> Run<L, E> {
         end: E,
     ) -> Result<(), CutFault<E>>
         requires maker { MayMake (switches L.start) seat.old.worker event }
-        requires met { MetBy E.named E.faults E.received self.old.held.journal event end }
+        requires met { MetBy (switches L.start) E.named E.faults E.received self.old.held.journal event end }
         ensures made { OnOk result (Cuts seat.old.worker event end self.old self.new) }
         ensures refused { IfErr result (λ e. Refuses (¬ IsEnabled self.old.held.world event) e) }
         ensures seat { (seat.new.worker ≡ seat.old.worker) × (seat.new.share.parts ≡ seat.old.share.parts) }
@@ -222,17 +240,20 @@ impl<L: RunName, E: Link> Run<L, E> {
         }
     }
 
-    /// Whether the worker at this side of a switch is to stop.
-    pub fn stops(&self, side: Side, s: usize) -> bool
-        ensures { IsTrue result ↔ Stops self.now side s }
+    /// Whether the workers of a switch are to stop. One that is there again late is quiet by itself while its HELLO
+    /// waits, so both sides are asked.
+    pub fn stops(&self, s: usize) -> bool
+        ensures { IsTrue result ↔ Stops self.now s }
     {
         let world = self.held.world();
         self.closed
             || world.coordinator().halt().is_some()
-            || (is_last(world) && world.is_quiet(s, side))
+            || (is_last(world)
+                && world.is_quiet(s, Side::Controller)
+                && world.is_quiet(s, Side::Switch))
     }
 
-    /// Makes every worker stop: memory was wanting, or a thread.
+    /// Makes every worker stop: memory ran out, or a thread or a pair could not be made.
     pub fn close(&mut self)
         ensures { self.new ≡ record self.old { closed = true } }
     {
@@ -284,7 +305,7 @@ impl<L: RunName, E: Link> Run<L, E> {
         self.back == self.all && (self.closed || self.is_over())
     }
 
-    /// The journal, and the caller's seat with all parts again; nothing where the run was closed.
+    /// The journal, and the caller's seat with all parts again; nothing if the run was closed.
     pub fn finish(self) -> Result<(Held<L, E>, Seat<L>), RunFault>
         requires back { self.back ≡ L.all }
         requires all { (L.all ≡ L.parts) × (0 < L.all) }
@@ -306,6 +327,9 @@ impl<L: RunName, E: Link> Run<L, E> {
             all: _all,
             to_waits: _to_waits,
             back_waits: _back_waits,
+            sessions: _sessions,
+            to_ends: _to_ends,
+            back_ends: _back_ends,
         } = self;
         if closed {
             return Err(RunFault::Memory);
@@ -317,8 +341,19 @@ impl<L: RunName, E: Link> Run<L, E> {
     }
 }
 
-// Whether the last policy handles all packets.
-fn is_last(world: &World) -> bool
+// A place for a new end of each switch, and none there.
+fn no_ends<E: Link>(alloc: Global, count: usize) -> Result<Vec<Option<E>>, AllocError>
+    ensures { IfOk result (λ ends. ends.items ≡ replicate count None) }
+{
+    let mut ends = Vec::new(alloc);
+    for _made in 0..count {
+        ends.push(None)?;
+    }
+    Ok(ends)
+}
+
+/// Whether the last policy handles all packets.
+pub(crate) fn is_last(world: &World) -> bool
     ensures { IsTrue result ↔ (world.now.fleet.control.phase ≡ last_phase world.now) }
 {
     match world.coordinator().phase() {

@@ -1,16 +1,18 @@
 // The one lock of a run.
-ghost use Rattle.std.specs.Prelude.{◌≡◌, ◌<◌, None, IfOk, IfErr, length, true};
+ghost use Rattle.std.specs.Prelude.{◌≡◌, ◌<◌, ◌%◌, None, IfOk, IfErr, length, true};
 ghost use Rattle.world_journal.specs.Arriving.{IsOver};
 ghost use Rattle.world_journal.specs.Calls.{IsUnmoved, IsWorker, place_of};
 ghost use Rattle.world_journal.specs.Finishing.{CanFinish};
 ghost use Rattle.world_journal.specs.Journals.{switches};
 ghost use Rattle.world_journal.specs.Makers.{IsCaller, IsTraffic};
+ghost use Rattle.world_journal.specs.Runs.{IsNewPair};
 
 use crate::held::Held;
 use crate::moves::Did;
 use crate::name::RunName;
 use crate::run::{Run, RunFault};
 use crate::seat::Seat;
+use crate::updates::{Absence, Update};
 use outside_net::Link;
 use std::alloc::{AllocError, Global};
 use std::sync::{Arc, Condvar, Mutex, MutexGuard, Wait};
@@ -45,13 +47,15 @@ impl<R: Wait + Drop, L: RunName, E: Link> Desk for RunDesk<R, L, E> {
 
     ghost place = { λ s. place_of (switches L.start) s.worker };
 
+    ghost place_of = { λ name. name % switches L.start };
+
     ghost given = { λ s. None };
 
     ghost told = { λ s. None };
 
     ghost kept = { λ s. None };
 
-    fn give(&self, seat: &mut Seat<L>) -> Result<Given, AllocError> {
+    fn give(&self, seat: &mut Seat<L>) -> Result<Given<E>, AllocError> {
         let mut guard = self.run.lock(&self.rt);
         let given = match &mut *guard {
             None => Ok(Given::Stop),
@@ -92,13 +96,13 @@ impl<R: Wait + Drop, L: RunName, E: Link> Desk for RunDesk<R, L, E> {
         told
     }
 
-    fn shut(&self, seat: &mut Seat<L>) -> Shut {
-        let guard = self.run.lock(&self.rt);
-        let shut = match &*guard {
+    fn shut(&self, seat: &mut Seat<L>) -> Shut<E> {
+        let mut guard = self.run.lock(&self.rt);
+        let shut = match &mut *guard {
             None => Shut::Stop,
             Some(run) => run.shut(seat),
         };
-        if shut == Shut::Nothing {
+        if matches!(shut, Shut::Nothing) {
             self.wait(guard, self.bell(seat.worker()));
         }
         shut
@@ -151,22 +155,42 @@ impl<R: Wait + Drop, L: RunName, E: Link> RunDesk<R, L, E> {
         self.alloc
     }
 
-    /// Begins the next update, or reports what became of the drain.
-    pub fn update(&self, seat: &mut Seat<L>) -> Result<Did, AllocError>
+    /// Begins the next update, reports what became of the drain, or tells which switch is to return.
+    pub fn update(&self, seat: &mut Seat<L>) -> Result<Update, AllocError>
         requires { IsCaller seat.old.worker }
         ensures { IsUnmoved seat.old.worker seat.new.worker seat.old.share.parts seat.new.share.parts }
     {
         let mut guard = self.run.lock(&self.rt);
-        let did = match &mut *guard {
-            None => Ok(Did::Stop),
+        let update = match &mut *guard {
+            None => Ok(Update::Stop),
             Some(run) => run.update(self.alloc, seat),
         };
-        if did == Ok(Did::Nothing) {
+        if update == Ok(Update::Nothing) {
             self.wait(guard, &self.bells.others);
         } else {
             drop(guard);
             self.wake_all();
         }
+        update
+    }
+
+    /// Makes a switch return over a new pair.
+    pub fn rejoin(
+        &self,
+        seat: &mut Seat<L>,
+        absence: Absence,
+        pair: (E, E),
+    ) -> Result<Did, AllocError>
+        requires caller { IsCaller seat.old.worker }
+        requires named { (E.named pair.0 ≡ absence.name) × (E.named pair.1 ≡ absence.name) }
+        requires fresh { IsNewPair E.received pair }
+        ensures { IsUnmoved seat.old.worker seat.new.worker seat.old.share.parts seat.new.share.parts }
+    {
+        let did = match &mut *self.run.lock(&self.rt) {
+            None => Ok(Did::Stop),
+            Some(run) => run.rejoin(self.alloc, seat, absence, pair),
+        };
+        self.wake_all();
         did
     }
 
@@ -260,7 +284,7 @@ impl<R: Wait + Drop, L: RunName, E: Link> RunDesk<R, L, E> {
 }
 
 // Whether there was nothing to do.
-fn is_idle(given: &Result<Given, AllocError>) -> bool {
+fn is_idle<E>(given: &Result<Given<E>, AllocError>) -> bool {
     matches!(given, Ok(Given::Nothing { made: None }))
 }
 

@@ -2,6 +2,7 @@ use Rattle.std.proofs.Common.{◌≡◌, ◌<◌, ◌-◌, length, Some, false, 
 use Rattle.std.proofs.lemmas.Option.{slice_get_within, slice_get_read}
 use Rattle.world_journal.proofs.Marks.{arrived-more, left-less}
 use Rattle.world_journal.proofs.Staying.{arrival-line}
+use Rattle.world_journal.proofs.Returning.{sessions-step}
 use Rattle.world_journal.proofs.run.Run.arrive.Goals as goal
 
 pub overflow_sub-self : goal.overflow_sub-self
@@ -24,6 +25,7 @@ invariant_of-self-2 g c =
       c.self.invariant.4,
       c.self.invariant.5,
       c.self.invariant.6,
+      sessions-step _ _ _ c.self.inside.held.journal c.step.new.self.journal _ _ _ c.args.seat.now.worker _ c.self.invariant.7 c.in_ok-step.ensures.journal refl,
     )
 
 pub returns-clause-made : goal.returns-clause-made
@@ -39,5 +41,5 @@ returns-clause-made g c =
       journal = c.in_ok-step.ensures.journal;
       ends = c.in_ok-step.ensures.ends;
       arrived = refl;
-      rest = record { arrived = refl; closed = refl; back = refl; to_waits = refl; back_waits = refl };
+      rest = record { arrived = refl; closed = refl; back = refl; to_waits = refl; back_waits = refl; to_ends = refl; back_ends = refl };
     })

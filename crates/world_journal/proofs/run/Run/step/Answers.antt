@@ -1,5 +1,6 @@
 use Rattle.world_journal.proofs.Marks.{arrived-same}
 use Rattle.world_journal.proofs.Staying.{call-lines}
+use Rattle.world_journal.proofs.Returning.{sessions-call}
 use Rattle.world_journal.proofs.run.Run.step.Goals as goal
 
 pub invariant_of-self : goal.invariant_of-self
@@ -12,4 +13,5 @@ invariant_of-self g c = (
   c.self.invariant.4,
   c.self.invariant.5,
   c.self.invariant.6,
+  sessions-call _ _ _ c.self.inside.held c.step.new.self _ _ _ c.args.seat.now.worker c.args.event _ c.step.result c.self.invariant.7 c.step.ensures.journal c.step.ensures.err c.requires.plain.2,
 )

@@ -1,0 +1,13 @@
+use Rattle.std.proofs.Common.{◌≡◌}
+use Rattle.std.specs.Prelude.{List, IfSome, []}
+use Rattle.worker_post.specs.Sessions.{Follows, Session}
+use Rattle.worker_post.proofs.post.Post.work.Given as goal
+
+abbrev pub invariant-loop : goal.invariant-loop
+invariant-loop g l = record {
+  seated : g.D.Desk.seated l.seat;
+  place : g.D.Desk.place l.seat ≡ g.D.Desk.place l.initial.seat;
+  named : g.D.Desk.place_of (g.D.End.Link.named l.end) ≡ g.D.Desk.place l.initial.seat;
+  fresh : IfSome (g.D.End.Link.received l.end) (λ xs. xs ≡ []);
+  follows : (sessions : List (Session _)) × Follows g.D.End.Link.sent g.D.End.Link.received l.initial.end (g.D.Desk.given l.initial.seat) (g.D.Desk.told l.initial.seat) sessions l.end (g.D.Desk.given l.seat) (g.D.Desk.told l.seat);
+}

@@ -1,0 +1,5 @@
+pub mod Telling
+pub mod Working
+pub mod Works
+pub mod Sessions
+pub mod Turns

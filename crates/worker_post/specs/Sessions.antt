@@ -1,0 +1,37 @@
+-- What a worker does in one session after the other.
+use Rattle.std.specs.Prelude.{◌≡◌, ℕ, List, [], ◌∷◌, Option, Some, None, IfSome}
+use Rattle.openflow_wire.specs.declared.message.Message.{Message}
+use Rattle.worker_post.specs.Works.{IsEnd}
+
+-- an end of a pair of the switch at this place, over which nothing was received
+abbrev pub IsNew : {E : Type 0} → (ℕ → ℕ) → (E → ℕ) → (E → Option (List ℕ)) → ℕ → E → Type 0
+IsNew place_of named received place e = (place_of (named e) ≡ place) × IfSome (received e) (λ xs. xs ≡ [])
+
+-- the end that comes back, or else the one that was kept, if it is known
+abbrev pub last_of : {E : Type 0} → Option E → Option E → Option E
+last_of None kept = kept
+last_of (Some e) kept = Some e
+
+-- One session: what was given and told before it, its end at first, and at last, if that is known.
+pub record Session (E : Type 0) : Type 0 where
+  pub given : Option (List Message)
+  pub told : Option (List (List ℕ))
+  pub first : E
+  pub last : Option E
+
+-- A session carried the encodings of what was given in it, and told a beginning of what was received in it.
+abbrev pub IsServed : {E : Type 0} → (E → Option (List ℕ)) → (E → Option (List ℕ)) → Session E → Option (List Message) → Option (List (List ℕ)) → Type 0
+IsServed sent received x given told = IfSome x.last (λ e. IsEnd x.given x.told (sent x.first) (received x.first) given told (sent e) (received e))
+
+-- After these sessions, the newest in front, the next one begins over this end, with so much given and told. The first one began over `end`.
+abbrev pub Follows : {E : Type 0} → (E → Option (List ℕ)) → (E → Option (List ℕ)) → E → Option (List Message) → Option (List (List ℕ)) → List (Session E) → E → Option (List Message) → Option (List (List ℕ)) → Type 0
+Follows sent received end g0 t0 [] first given told = (first ≡ end) × (given ≡ g0) × (told ≡ t0)
+Follows sent received end g0 t0 (x ∷ xs) first given told = IsServed sent received x given told × Follows sent received end g0 t0 xs x.first x.given x.told
+
+-- A worker began over `end` and worked through sessions, of which the newest came to its end.
+pub record HasWorked {E : Type 0} (sent received : E → Option (List ℕ)) (end : E) (kept : Option E) (g0 : Option (List Message)) (t0 : Option (List (List ℕ))) (given : Option (List Message)) (told : Option (List (List ℕ))) (result : Option E) : Type 0 where
+  pub newest : Session E
+  pub earlier : List (Session E)
+  pub last : newest.last ≡ last_of result kept
+  pub served : IsServed sent received newest given told
+  pub follows : Follows sent received end g0 t0 earlier newest.first newest.given newest.told
