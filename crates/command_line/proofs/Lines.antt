@@ -88,15 +88,15 @@ more-words name x zs p e = stray name x p (first-none _ _ (first-none _ _ e))
 
 -- ---- the word of the program's first level
 
-turn-other : (w : Text) → bytes_eq (codes "rules") w ≡ false → bytes_eq (codes "trace") w ≡ false → bytes_eq (codes "simulate") w ≡ false → bytes_eq (codes "run") w ≡ false → bytes_eq (codes "generate") w ≡ false
+turn-other : (w : Text) → bytes_eq (codes "rules") w ≡ false → bytes_eq (codes "trace") w ≡ false → bytes_eq (codes "simulate") w ≡ false → bytes_eq (codes "equiv") w ≡ false → bytes_eq (codes "audit") w ≡ false → bytes_eq (codes "run") w ≡ false → bytes_eq (codes "generate") w ≡ false
     → bytes_eq w (45 ∷ 45 ∷ []) ≡ false → long_of w ≡ None → short_of w ≡ None → turn_fault (built form).top (names_of (built form)) (walk_from nothing_held) w ≡ stray_fault (built form).top
 unfolding clap_on_literals
-turn-other w a b c d f g h i = rw (a, b, c, d, f, g, h, i)
+turn-other w a b c q u d f g h i = rw (a, b, c, q, u, d, f, g, h, i)
 
-other-word : (n w : Text) (rest : List Text) → bytes_eq (codes "rules") w ≡ false → bytes_eq (codes "trace") w ≡ false → bytes_eq (codes "simulate") w ≡ false → bytes_eq (codes "run") w ≡ false → bytes_eq (codes "generate") w ≡ false → is_plain w ≡ true
+other-word : (n w : Text) (rest : List Text) → bytes_eq (codes "rules") w ≡ false → bytes_eq (codes "trace") w ≡ false → bytes_eq (codes "simulate") w ≡ false → bytes_eq (codes "equiv") w ≡ false → bytes_eq (codes "audit") w ≡ false → bytes_eq (codes "run") w ≡ false → bytes_eq (codes "generate") w ≡ false → is_plain w ≡ true
     → fault_of form (n ∷ w ∷ rest) ≡ [] → ⊥
 unfolding clap_on_literals
-other-word n w rest a b c d f p e = no-kinds _ _ (sym (turn-other w a b c d f (not-dashes w p) (not-long w p) (not-short w p)) ∙ first-none _ _ (first-none _ _ e))
+other-word n w rest a b c q u d f p e = no-kinds _ _ (sym (turn-other w a b c q u d f (not-dashes w p) (not-long w p) (not-short w p)) ∙ first-none _ _ (first-none _ _ e))
 
 -- what is refused behind the word of a subcommand
 behind : (n name x : Text) (zs : List Text) → (walked [] (names_of (built form)) (walk_from nothing_held) name).stopped ≡ Some (name, []) → fault_of form (n ∷ name ∷ x ∷ zs) ≡ [] → entered_fault (built form) (Some (name, x ∷ zs)) ≡ []
@@ -118,6 +118,16 @@ pub simulate-alone : (n : Text) (rest : List Text) → list_all is_plain rest �
 unfolding clap_on_literals
 simulate-alone n [] p e = refl
 simulate-alone n (x ∷ zs) p e = absurd (more-words (codes "simulate") x zs (and-first _ _ p) (behind n (codes "simulate") x zs refl e))
+
+pub equiv-alone : (n : Text) (rest : List Text) → list_all is_plain rest ≡ true → fault_of form (n ∷ codes "equiv" ∷ rest) ≡ [] → rest ≡ []
+unfolding clap_on_literals
+equiv-alone n [] p e = refl
+equiv-alone n (x ∷ zs) p e = absurd (more-words (codes "equiv") x zs (and-first _ _ p) (behind n (codes "equiv") x zs refl e))
+
+pub audit-alone : (n : Text) (rest : List Text) → list_all is_plain rest ≡ true → fault_of form (n ∷ codes "audit" ∷ rest) ≡ [] → rest ≡ []
+unfolding clap_on_literals
+audit-alone n [] p e = refl
+audit-alone n (x ∷ zs) p e = absurd (more-words (codes "audit") x zs (and-first _ _ p) (behind n (codes "audit") x zs refl e))
 
 pub run-alone : (n : Text) (rest : List Text) → list_all is_plain rest ≡ true → fault_of form (n ∷ codes "run" ∷ rest) ≡ [] → rest ≡ []
 unfolding clap_on_literals
@@ -164,6 +174,8 @@ pub data Taken (w : Text) (rest : List Text) : Type 0 where
   for_rules : w ≡ codes "rules" → rest ≡ [] → Taken w rest
   for_trace : w ≡ codes "trace" → rest ≡ [] → Taken w rest
   for_simulate : w ≡ codes "simulate" → rest ≡ [] → Taken w rest
+  for_equiv : w ≡ codes "equiv" → rest ≡ [] → Taken w rest
+  for_audit : w ≡ codes "audit" → rest ≡ [] → Taken w rest
   for_run : w ≡ codes "run" → rest ≡ [] → Taken w rest
   for_generate : (x : Text) → w ≡ codes "generate" → rest ≡ x ∷ [] → is_plain x ≡ true → Taken w rest
 
@@ -173,15 +185,17 @@ is-word a w e = sym ((bytes_eq-Decides a w).0 e)
 with-word : (n w a : Text) (rest : List Text) → w ≡ a → fault_of form (n ∷ w ∷ rest) ≡ [] → fault_of form (n ∷ a ∷ rest) ≡ []
 with-word n w a rest e f = subst (λ (v : Text). fault_of form (n ∷ v ∷ rest) ≡ []) e f
 
-taken-by : (n w : Text) (rest : List Text) (a b c d f : Bool) → bytes_eq (codes "rules") w ≡ a → bytes_eq (codes "trace") w ≡ b → bytes_eq (codes "simulate") w ≡ c → bytes_eq (codes "run") w ≡ d → bytes_eq (codes "generate") w ≡ f
+taken-by : (n w : Text) (rest : List Text) (a b c q u d f : Bool) → bytes_eq (codes "rules") w ≡ a → bytes_eq (codes "trace") w ≡ b → bytes_eq (codes "simulate") w ≡ c → bytes_eq (codes "equiv") w ≡ q → bytes_eq (codes "audit") w ≡ u → bytes_eq (codes "run") w ≡ d → bytes_eq (codes "generate") w ≡ f
     → is_plain w ≡ true → list_all is_plain rest ≡ true → fault_of form (n ∷ w ∷ rest) ≡ [] → Taken w rest
-taken-by n w rest true b c d f ea eb ec ed ef p q e = let is = is-word _ w ea in for_rules is (rules-alone n rest q (with-word n w _ rest is e))
-taken-by n w rest false true c d f ea eb ec ed ef p q e = let is = is-word _ w eb in for_trace is (trace-alone n rest q (with-word n w _ rest is e))
-taken-by n w rest false false true d f ea eb ec ed ef p q e = let is = is-word _ w ec in for_simulate is (simulate-alone n rest q (with-word n w _ rest is e))
-taken-by n w rest false false false true f ea eb ec ed ef p q e = let is = is-word _ w ed in for_run is (run-alone n rest q (with-word n w _ rest is e))
-taken-by n w rest false false false false true ea eb ec ed ef p q e = let is = is-word _ w ef in let h = number-alone n rest q (with-word n w _ rest is e) in for_generate h.0 is h.1 h.2
-taken-by n w rest false false false false false ea eb ec ed ef p q e = absurd (other-word n w rest ea eb ec ed ef p e)
+taken-by n w rest true b c q u d f ea eb ec eq eu ed ef p l e = let is = is-word _ w ea in for_rules is (rules-alone n rest l (with-word n w _ rest is e))
+taken-by n w rest false true c q u d f ea eb ec eq eu ed ef p l e = let is = is-word _ w eb in for_trace is (trace-alone n rest l (with-word n w _ rest is e))
+taken-by n w rest false false true q u d f ea eb ec eq eu ed ef p l e = let is = is-word _ w ec in for_simulate is (simulate-alone n rest l (with-word n w _ rest is e))
+taken-by n w rest false false false true u d f ea eb ec eq eu ed ef p l e = let is = is-word _ w eq in for_equiv is (equiv-alone n rest l (with-word n w _ rest is e))
+taken-by n w rest false false false false true d f ea eb ec eq eu ed ef p l e = let is = is-word _ w eu in for_audit is (audit-alone n rest l (with-word n w _ rest is e))
+taken-by n w rest false false false false false true f ea eb ec eq eu ed ef p l e = let is = is-word _ w ed in for_run is (run-alone n rest l (with-word n w _ rest is e))
+taken-by n w rest false false false false false false true ea eb ec eq eu ed ef p l e = let is = is-word _ w ef in let h = number-alone n rest l (with-word n w _ rest is e) in for_generate h.0 is h.1 h.2
+taken-by n w rest false false false false false false false ea eb ec eq eu ed ef p l e = absurd (other-word n w rest ea eb ec eq eu ed ef p e)
 
 -- Words that are taken are these.
 pub taken : (n w : Text) (rest : List Text) → list_all is_plain (w ∷ rest) ≡ true → fault_of form (n ∷ w ∷ rest) ≡ [] → Taken w rest
-taken n w rest p e = taken-by n w rest _ _ _ _ _ refl refl refl refl refl (and-first _ _ p) (and-second _ _ p) e
+taken n w rest p e = taken-by n w rest _ _ _ _ _ _ _ refl refl refl refl refl refl refl (and-first _ _ p) (and-second _ _ p) e

@@ -9,10 +9,10 @@ use Rattle.clap.specs.Simple.{subcommand_of}
 use Rattle.clap.proofs.OnLiterals.{clap_on_literals}
 use Rattle.netkat_parser.specs.Numbers.{at_most}
 use Rattle.command_line.specs.declared.command.Command.{Command}
-use Rattle.command_line.specs.declared.command.Command.TheVariants.{Rules, Trace, Simulate, Run, Generate}
+use Rattle.command_line.specs.declared.command.Command.TheVariants.{Rules, Trace, Simulate, Equiv, Audit, Run, Generate}
 use Rattle.command_line.specs.Commands.{is_plain, workload_number, Asks, IsCommandLine, IsPlain, OneCommand}
 use Rattle.command_line.specs.Form.{asked_by, form}
-use Rattle.command_line.proofs.Lines.{Taken, for_rules, for_trace, for_simulate, for_run, for_generate, taken, number-found, number-faultless}
+use Rattle.command_line.proofs.Lines.{Taken, for_rules, for_trace, for_simulate, for_equiv, for_audit, for_run, for_generate, taken, number-found, number-faultless}
 
 -- ---- numbers begin with a digit
 
@@ -45,6 +45,14 @@ faultless-simulate : (n : Text) → fault_of form (n ∷ codes "simulate" ∷ []
 unfolding clap_on_literals
 faultless-simulate n = refl
 
+faultless-equiv : (n : Text) → fault_of form (n ∷ codes "equiv" ∷ []) ≡ []
+unfolding clap_on_literals
+faultless-equiv n = refl
+
+faultless-audit : (n : Text) → fault_of form (n ∷ codes "audit" ∷ []) ≡ []
+unfolding clap_on_literals
+faultless-audit n = refl
+
 faultless-run : (n : Text) → fault_of form (n ∷ codes "run" ∷ []) ≡ []
 unfolding clap_on_literals
 faultless-run n = refl
@@ -61,6 +69,14 @@ found-simulate : (n : Text) → option_and_then asked_by (subcommand_of form (n 
 unfolding clap_on_literals
 found-simulate n = refl
 
+found-equiv : (n : Text) → option_and_then asked_by (subcommand_of form (n ∷ codes "equiv" ∷ [])) ≡ Some Equiv
+unfolding clap_on_literals
+found-equiv n = refl
+
+found-audit : (n : Text) → option_and_then asked_by (subcommand_of form (n ∷ codes "audit" ∷ [])) ≡ Some Audit
+unfolding clap_on_literals
+found-audit n = refl
+
 found-run : (n : Text) → option_and_then asked_by (subcommand_of form (n ∷ codes "run" ∷ [])) ≡ Some Run
 unfolding clap_on_literals
 found-run n = refl
@@ -70,6 +86,8 @@ pub faultless : (c : Command) (ws : List (String Global)) → Asks c ws → faul
 faultless Rules ws h = ap (fault_of form) h.1 ∙ faultless-rules h.0
 faultless Trace ws h = ap (fault_of form) h.1 ∙ faultless-trace h.0
 faultless Simulate ws h = ap (fault_of form) h.1 ∙ faultless-simulate h.0
+faultless Equiv ws h = ap (fault_of form) h.1 ∙ faultless-equiv h.0
+faultless Audit ws h = ap (fault_of form) h.1 ∙ faultless-audit h.0
 faultless Run ws h = ap (fault_of form) h.1 ∙ faultless-run h.0
 faultless (Generate n) ws h = ap (fault_of form) h.2 ∙ number-faultless h.0 h.1 (plain-number h.1 n h.3)
 
@@ -82,6 +100,8 @@ pub found : (c : Command) (ws : List (String Global)) → Asks c ws → option_a
 found Rules ws h = ap taken-for h.1 ∙ found-rules h.0
 found Trace ws h = ap taken-for h.1 ∙ found-trace h.0
 found Simulate ws h = ap taken-for h.1 ∙ found-simulate h.0
+found Equiv ws h = ap taken-for h.1 ∙ found-equiv h.0
+found Audit ws h = ap taken-for h.1 ∙ found-audit h.0
 found Run ws h = ap taken-for h.1 ∙ found-run h.0
 found (Generate n) ws h = ap taken-for h.2 ∙ number-found h.0 h.1 (plain-number h.1 n h.3) ∙ ap (option_map Generate) h.3
 
@@ -102,6 +122,8 @@ asks-taken : (ws : List (String Global)) (n w : Text) (rest : List Text) → map
 asks-taken ws n w rest e (for_rules is none) = asks-alone ws n w (codes "rules") rest Rules e is none (found-rules n) (λ f. (n, f))
 asks-taken ws n w rest e (for_trace is none) = asks-alone ws n w (codes "trace") rest Trace e is none (found-trace n) (λ f. (n, f))
 asks-taken ws n w rest e (for_simulate is none) = asks-alone ws n w (codes "simulate") rest Simulate e is none (found-simulate n) (λ f. (n, f))
+asks-taken ws n w rest e (for_equiv is none) = asks-alone ws n w (codes "equiv") rest Equiv e is none (found-equiv n) (λ f. (n, f))
+asks-taken ws n w rest e (for_audit is none) = asks-alone ws n w (codes "audit") rest Audit e is none (found-audit n) (λ f. (n, f))
 asks-taken ws n w rest e (for_run is none) = asks-alone ws n w (codes "run") rest Run e is none (found-run n) (λ f. (n, f))
 asks-taken ws n w rest e (for_generate x is one p) =
     let f : n ∷ w ∷ rest ≡ n ∷ codes "generate" ∷ x ∷ [] = ap₂ (λ a b. n ∷ a ∷ b) is one in
@@ -125,6 +147,8 @@ texts-plain : (c : Command) (ws : List (String Global)) → Asks c ws → list_a
 texts-plain Rules ws h = ap (λ (t : List Text). list_all is_plain (drop 1 t)) h.1
 texts-plain Trace ws h = ap (λ (t : List Text). list_all is_plain (drop 1 t)) h.1
 texts-plain Simulate ws h = ap (λ (t : List Text). list_all is_plain (drop 1 t)) h.1
+texts-plain Equiv ws h = ap (λ (t : List Text). list_all is_plain (drop 1 t)) h.1
+texts-plain Audit ws h = ap (λ (t : List Text). list_all is_plain (drop 1 t)) h.1
 texts-plain Run ws h = ap (λ (t : List Text). list_all is_plain (drop 1 t)) h.1
 texts-plain (Generate n) ws h = ap (λ (t : List Text). list_all is_plain (drop 1 t)) h.2 ∙ ap (λ (b : Bool). b && true) (plain-number h.1 n h.3)
 

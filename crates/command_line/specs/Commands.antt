@@ -3,7 +3,7 @@ use Rattle.std.specs.Prelude.{◌≡◌, ◌==◌, ℕ, Bool, true, not, nat_eq,
 use Rattle.std.specs.declared.alloc.Global.{Global}
 use Rattle.netkat_parser.specs.Numbers.{numeral, at_most}
 use Rattle.command_line.specs.declared.command.Command.{Command}
-use Rattle.command_line.specs.declared.command.Command.TheVariants.{Rules, Trace, Simulate, Run, Generate}
+use Rattle.command_line.specs.declared.command.Command.TheVariants.{Rules, Trace, Simulate, Equiv, Audit, Run, Generate}
 
 -- the word does not begin with a dash
 abbrev pub is_plain : List ℕ → Bool
@@ -30,6 +30,8 @@ abbrev pub Asks : Command → List (String Global) → Type 0
 Asks Rules = IsName (codes "rules")
 Asks Trace = IsName (codes "trace")
 Asks Simulate = IsName (codes "simulate")
+Asks Equiv = IsName (codes "equiv")
+Asks Audit = IsName (codes "audit")
 Asks Run = IsName (codes "run")
 Asks (Generate n) = IsNumbered n
 
@@ -42,6 +44,8 @@ abbrev pub IsReader : Command → Type 0
 IsReader Rules = Unit {0}
 IsReader Trace = Unit {0}
 IsReader Simulate = Unit {0}
+IsReader Equiv = Unit {0}
+IsReader Audit = Unit {0}
 IsReader Run = Unit {0}
 IsReader (Generate n) = ⊥
 

@@ -4,7 +4,7 @@ use Rattle.std.specs.Str.{bytes_eq}
 use Rattle.clap.specs.Walk.{Row, Rule, Text, first_of}
 use Rattle.clap.specs.Simple.{App, new_app, new_rule, new_shape, with_rule, with_subcommand}
 use Rattle.command_line.specs.declared.command.Command.{Command}
-use Rattle.command_line.specs.declared.command.Command.TheVariants.{Rules, Trace, Simulate, Run, Generate}
+use Rattle.command_line.specs.declared.command.Command.TheVariants.{Rules, Trace, Simulate, Equiv, Audit, Run, Generate}
 use Rattle.command_line.specs.Commands.{workload_number}
 
 -- the one positional
@@ -17,8 +17,8 @@ bare = record { top = record (new_shape (codes "nkctl")) { disable_help_flag = t
 
 -- the program with its subcommands
 abbrev pub form : App
-form = with_subcommand (with_subcommand (with_subcommand (with_subcommand (with_subcommand bare
-    (new_shape (codes "rules"))) (new_shape (codes "trace"))) (new_shape (codes "simulate"))) (new_shape (codes "run")))
+form = with_subcommand (with_subcommand (with_subcommand (with_subcommand (with_subcommand (with_subcommand (with_subcommand bare
+    (new_shape (codes "rules"))) (new_shape (codes "trace"))) (new_shape (codes "simulate"))) (new_shape (codes "equiv"))) (new_shape (codes "audit"))) (new_shape (codes "run")))
     ((with_rule (new_app (codes "generate")) number).top)
 
 -- what was asked for, by the subcommand that was met and what was found there
@@ -26,6 +26,8 @@ abbrev pub asked_by : Text × List Row → Option Command
 asked_by p = if bytes_eq p.0 (codes "rules") then Some Rules
     else (if bytes_eq p.0 (codes "trace") then Some Trace
     else (if bytes_eq p.0 (codes "simulate") then Some Simulate
+    else (if bytes_eq p.0 (codes "equiv") then Some Equiv
+    else (if bytes_eq p.0 (codes "audit") then Some Audit
     else (if bytes_eq p.0 (codes "run") then Some Run
     else (if bytes_eq p.0 (codes "generate") then option_and_then (λ t. option_map Generate (workload_number t)) (first_of (codes "number") p.1)
-    else None))))
+    else None))))))

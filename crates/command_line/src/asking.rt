@@ -19,6 +19,8 @@ pub fn form<'a>(alloc: Global) -> Result<Command<'a>, AllocError>
         .subcommand(Command::new(alloc, "rules"))?
         .subcommand(Command::new(alloc, "trace"))?
         .subcommand(Command::new(alloc, "simulate"))?
+        .subcommand(Command::new(alloc, "equiv"))?
+        .subcommand(Command::new(alloc, "audit"))?
         .subcommand(Command::new(alloc, "run"))?
         .subcommand(generate)
 }

@@ -9,6 +9,9 @@ pub enum Command {
     Trace,
     /// The updates and packets of the schedule.
     Simulate,
+    /// Whether the two policies mean the same.
+    Equiv,
+    Audit,
     /// A run of the policies, with a thread for each session and each switch.
     Run,
     /// The workload of a number from 1 to 1,000.

@@ -46,6 +46,8 @@ fn command_of(matches: &ArgMatches) -> Option<Command>
         "rules" => Some(Command::Rules),
         "trace" => Some(Command::Trace),
         "simulate" => Some(Command::Simulate),
+        "equiv" => Some(Command::Equiv),
+        "audit" => Some(Command::Audit),
         "run" => Some(Command::Run),
         "generate" => number_of(inner.get_str("number")?).map(Command::Generate),
         _ => None,

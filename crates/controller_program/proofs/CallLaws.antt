@@ -3,7 +3,7 @@ use Rattle.std.proofs.Common.{◌≡◌, ◌≢◌, ◌⊎◌, inl, inr, ℕ, Li
 use Rattle.std.specs.Io.KnownBytes.{Appends}
 use Rattle.outside_io.specs.Lists.{TakesAtMost, AppendsPrefix}
 use Rattle.command_line.specs.declared.command.Command.{Command}
-use Rattle.command_line.specs.declared.command.Command.TheVariants.{Rules, Trace, Simulate, Run, Generate}
+use Rattle.command_line.specs.declared.command.Command.TheVariants.{Rules, Trace, Simulate, Equiv, Audit, Run, Generate}
 use Rattle.command_line.specs.Commands.{Asks, IsReader}
 use Rattle.command_line.proofs.Words.{one_command_asked}
 use Rattle.value_text.specs.declared.fault.Fault.{Fault}
@@ -19,9 +19,10 @@ use Rattle.program_answer.specs.Called.{Called, HasRisen, IsSame, SourceSeen}
 use Rattle.program_answer.specs.Input.{IsAccepted, IsRefused}
 use Rattle.program_answer.specs.Statuses.{IsReport, status_of}
 use Rattle.program_answer.specs.Writing.{Says, SaysAnswer, IsUnsaid, whole, cut}
+use Rattle.equal_command.specs.Equiv.{IsComparable, IsEquivRefused}
 use Rattle.plain_commands.specs.Simulate.{IsSimulateRefused}
-use Rattle.controller_program.specs.Calls.{IsAnswered, IsCall, IsDue, IsLine, ReadsFrom}
-use Rattle.controller_program.specs.Commands.{IsAnswer, IsStop}
+use Rattle.controller_program.specs.Calls.{IsAnswered, IsCall, IsDue, IsLine}
+use Rattle.controller_program.specs.Commands.{Accepts, IsAnswer, IsStop}
 use Rattle.controller_program.specs.Told.{Answers, AnswersTo, by, none, memory}
 use Rattle.controller_program.proofs.Coming.{reports}
 
@@ -34,7 +35,7 @@ record IsMeant (Takes : Command → Type 0) (c : Called) (s : Status) (text : Li
   reads : s ≢ status.ReadFault → IsSame c.source.faults
   no_command : ¬ (IsLine Takes c.words) → s ≡ status.Usage
   complete : (k : Command) → Takes k → Asks k c.words → ((f : Fault) → ¬ (IsStop k c f)) → (s ≡ status.Done) ⊎ (s ≡ status.Halted)
-  refuses : ReadsFrom Takes c.words → ¬ (HasRisen c.source.faults) → IfSome c.source.left.before (λ xs. ¬ (IsAccepted xs) → s ≡ status.Refused)
+  refuses : (k : Command) → Takes k → IsReader k → Asks k c.words → ¬ (HasRisen c.source.faults) → IfSome c.source.left.before (λ xs. ¬ (Accepts k xs) → s ≡ status.Refused)
 
 if-known : (left : Option (List ℕ)) (P : List ℕ → Type 0) → ((xs : List ℕ) → P xs) → IfSome left P
 if-known None P p = tt
@@ -46,10 +47,12 @@ known-more P Q (Some xs) f h = f xs h
 
 -- ---- reports
 
-accepted-by : (k : Command) (c : Called) (s : Status) (text : List ℕ) → IsReader k → IsAnswer k c s text → IfSome c.source.left.before IsAccepted
+accepted-by : (k : Command) (c : Called) (s : Status) (text : List ℕ) → IsReader k → IsAnswer k c s text → IfSome c.source.left.before (Accepts k)
 accepted-by Rules c s text i a = known-more _ _ c.source.left.before (λ xs r. record { document = r.document; versions = r.versions; is = r.accepted }) a.read.bytes
 accepted-by Trace c s text i a = known-more _ _ c.source.left.before (λ xs r. record { document = r.document; versions = r.versions; is = r.accepted }) a.read.bytes
 accepted-by Simulate c s text i a = known-more _ _ c.source.left.before (λ xs r. record { document = r.document; versions = r.versions; is = r.accepted }) a.read.bytes
+accepted-by Equiv c s text i a = known-more _ _ c.source.left.before (λ xs r. record { document = r.document; read = r.read; first = r.compared.first; second = r.compared.second; two = r.compared.two; meant = r.compared.meant }) a.read.bytes
+accepted-by Audit c s text i a = known-more _ _ c.source.left.before (λ xs r. record { document = r.document; versions = r.versions; is = r.accepted }) a.read.bytes
 accepted-by Run c s text i a = known-more _ _ c.source.left.before (λ xs r. record { document = r.document; versions = r.versions; is = r.accepted }) a.read.bytes
 accepted-by (Generate n) c s text i a = absurd i
 
@@ -57,12 +60,14 @@ faultless-by : (k : Command) (c : Called) (s : Status) (text : List ℕ) → (¬
 faultless-by Rules c s text other a = a.read.faultless
 faultless-by Trace c s text other a = a.read.faultless
 faultless-by Simulate c s text other a = a.read.faultless
+faultless-by Equiv c s text other a = a.read.faultless
+faultless-by Audit c s text other a = a.read.faultless
 faultless-by Run c s text other a = a.read.faultless
 faultless-by (Generate n) c s text other a = other (λ i. i)
 
--- the words of a command that reads ask for the one that was asked for
-reads-it : (Takes : Command → Type 0) (c : Called) (k : Command) → Asks k c.words → ReadsFrom Takes c.words → IsReader k
-reads-it Takes c k asks r = subst IsReader (one_command_asked r.0 k c.words r.3 asks) r.2
+-- words ask for one command
+one-command : (k j : Command) (c : Called) (P : Command → Type 0) → Asks k c.words → Asks j c.words → P k → P j
+one-command k j c P asks asks' p = subst P (one_command_asked k j c.words asks asks') p
 
 is-done : (Takes : Command → Type 0) (c : Called) (s : Status) (text : List ℕ) → IsReport s → IsAnswered Takes c s text → IsDue Takes c s text
 is-done Takes c status.Done text i a = a
@@ -73,6 +78,7 @@ is-done Takes c status.ReadFault text i a = absurd i
 is-done Takes c status.WriteFault text i a = absurd i
 is-done Takes c status.NetFault text i a = absurd i
 is-done Takes c status.NoThread text i a = absurd i
+is-done Takes c status.ReportFault text i a = absurd i
 is-done Takes c status.Memory text i a = absurd i
 
 either : (s : Status) → IsReport s → (s ≡ status.Done) ⊎ (s ≡ status.Halted)
@@ -84,6 +90,7 @@ either status.ReadFault i = absurd i
 either status.WriteFault i = absurd i
 either status.NetFault i = absurd i
 either status.NoThread i = absurd i
+either status.ReportFault i = absurd i
 either status.Memory i = absurd i
 
 written-report : (s : Status) → IsReport s → s ≢ status.WriteFault
@@ -97,7 +104,8 @@ report-meant Takes c k s text takes asks other a =
       reads = λ _. faultless-by k c s text other a;
       no_command = λ n. absurd (n (k, takes, asks));
       complete = λ j t asks' free. either s i;
-      refuses = λ r still. known-more _ _ c.source.left.before (λ xs accepted n. absurd (n accepted)) (accepted-by k c s text (reads-it Takes c k asks r) a);
+      refuses = λ j t reads asks' still. known-more _ _ c.source.left.before (λ xs accepted n. absurd (n accepted))
+          (accepted-by j c s text reads (one-command k j c (λ l. IsAnswer l c s text) asks asks' a));
     }
 
 -- ---- faults
@@ -105,11 +113,13 @@ report-meant Takes c k s text takes asks other a =
 stop-due : (Takes : Command → Type 0) (c : Called) (k : Command) (f : Fault) → Takes k → Asks k c.words → IsStop k c f → f ≢ fault.Usage → IsDue Takes c (status_of f) (fault_text f)
 stop-due Takes c k (fault.Line line column f) takes asks stop u = record { fault = fault.Line line column f; refused = refl; stopped = record { command = k; takes = takes; asks = asks; stop = stop; line = refl } }
 stop-due Takes c k (fault.NotEnabled line) takes asks stop u = record { fault = fault.NotEnabled line; refused = refl; stopped = record { command = k; takes = takes; asks = asks; stop = stop; line = refl } }
+stop-due Takes c k (fault.NotTwo line) takes asks stop u = record { fault = fault.NotTwo line; refused = refl; stopped = record { command = k; takes = takes; asks = asks; stop = stop; line = refl } }
 stop-due Takes c k (fault.Compile policy f) takes asks stop u = record { fault = fault.Compile policy f; refused = refl; stopped = record { command = k; takes = takes; asks = asks; stop = stop; line = refl } }
 stop-due Takes c k (fault.Emit policy f) takes asks stop u = record { fault = fault.Emit policy f; refused = refl; stopped = record { command = k; takes = takes; asks = asks; stop = stop; line = refl } }
 stop-due Takes c k fault.Read takes asks stop u = record { command = k; takes = takes; asks = asks; stop = stop; line = refl }
 stop-due Takes c k fault.Net takes asks stop u = record { command = k; takes = takes; asks = asks; stop = stop; line = refl }
 stop-due Takes c k fault.NoThread takes asks stop u = record { command = k; takes = takes; asks = asks; stop = stop; line = refl }
+stop-due Takes c k fault.Report takes asks stop u = record { command = k; takes = takes; asks = asks; stop = stop; line = refl }
 stop-due Takes c k fault.Usage takes asks stop u = absurd (u refl)
 
 -- no command stops for its words
@@ -117,6 +127,8 @@ no-usage : (k : Command) (c : Called) → IsStop k c fault.Usage → ⊥
 no-usage Rules c stop = stop
 no-usage Trace c stop = stop
 no-usage Simulate c stop = stop
+no-usage Equiv c stop = stop
+no-usage Audit c stop = stop
 no-usage Run c stop = stop
 no-usage (Generate n) c stop = stop
 
@@ -126,60 +138,74 @@ not-usage k c f stop e = no-usage k c (subst (λ (g : Fault). IsStop k c g) e st
 written-fault : (f : Fault) → status_of f ≢ status.WriteFault
 written-fault (fault.Line line column f) e = absurd (cc)
 written-fault (fault.NotEnabled line) e = absurd (cc)
+written-fault (fault.NotTwo line) e = absurd (cc)
 written-fault (fault.Compile policy f) e = absurd (cc)
 written-fault (fault.Emit policy f) e = absurd (cc)
 written-fault fault.Read e = absurd (cc)
 written-fault fault.Net e = absurd (cc)
 written-fault fault.NoThread e = absurd (cc)
+written-fault fault.Report e = absurd (cc)
 written-fault fault.Usage e = absurd (cc)
 
 -- a fault of the document, or one behind an accepted document, came without a failed read
 by-source : (P : List ℕ → Fault → Type 0) (s : SourceSeen) (f : Fault) → StopsBy P s f → status_of f ≢ status.ReadFault → IsSame s.faults
 by-source P s (fault.Line line column f) h n = h.faultless
 by-source P s (fault.NotEnabled line) h n = h.faultless
+by-source P s (fault.NotTwo line) h n = h.faultless
 by-source P s (fault.Compile policy f) h n = h.faultless
 by-source P s (fault.Emit policy f) h n = h.faultless
 by-source P s fault.Read h n = absurd (n refl)
 by-source P s fault.Net h n = absurd h
 by-source P s fault.NoThread h n = absurd h
+by-source P s fault.Report h n = absurd h
 by-source P s fault.Usage h n = absurd h
 
 stop-reads : (k : Command) (c : Called) (f : Fault) → IsStop k c f → status_of f ≢ status.ReadFault → IsSame c.source.faults
 stop-reads Rules c f h n = by-source IsRefused c.source f h n
 stop-reads Trace c f h n = by-source IsRefused c.source f h n
 stop-reads Simulate c f h n = by-source IsSimulateRefused c.source f h n
+stop-reads Equiv c f h n = by-source IsEquivRefused c.source f h n
+stop-reads Audit c f h n = by-source IsSimulateRefused c.source f h n
 stop-reads Run c (fault.Line line column f) h n = h.faultless
 stop-reads Run c (fault.NotEnabled line) h n = h.faultless
+stop-reads Run c (fault.NotTwo line) h n = h.faultless
 stop-reads Run c (fault.Compile policy f) h n = h.faultless
 stop-reads Run c (fault.Emit policy f) h n = h.faultless
 stop-reads Run c fault.Read h n = absurd (n refl)
 stop-reads Run c fault.Net h n = h.read.faultless
 stop-reads Run c fault.NoThread h n = h.read.faultless
+stop-reads Run c fault.Report h n = absurd h
 stop-reads Run c fault.Usage h n = absurd h
 stop-reads (Generate n) c f h m = absurd h
 
 -- what is not accepted is refused
-refused-source : (P : List ℕ → Fault → Type 0) (s : SourceSeen) (f : Fault) → StopsBy P s f → ¬ (HasRisen s.faults) → IfSome s.left.before (λ xs. ¬ (IsAccepted xs) → status_of f ≡ status.Refused)
-refused-source P s (fault.Line line column f) h still = if-known s.left.before _ (λ xs n. refl)
-refused-source P s (fault.NotEnabled line) h still = if-known s.left.before _ (λ xs n. refl)
-refused-source P s (fault.Compile policy f) h still = if-known s.left.before _ (λ xs n. refl)
-refused-source P s (fault.Emit policy f) h still = if-known s.left.before _ (λ xs n. refl)
-refused-source P s fault.Read h still = absurd (still h)
-refused-source P s fault.Net h still = absurd h
-refused-source P s fault.NoThread h still = absurd h
-refused-source P s fault.Usage h still = absurd h
+refused-source : (P : List ℕ → Fault → Type 0) (Takes : List ℕ → Type 0) (s : SourceSeen) (f : Fault) → StopsBy P s f → ¬ (HasRisen s.faults) → IfSome s.left.before (λ xs. ¬ (Takes xs) → status_of f ≡ status.Refused)
+refused-source P T s (fault.Line line column f) h still = if-known s.left.before _ (λ xs n. refl)
+refused-source P T s (fault.NotEnabled line) h still = if-known s.left.before _ (λ xs n. refl)
+refused-source P T s (fault.NotTwo line) h still = if-known s.left.before _ (λ xs n. refl)
+refused-source P T s (fault.Compile policy f) h still = if-known s.left.before _ (λ xs n. refl)
+refused-source P T s (fault.Emit policy f) h still = if-known s.left.before _ (λ xs n. refl)
+refused-source P T s fault.Read h still = absurd (still h)
+refused-source P T s fault.Net h still = absurd h
+refused-source P T s fault.NoThread h still = absurd h
+refused-source P T s fault.Report h still = absurd h
+refused-source P T s fault.Usage h still = absurd h
 
-stop-refuses : (k : Command) (c : Called) (f : Fault) → IsStop k c f → ¬ (HasRisen c.source.faults) → IfSome c.source.left.before (λ xs. ¬ (IsAccepted xs) → status_of f ≡ status.Refused)
-stop-refuses Rules c f h still = refused-source IsRefused c.source f h still
-stop-refuses Trace c f h still = refused-source IsRefused c.source f h still
-stop-refuses Simulate c f h still = refused-source IsSimulateRefused c.source f h still
+stop-refuses : (k : Command) (c : Called) (f : Fault) → IsStop k c f → ¬ (HasRisen c.source.faults) → IfSome c.source.left.before (λ xs. ¬ (Accepts k xs) → status_of f ≡ status.Refused)
+stop-refuses Rules c f h still = refused-source IsRefused IsAccepted c.source f h still
+stop-refuses Trace c f h still = refused-source IsRefused IsAccepted c.source f h still
+stop-refuses Simulate c f h still = refused-source IsSimulateRefused IsAccepted c.source f h still
+stop-refuses Equiv c f h still = refused-source IsEquivRefused IsComparable c.source f h still
+stop-refuses Audit c f h still = refused-source IsSimulateRefused IsAccepted c.source f h still
 stop-refuses Run c (fault.Line line column f) h still = if-known c.source.left.before _ (λ xs n. refl)
 stop-refuses Run c (fault.NotEnabled line) h still = if-known c.source.left.before _ (λ xs n. refl)
+stop-refuses Run c (fault.NotTwo line) h still = if-known c.source.left.before _ (λ xs n. refl)
 stop-refuses Run c (fault.Compile policy f) h still = if-known c.source.left.before _ (λ xs n. refl)
 stop-refuses Run c (fault.Emit policy f) h still = if-known c.source.left.before _ (λ xs n. refl)
 stop-refuses Run c fault.Read h still = absurd (still h)
 stop-refuses Run c fault.Net h still = known-more _ _ c.source.left.before (λ xs accepted n. absurd (n accepted)) h.read.bytes
 stop-refuses Run c fault.NoThread h still = known-more _ _ c.source.left.before (λ xs accepted n. absurd (n accepted)) h.read.bytes
+stop-refuses Run c fault.Report h still = absurd h
 stop-refuses Run c fault.Usage h still = absurd h
 stop-refuses (Generate n) c f h still = absurd h
 
@@ -190,7 +216,7 @@ stop-meant Takes c k f takes asks stop = record {
   reads = stop-reads k c f stop;
   no_command = λ n. absurd (n (k, takes, asks));
   complete = λ j t asks' free. absurd (free f (subst (λ (l : Command). IsStop l c f) (one_command_asked k j c.words asks asks') stop));
-  refuses = λ r still. stop-refuses k c f stop still;
+  refuses = λ j t reads asks' still. stop-refuses j c f (one-command k j c (λ l. IsStop l c f) asks asks' stop) still;
 }
 
 usage-meant : (Takes : Command → Type 0) (c : Called) → ¬ (IsLine Takes c.words) → IsSame c.source.faults → IsMeant Takes c status.Usage (fault_text fault.Usage)
@@ -200,7 +226,7 @@ usage-meant Takes c n same = record {
   reads = λ _. same;
   no_command = λ _. refl;
   complete = λ j t asks free. absurd (n (j, t, asks));
-  refuses = λ r still. absurd (n (r.0, r.1, r.3));
+  refuses = λ j t reads asks still. absurd (n (j, t, asks));
 }
 
 -- ---- the call
@@ -218,7 +244,7 @@ said-whole Takes c d text m most w same = record {
   taken = most;
   no_command = λ n. inl (inl (m.no_command n));
   complete = λ k t asks free _. inl (m.complete k t asks free);
-  refuses = λ r still _. known-more _ _ c.source.left.before (λ xs f n. inl (f n)) (m.refuses r still);
+  refuses = λ k t reads asks still _. known-more _ _ c.source.left.before (λ xs f n. inl (f n)) (m.refuses k t reads asks still);
 }
 
 said-cut : (Takes : Command → Type 0) (c : Called) (d : Status) (text : List ℕ) → IsMeant Takes c d text → TakesAtMost 4194305 c.source.left.before c.source.left.after → AppendsPrefix c.sink.written.before c.sink.written.after text → HasRisen c.sink.faults → IsCall Takes c status.WriteFault
@@ -231,7 +257,7 @@ said-cut Takes c d text m most w rose = record {
   taken = most;
   no_command = λ _. inl (inr refl);
   complete = λ k t asks free n. absurd (n rose);
-  refuses = λ r still n. absurd (n rose);
+  refuses = λ k t reads asks still n. absurd (n rose);
 }
 
 said : (Takes : Command → Type 0) (c : Called) (d s : Status) (text : List ℕ) → IsMeant Takes c d text → TakesAtMost 4194305 c.source.left.before c.source.left.after → Says d text s c.sink → IsCall Takes c s
@@ -249,18 +275,20 @@ unsaid Takes c s same most u = record {
   taken = most;
   no_command = λ _. inr u.memory;
   complete = λ k t asks free _. inr u.memory;
-  refuses = λ r still _. if-known c.source.left.before _ (λ xs n. inr u.memory);
+  refuses = λ k t reads asks still _. if-known c.source.left.before _ (λ xs n. inr u.memory);
 }
 
 -- a fault with values to show is no failed read
 shown-read : (f : Fault) → HasValues f → status_of f ≢ status.ReadFault
 shown-read (fault.Line line column f) v e = absurd (cc)
 shown-read (fault.NotEnabled line) v e = absurd (cc)
+shown-read (fault.NotTwo line) v e = absurd (cc)
 shown-read (fault.Compile policy f) v e = absurd (cc)
 shown-read (fault.Emit policy f) v e = absurd (cc)
 shown-read fault.Read v e = absurd v
 shown-read fault.Net v e = absurd v
 shown-read fault.NoThread v e = absurd v
+shown-read fault.Report v e = absurd v
 shown-read fault.Usage v e = absurd v
 
 -- the fault's line, or nothing if its line takes memory

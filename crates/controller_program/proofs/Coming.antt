@@ -2,7 +2,7 @@
 use Rattle.std.proofs.Common.{◌≡◌, ◌≢◌, ◌∙◌, refl, sym, subst, ℕ, Bool, true, false, List, String, Result, Ok, Err, IfOk, IfErr}
 use Rattle.std.specs.declared.alloc.Global.{Global}
 use Rattle.command_line.specs.declared.command.Command.{Command}
-use Rattle.command_line.specs.declared.command.Command.TheVariants.{Rules, Trace, Simulate, Run, Generate}
+use Rattle.command_line.specs.declared.command.Command.TheVariants.{Rules, Trace, Simulate, Equiv, Audit, Run, Generate}
 use Rattle.command_line.specs.Commands.{Asks, IsCommandLine, IsReader}
 use Rattle.command_line.proofs.Words.{one_command_asked}
 use Rattle.value_text.specs.declared.fault.Fault.TheVariants as fault
@@ -15,6 +15,8 @@ use Rattle.program_answer.specs.Answers.{Stops}
 use Rattle.program_answer.specs.Called.{Called, IsSame, SourceSeen}
 use Rattle.program_answer.specs.Input.{IsRefused}
 use Rattle.program_answer.specs.Statuses.{IsReport, report_status}
+use Rattle.audit_command.specs.Audit.{IsAuditAnswer}
+use Rattle.equal_command.specs.Equiv.{IsEquivAnswer, IsEquivRefused}
 use Rattle.plain_commands.specs.Generate.{IsGenerateAnswer}
 use Rattle.plain_commands.specs.Rules.{IsRulesAnswer}
 use Rattle.plain_commands.specs.Simulate.{IsSimulateAnswer, IsSimulateRefused}
@@ -53,6 +55,22 @@ simulate-here c (Err error.Memory) o e = e
 pub to_simulate : (c : Called) (s : SourceSeen) (r : Result Answer AnswerError) → c.source ≡ s → IfOk r (λ a. IsSimulateAnswer s a.status a.text) → IfErr r (Stops IsSimulateRefused s) → AnswersTo Simulate c r
 to_simulate c s r is o e = simulate-here c r (at-source c s (λ x. IfOk r (λ a. IsSimulateAnswer x a.status a.text)) is o) (at-source c s (λ x. IfErr r (Stops IsSimulateRefused x)) is e)
 
+equiv-here : (c : Called) (r : Result Answer AnswerError) → IfOk r (λ a. IsEquivAnswer c.source a.status a.text) → IfErr r (Stops IsEquivRefused c.source) → AnswersTo Equiv c r
+equiv-here c (Ok a) o e = o
+equiv-here c (Err (error.Fault f)) o e = e
+equiv-here c (Err error.Memory) o e = e
+
+pub to_equiv : (c : Called) (s : SourceSeen) (r : Result Answer AnswerError) → c.source ≡ s → IfOk r (λ a. IsEquivAnswer s a.status a.text) → IfErr r (Stops IsEquivRefused s) → AnswersTo Equiv c r
+to_equiv c s r is o e = equiv-here c r (at-source c s (λ x. IfOk r (λ a. IsEquivAnswer x a.status a.text)) is o) (at-source c s (λ x. IfErr r (Stops IsEquivRefused x)) is e)
+
+audit-here : (c : Called) (r : Result Answer AnswerError) → IfOk r (λ a. IsAuditAnswer c.source a.status a.text) → IfErr r (Stops IsSimulateRefused c.source) → AnswersTo Audit c r
+audit-here c (Ok a) o e = o
+audit-here c (Err (error.Fault f)) o e = e
+audit-here c (Err error.Memory) o e = e
+
+pub to_audit : (c : Called) (s : SourceSeen) (r : Result Answer AnswerError) → c.source ≡ s → IfOk r (λ a. IsAuditAnswer s a.status a.text) → IfErr r (Stops IsSimulateRefused s) → AnswersTo Audit c r
+to_audit c s r is o e = audit-here c r (at-source c s (λ x. IfOk r (λ a. IsAuditAnswer x a.status a.text)) is o) (at-source c s (λ x. IfErr r (Stops IsSimulateRefused x)) is e)
+
 -- the count of its source is the same, as it takes none
 pub to_generate : (c : Called) (n before : ℕ) (r : Result Answer AnswerError) → c.source.faults.before ≡ before → c.source.faults.after ≡ before → IfOk r (λ a. IsGenerateAnswer n a.status a.text) → IfErr r (λ e. e ≡ error.Memory) → AnswersTo (Generate n) c r
 to_generate c n before (Ok a) first last o e = o
@@ -77,6 +95,8 @@ pub plain_by : (k : Command) (c : Called) (r : Result Answer AnswerError) → As
 plain_by Rules c r asks to run same = by Rules tt asks (to tt) (λ n. same (λ p. n p.1))
 plain_by Trace c r asks to run same = by Trace tt asks (to tt) (λ n. same (λ p. n p.1))
 plain_by Simulate c r asks to run same = by Simulate tt asks (to tt) (λ n. same (λ p. n p.1))
+plain_by Equiv c r asks to run same = by Equiv tt asks (to tt) (λ n. same (λ p. n p.1))
+plain_by Audit c r asks to run same = by Audit tt asks (to tt) (λ n. same (λ p. n p.1))
 plain_by Run c r asks to run same = none (only-run c.words asks) (run refl) (same (λ p. p.0))
 plain_by (Generate n) c r asks to run same = by (Generate n) tt asks (to tt) (λ m. same (λ p. m p.1))
 
@@ -84,6 +104,8 @@ pub other_by : (k : Command) (c : Called) (r : Result Answer AnswerError) → k 
 other_by Rules c r other asks to same = by Rules tt asks (to tt) (λ n. same (λ p. n p.1))
 other_by Trace c r other asks to same = by Trace tt asks (to tt) (λ n. same (λ p. n p.1))
 other_by Simulate c r other asks to same = by Simulate tt asks (to tt) (λ n. same (λ p. n p.1))
+other_by Equiv c r other asks to same = by Equiv tt asks (to tt) (λ n. same (λ p. n p.1))
+other_by Audit c r other asks to same = by Audit tt asks (to tt) (λ n. same (λ p. n p.1))
 other_by Run c r other asks to same = absurd (other refl)
 other_by (Generate n) c r other asks to same = by (Generate n) tt asks (to tt) (λ m. same (λ p. m p.1))
 
@@ -103,6 +125,8 @@ pub reports : (k : Command) (c : Called) (s : Status) (text : List ℕ) → IsAn
 reports Rules c s text a = as-report s status.Done a.status_is tt
 reports Trace c s text a = as-report s status.Done a.status_is tt
 reports Simulate c s text a = as-report s (report_status a.halts) a.status_is (report-status a.halts)
+reports Equiv c s text a = as-report s status.Done a.status_is tt
+reports Audit c s text a = as-report s (report_status a.halts) a.status_is (report-status a.halts)
 reports Run c s text a = as-report s (report_status a.halts) a.status_is (report-status a.halts)
 reports (Generate n) c s text a = as-report s status.Done a.status_is tt
 

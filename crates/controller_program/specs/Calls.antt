@@ -8,12 +8,11 @@ use Rattle.value_text.specs.declared.fault.Fault.{Fault}
 use Rattle.value_text.specs.declared.fault.Fault.TheVariants as fault
 use Rattle.value_text.specs.Faults.{fault_text}
 use Rattle.program_answer.specs.declared.status.Status.{Status}
-use Rattle.program_answer.specs.declared.status.Status.TheVariants.{Done, Refused, Usage, Halted, ReadFault, WriteFault, NetFault, NoThread, Memory}
+use Rattle.program_answer.specs.declared.status.Status.TheVariants.{Done, Refused, Usage, Halted, ReadFault, WriteFault, NetFault, NoThread, Memory, ReportFault}
 use Rattle.program_answer.specs.Called.{Called, Change, HasRisen, IsSame, NetSeen}
-use Rattle.program_answer.specs.Input.{IsAccepted}
 use Rattle.program_answer.specs.Statuses.{status_of}
 use Rattle.program_answer.specs.Writing.{Wrote, WrotePrefix}
-use Rattle.controller_program.specs.Commands.{IsAnswer, IsStop}
+use Rattle.controller_program.specs.Commands.{Accepts, IsAnswer, IsStop}
 
 -- ---- words
 
@@ -62,6 +61,7 @@ IsDue Takes c Usage text = IsUsage Takes c text
 IsDue Takes c ReadFault text = IsStopped Takes c fault.Read text
 IsDue Takes c NetFault text = IsStopped Takes c fault.Net text
 IsDue Takes c NoThread text = IsStopped Takes c fault.NoThread text
+IsDue Takes c ReportFault text = IsStopped Takes c fault.Report text
 IsDue Takes c WriteFault text = ⊥
 IsDue Takes c Memory text = ⊥
 
@@ -79,7 +79,7 @@ pub record IsCutShort (Takes : Command → Type 0) (c : Called) : Type 0 where
 -- `taken`: of the source no more is taken than shows that it is too long;
 -- `no_command`: other words give the usage line, unless the sink fails or memory runs out;
 -- `complete`: a command that no fault stops gives its report, unless the sink fails or memory runs out;
--- `refuses`: what is not accepted is refused, unless a read or a write fails or memory runs out, whatever links and threads do.
+-- `refuses`: what its command does not take is refused, unless a read or a write fails or memory runs out, whatever links and threads do.
 pub record IsCall (Takes : Command → Type 0) (c : Called) (status : Status) : Type 0 where
   pub wrote : status ≢ WriteFault → status ≢ Memory → Wrote (IsDue Takes c status) c.sink
   pub write_fault : status ≡ WriteFault → HasRisen c.sink.faults
@@ -89,7 +89,7 @@ pub record IsCall (Takes : Command → Type 0) (c : Called) (status : Status) : 
   pub taken : TakesAtMost 4194305 c.source.left.before c.source.left.after
   pub no_command : ¬ (IsLine Takes c.words) → ((status ≡ Usage) ⊎ (status ≡ WriteFault)) ⊎ (status ≡ Memory)
   pub complete : (k : Command) → Takes k → Asks k c.words → ((f : Fault) → ¬ (IsStop k c f)) → ¬ (HasRisen c.sink.faults) → ((status ≡ Done) ⊎ (status ≡ Halted)) ⊎ (status ≡ Memory)
-  pub refuses : ReadsFrom Takes c.words → ¬ (HasRisen c.source.faults) → ¬ (HasRisen c.sink.faults) → IfSome c.source.left.before (λ xs. ¬ (IsAccepted xs) → (status ≡ Refused) ⊎ (status ≡ Memory))
+  pub refuses : (k : Command) → Takes k → IsReader k → Asks k c.words → ¬ (HasRisen c.source.faults) → ¬ (HasRisen c.sink.faults) → IfSome c.source.left.before (λ xs. ¬ (Accepts k xs) → (status ≡ Refused) ⊎ (status ≡ Memory))
 
 -- ---- calls without links and threads
 

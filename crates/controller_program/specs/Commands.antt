@@ -1,12 +1,14 @@
 -- What each command answers, and why it stops: a line of each table a command.
 use Rattle.std.specs.Prelude.{ℕ, List}
 use Rattle.command_line.specs.declared.command.Command.{Command}
-use Rattle.command_line.specs.declared.command.Command.TheVariants.{Rules, Trace, Simulate, Run, Generate}
+use Rattle.command_line.specs.declared.command.Command.TheVariants.{Rules, Trace, Simulate, Equiv, Audit, Run, Generate}
 use Rattle.value_text.specs.declared.fault.Fault.{Fault}
 use Rattle.program_answer.specs.declared.status.Status.{Status}
 use Rattle.program_answer.specs.Answers.{StopsBy}
 use Rattle.program_answer.specs.Called.{Called}
-use Rattle.program_answer.specs.Input.{IsRefused}
+use Rattle.program_answer.specs.Input.{IsAccepted, IsRefused}
+use Rattle.audit_command.specs.Audit.{IsAuditAnswer}
+use Rattle.equal_command.specs.Equiv.{IsComparable, IsEquivAnswer, IsEquivRefused}
 use Rattle.plain_commands.specs.Generate.{IsGenerateAnswer}
 use Rattle.plain_commands.specs.Rules.{IsRulesAnswer}
 use Rattle.plain_commands.specs.Simulate.{IsSimulateAnswer, IsSimulateRefused}
@@ -18,6 +20,8 @@ abbrev pub IsAnswer : Command → Called → Status → List ℕ → Type 0
 IsAnswer Rules c = IsRulesAnswer c.source
 IsAnswer Trace c = IsTraceAnswer c.source
 IsAnswer Simulate c = IsSimulateAnswer c.source
+IsAnswer Equiv c = IsEquivAnswer c.source
+IsAnswer Audit c = IsAuditAnswer c.source
 IsAnswer Run c = IsRunAnswer c.source c.net
 IsAnswer (Generate n) c = IsGenerateAnswer n
 
@@ -26,14 +30,28 @@ abbrev pub IsStop : Command → Called → Fault → Type 0
 IsStop Rules c = StopsBy IsRefused c.source
 IsStop Trace c = StopsBy IsRefused c.source
 IsStop Simulate c = StopsBy IsSimulateRefused c.source
+IsStop Equiv c = StopsBy IsEquivRefused c.source
+IsStop Audit c = StopsBy IsSimulateRefused c.source
 IsStop Run c = RunStopsBy c.source c.net.faults c.threads
 IsStop (Generate n) c = λ f. ⊥
+
+-- the bytes that a command takes: a document whose policies all have rows, or two that can be compared
+abbrev pub Accepts : Command → List ℕ → Type 0
+Accepts Rules = IsAccepted
+Accepts Trace = IsAccepted
+Accepts Simulate = IsAccepted
+Accepts Equiv = IsComparable
+Accepts Audit = IsAccepted
+Accepts Run = IsAccepted
+Accepts (Generate n) = λ xs. Unit {0}
 
 -- the commands that need no threads
 abbrev pub IsThreadless : Command → Type 0
 IsThreadless Rules = Unit {0}
 IsThreadless Trace = Unit {0}
 IsThreadless Simulate = Unit {0}
+IsThreadless Equiv = Unit {0}
+IsThreadless Audit = Unit {0}
 IsThreadless Run = ⊥
 IsThreadless (Generate n) = Unit {0}
 

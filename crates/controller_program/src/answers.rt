@@ -7,7 +7,9 @@ ghost use Rattle.controller_program.specs.Calls.{ReadsFrom, no_net, still};
 ghost use Rattle.controller_program.specs.Commands.{IsAny, IsThreadless};
 ghost use Rattle.controller_program.specs.Told.{Answers, AnswersTo};
 
+use audit_command::audit_answer;
 use command_line::{Command, asked};
+use equal_command::equiv_answer;
 use outside_io::Source;
 use outside_net::{Gate, Net, Spawner};
 use plain_commands::{generate_answer, rules_answer, simulate_answer, trace_answer};
@@ -83,6 +85,8 @@ fn command_answer<S: Source>(
         Command::Rules => rules_answer(alloc, source),
         Command::Trace => trace_answer(alloc, source),
         Command::Simulate => simulate_answer(alloc, source),
+        Command::Equiv => equiv_answer(alloc, source),
+        Command::Audit => audit_answer(alloc, source),
         Command::Generate(number) => generate_answer(alloc, number),
         Command::Run => Err(AnswerError::Fault(Fault::Usage)),
     }

@@ -1,4 +1,4 @@
 mod Repeating
 mod Scheduling
-mod Simulating
+pub mod Simulating
 mod Walks

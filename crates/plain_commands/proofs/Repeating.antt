@@ -132,7 +132,7 @@ one-stop sites packets w ls line other k s t = by (parts s.before s.here s.behin
 pub one-simulation : OneReport
 one-simulation d versions halts stands text other k p q =
     let first = start_of d versions in
-    let same = carried-same d.layout.switches d.packets first first d.schedule p.events p.world q.events q.world k (itself first k) p.done q.done in
+    let same = carried-same d.layout.switches d.packets first first d.schedule p.events p.world q.events q.world k (itself first k) p.outcome.done q.outcome.done in
     let control : p.world.fleet.control ≡ q.world.fleet.control = same.worlds.fleet.control in
     let now = subst (λ (z : WorldValue). IsWorldReport z q.events other) same.worlds.now q.text_is in
     let late = subst (λ (c : Control). IsReportText p.world.topology.switches q.events c.phase c.halt p.world.flights p.world.arrivals other) (sym control) now in
@@ -145,4 +145,4 @@ pub one-line : OneStop
 one-line d versions line other k s t = one-stop d.layout.switches d.packets (start_of d versions) d.schedule line other k s t
 
 pub not-both : NotBoth
-not-both d versions halts text line k p s = no-stop d.layout.switches d.packets (start_of d versions) d.schedule p.events p.world line k p.done s
+not-both d versions halts text line k p s = no-stop d.layout.switches d.packets (start_of d versions) d.schedule p.events p.world line k p.outcome.done s

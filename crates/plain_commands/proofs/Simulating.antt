@@ -1,5 +1,5 @@
 -- Simulations, as the calls tell them.
-use Rattle.std.proofs.Common.{◌≡◌, ℕ, Bool, List, refl, sym, ◌∙◌, inl, inr, subst, Result, Ok, Err, IfOk, IfErr}
+use Rattle.std.proofs.Common.{◌≡◌, ℕ, List, refl, sym, ◌∙◌, inl, inr, subst, Result, Ok, Err, IfOk, IfErr}
 use Rattle.document_text.specs.declared.document.Document.{Document}
 use Rattle.document_text.specs.declared.document.PacketLine.{PacketLine}
 use Rattle.document_text.specs.declared.document.ScheduleLine.{ScheduleLine}
@@ -7,6 +7,7 @@ use Rattle.document_text.specs.Answers.{doc_of}
 use Rattle.outside_io.specs.Lists.{TakesFirst}
 use Rattle.policy_rows.specs.declared.version.Version.{Version}
 use Rattle.value_text.specs.declared.fault.Fault.{Fault}
+use Rattle.world_core.specs.declared.event.Event.{Event}
 use Rattle.world_core.specs.Laws.{EveryRunIsGood}
 use Rattle.world_core.specs.Worlds.{WorldValue, start}
 use Rattle.program_answer.specs.declared.answer.Answer.{Answer}
@@ -18,8 +19,8 @@ use Rattle.program_answer.specs.Input.{IsAcceptedAs, IsRefused}
 use Rattle.program_answer.specs.Worlds.{start_of}
 use Rattle.program_answer.proofs.Stopping.{known_more, reads_more, stops_more}
 use Rattle.plain_commands.specs.Schedules.{CarriedOut}
-use Rattle.plain_commands.specs.Simulate.{HasReport, IsSimulateAnswer, IsSimulateRefused, IsSimulationOf}
-use Rattle.plain_commands.specs.Told.{IsReported, IsSimulatedAs, TellsStop, TellsStopIn}
+use Rattle.plain_commands.specs.Simulate.{IsOutcomeOf, IsSimulateAnswer, IsSimulateRefused}
+use Rattle.plain_commands.specs.Told.{IsSimulatedAs, TellsStop, TellsStopIn}
 use Rattle.plain_commands.proofs.Scheduling.{carried-runs}
 
 -- the world that the call made is the document's
@@ -29,37 +30,25 @@ pub record Starts (d : Document) (versions : List Version) (w : WorldValue) (pac
   pub packets_are : packets ≡ d.packets.items
   pub schedule_is : schedule ≡ d.schedule.items
 
-reported : (halts : Bool) (d : Document) (versions : List Version) (w : WorldValue) (packets : List PacketLine) (schedule : List ScheduleLine) (text : List ℕ) → Starts d versions w packets schedule → HasReport halts packets w schedule text → IsSimulationOf halts (doc_of d) versions text
-reported halts d versions w packets schedule text s r =
-    let there = subst (λ (ls : List ScheduleLine). CarriedOut w.topology.switches d.packets.items w ls r.events r.world) s.schedule_is (subst (λ (ps : List PacketLine). CarriedOut w.topology.switches ps w schedule r.events r.world) s.packets_are r.done) in
-    let done = subst (λ (x : WorldValue). CarriedOut x.topology.switches d.packets.items x d.schedule.items r.events r.world) s.world there in
+pub came : (d : Document) (versions : List Version) (w : WorldValue) (packets : List PacketLine) (schedule : List ScheduleLine) (events : List Event) (world : WorldValue) → Starts d versions w packets schedule → CarriedOut w.topology.switches packets w schedule events world → IsOutcomeOf (doc_of d) versions events world
+came d versions w packets schedule events world s r =
+    let there = subst (λ (ls : List ScheduleLine). CarriedOut w.topology.switches d.packets.items w ls events world) s.schedule_is (subst (λ (ps : List PacketLine). CarriedOut w.topology.switches ps w schedule events world) s.packets_are r) in
+    let done = subst (λ (x : WorldValue). CarriedOut x.topology.switches d.packets.items x d.schedule.items events world) s.world there in
     record {
-      events = r.events;
-      world = r.world;
       done = done;
-      runs = carried-runs d.topology.switches d.packets.items (start_of (doc_of d) versions) d.schedule.items r.events r.world done;
-      good = s.runs r.events r.world (carried-runs w.topology.switches packets w schedule r.events r.world r.done);
-      ends = r.ends;
-      text_is = r.text_is;
+      runs = carried-runs d.topology.switches d.packets.items (start_of (doc_of d) versions) d.schedule.items events world done;
+      good = s.runs events world (carried-runs w.topology.switches packets w schedule events world r);
     }
 
 pub starts : (d : Document) (versions : List Version) (w : WorldValue) (hops capacity rejoins : ℕ) (packets : List PacketLine) (schedule : List ScheduleLine) → w ≡ start d.topology versions (record { hops = hops; capacity = capacity; rejoins = rejoins }) → hops ≡ d.settings.hops → capacity ≡ d.settings.capacity → rejoins ≡ d.settings.rejoins → EveryRunIsGood w →
     packets ≡ d.packets.items → schedule ≡ d.schedule.items → Starts d versions w packets schedule
 starts d versions w hops capacity rejoins packets schedule a b c e r p l = record { world = a ∙ (λ i. start d.topology versions (record { hops = b i; capacity = c i; rejoins = e i })); runs = r; packets_are = p; schedule_is = l }
 
-pub simulated : (d : Document) (versions : List Version) (w : WorldValue) (packets : List PacketLine) (schedule : List ScheduleLine) (r : Result Answer AnswerError) → Starts d versions w packets schedule → IfOk r (IsReported packets w schedule) → IfOk r (IsSimulatedAs d versions)
-simulated d versions w packets schedule (Ok a) s h = record { halts = h.halts; status = h.status; simulation = reported h.halts d versions w packets schedule a.text s h.report }
-simulated d versions w packets schedule (Err x) s h = tt
-
-by_error : (d : Document) (versions : List Version) (w : WorldValue) (packets : List PacketLine) (schedule : List ScheduleLine) (x : AnswerError) → Starts d versions w packets schedule → TellsStop w.topology.switches packets w schedule x → TellsStopIn d versions x
-by_error d versions w packets schedule error.Memory s h = tt
-by_error d versions w packets schedule (error.Fault f) s h =
+pub stopped : (d : Document) (versions : List Version) (w : WorldValue) (packets : List PacketLine) (schedule : List ScheduleLine) (x : AnswerError) → Starts d versions w packets schedule → TellsStop w.topology.switches packets w schedule x → TellsStopIn d versions x
+stopped d versions w packets schedule error.Memory s h = tt
+stopped d versions w packets schedule (error.Fault f) s h =
     subst (λ (y : WorldValue). TellsStop y.topology.switches d.packets.items y d.schedule.items (error.Fault f)) s.world
     (subst (λ (ls : List ScheduleLine). TellsStop w.topology.switches d.packets.items w ls (error.Fault f)) s.schedule_is (subst (λ (ps : List PacketLine). TellsStop w.topology.switches ps w schedule (error.Fault f)) s.packets_are h))
-
-pub stopped : (d : Document) (versions : List Version) (w : WorldValue) (packets : List PacketLine) (schedule : List ScheduleLine) (r : Result Answer AnswerError) → Starts d versions w packets schedule → IfErr r (TellsStop w.topology.switches packets w schedule) → IfErr r (TellsStopIn d versions)
-stopped d versions w packets schedule (Ok a) s h = tt
-stopped d versions w packets schedule (Err x) s h = by_error d versions w packets schedule x s h
 
 -- ---- of a source
 

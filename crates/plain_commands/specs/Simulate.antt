@@ -1,7 +1,5 @@
 -- What `nkctl simulate` answers: the report of a schedule in the world of a document's policies.
 use Rattle.std.specs.Prelude.{◌≡◌, ◌⊎◌, ℕ, Bool, List, is_some}
-use Rattle.document_text.specs.declared.document.PacketLine.{PacketLine}
-use Rattle.document_text.specs.declared.document.ScheduleLine.{ScheduleLine}
 use Rattle.document_text.specs.Documents.{Doc}
 use Rattle.policy_rows.specs.declared.version.Version.{Version}
 use Rattle.world_core.specs.declared.event.Event.{Event}
@@ -19,21 +17,17 @@ use Rattle.program_answer.specs.Statuses.{report_status}
 use Rattle.program_answer.specs.Worlds.{start_of}
 use Rattle.plain_commands.specs.Schedules.{CarriedOut, StopsAt}
 
--- The lines are carried out from a world on, and the text is the report of their events and of the world then; `halts` says whether the updates stand still then.
-pub record HasReport (halts : Bool) (packets : List PacketLine) (w : WorldValue) (schedule : List ScheduleLine) (text : List ℕ) : Type 0 where
-  pub events : List Event
-  pub world : WorldValue
-  pub done : CarriedOut w.topology.switches packets w schedule events world
-  pub ends : is_some world.fleet.control.halt ≡ halts
-  pub text_is : IsWorldReport world events text
-
--- The whole schedule is carried out, and the text is the report of its events and of the world then, in which each packet that came in is handled by one policy; `halts` says whether the updates stand still then.
-pub record IsSimulationOf (halts : Bool) (d : Doc) (versions : List Version) (text : List ℕ) : Type 0 where
-  pub events : List Event
-  pub world : WorldValue
+-- The whole schedule is carried out with these events and comes to this world, in which each packet that came in is handled by one policy.
+pub record IsOutcomeOf (d : Doc) (versions : List Version) (events : List Event) (world : WorldValue) : Type 0 where
   pub done : CarriedOut d.layout.switches d.packets (start_of d versions) d.schedule events world
   pub runs : Runs (start_of d versions) events world
   pub good : AreGood world
+
+-- The text is the report of the events of the whole schedule and of the world then; `halts` says whether the updates stand still then.
+pub record IsSimulationOf (halts : Bool) (d : Doc) (versions : List Version) (text : List ℕ) : Type 0 where
+  pub events : List Event
+  pub world : WorldValue
+  pub outcome : IsOutcomeOf d versions events world
   pub ends : is_some world.fleet.control.halt ≡ halts
   pub text_is : IsWorldReport world events text
 

@@ -13,13 +13,7 @@ use Rattle.program_answer.specs.declared.answer.AnswerError.{AnswerError}
 use Rattle.program_answer.specs.declared.answer.AnswerError.TheVariants as error
 use Rattle.program_answer.specs.Statuses.{report_status}
 use Rattle.plain_commands.specs.Schedules.{StopsAt}
-use Rattle.plain_commands.specs.Simulate.{HasReport, IsSimulationOf, StopsIn}
-
--- the report of some lines, with the status by how it ends
-pub record IsReported (packets : List PacketLine) (w : WorldValue) (schedule : List ScheduleLine) (a : Answer) : Type 0 where
-  pub halts : Bool
-  pub status : a.status ≡ report_status halts
-  pub report : HasReport halts packets w schedule a.text
+use Rattle.plain_commands.specs.Simulate.{IsSimulationOf, StopsIn}
 
 -- the report of the whole schedule, with the status by how it ends
 pub record IsSimulatedAs (d : Document) (versions : List Version) (a : Answer) : Type 0 where

@@ -4,6 +4,7 @@
 
 mod generate;
 mod laws;
+mod outcome;
 mod rules;
 mod schedule;
 mod simulate;
@@ -11,6 +12,7 @@ mod trace;
 
 pub use generate::generate_answer;
 pub use laws::one_simulation;
+pub use outcome::{Outcome, schedule_outcome};
 pub use rules::rules_answer;
 pub use simulate::simulate_answer;
 pub use trace::trace_answer;

@@ -9,15 +9,14 @@ ghost use Rattle.program_answer.specs.Input.{policies_of};
 ghost use Rattle.program_answer.specs.Sound.{IsSound};
 ghost use Rattle.program_answer.specs.Versions.{AreVersions};
 ghost use Rattle.plain_commands.specs.Simulate.{IsSimulateAnswer, IsSimulateRefused};
-ghost use Rattle.plain_commands.specs.Told.{IsReported, IsSimulatedAs, TellsStop, TellsStopIn};
+ghost use Rattle.plain_commands.specs.Told.{IsSimulatedAs, TellsStopIn};
 
-use crate::schedule::carry_out;
-use document_text::{Document, PacketLine, ScheduleLine};
+use crate::outcome::schedule_outcome;
+use document_text::Document;
 use outside_io::Source;
 use policy_rows::Version;
 use program_answer::{Answer, AnswerError, read_input, world_answer};
 use std::alloc::Global;
-use world_core::{Settings, World};
 
 /// The report of the schedule of a source's document, or the first line whose event cannot happen.
 pub fn simulate_answer<S: Source>(alloc: Global, source: &mut S) -> Result<Answer, AnswerError>
@@ -29,7 +28,7 @@ pub fn simulate_answer<S: Source>(alloc: Global, source: &mut S) -> Result<Answe
     simulation(alloc, input.document, input.versions)
 }
 
-// Carries out the schedule of a document in the world of its policies, and reports it.
+// The report of what the schedule of a document comes to.
 fn simulation(
     alloc: Global,
     document: Document,
@@ -40,34 +39,7 @@ fn simulation(
     ensures answer { IfOk result (IsSimulatedAs document versions.items) }
     ensures stop { IfErr result (TellsStopIn document versions.items) }
 {
-    let Document {
-        topology,
-        packets,
-        settings,
-        schedule,
-        ..
-    } = document;
-    let hops = u64::from(settings.hops);
-    let settings = Settings {
-        hops,
-        capacity: settings.capacity as usize,
-        rejoins: settings.rejoins as usize,
-    };
-    let mut world = World::start(alloc, versions, topology, settings)?;
-    report(alloc, &mut world, &packets, &schedule)
-}
-
-// Carries out lines in a world, and reports them.
-fn report(
-    alloc: Global,
-    world: &mut World,
-    packets: &[PacketLine],
-    schedule: &[ScheduleLine],
-) -> Result<Answer, AnswerError>
-    ensures answer { IfOk result (IsReported packets.now world.old schedule.now) }
-    ensures stop { IfErr result (TellsStop world.old.topology.switches packets.now world.old schedule.now) }
-{
-    let events = carry_out(alloc, world, packets, schedule)?;
-    let answer = world_answer(alloc, world, &events)?;
+    let outcome = schedule_outcome(alloc, document, versions)?;
+    let answer = world_answer(alloc, &outcome.world, &outcome.events)?;
     Ok(answer)
 }

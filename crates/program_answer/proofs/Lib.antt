@@ -1,4 +1,5 @@
 pub mod FewNamed
+pub mod LineLaws
 pub mod Lists
 pub mod Pieces
 pub mod Soundness

@@ -13,7 +13,9 @@ use Rattle.document_text.specs.Documents.{Doc, Outcome, Accepted, Refused}
 use Rattle.document_text.specs.Grammar.{Lines, IsFrom, IsReading, within_limit, cut_off, line_behind, refused_at}
 use Rattle.document_text.specs.States.{start}
 use Rattle.document_text.specs.Texts.{lines_of}
-use Rattle.program_answer.specs.Input.{Feeds}
+use Rattle.program_answer.specs.Input.{Feeds, IsReadAs}
+use Rattle.program_answer.specs.Lines.{line_after}
+use Rattle.program_answer.specs.declared.lines.LineCount.{LineCount}
 
 limit : (xs : List ℕ) (o : Outcome) → within_limit (take 4194305 xs) o ≡ within_limit xs o
 limit xs o = elim (cases_lt (length xs) 4194305) [
@@ -59,19 +61,28 @@ taken-first xs ys bytes e within end = elim (cases_lt (length bytes) 4194305) [
 ]
 
 -- what the bytes that a reader was fed are, the source is
-pub feeds-reading : (old new : Option (List ℕ)) (r : DocReader) (f : Feeds old new r) (o : Outcome) → IsReading f.bytes o → IfSome old (λ xs. IsReading xs o)
-feeds-reading None new r f o h = tt
-feeds-reading (Some xs) None r f o h = absurd f.taken
-feeds-reading (Some xs) (Some ys) r f o h = reading-take xs o (subst (λ zs. IsReading zs o) (taken-first xs ys f.bytes f.taken f.within f.ended).0 h)
+pub feeds-reading : (old new : Option (List ℕ)) (r : DocReader) (c : LineCount) (f : Feeds old new r c) (o : Outcome) → IsReading f.bytes o → IfSome old (λ xs. IsReading xs o)
+feeds-reading None new r c f o h = tt
+feeds-reading (Some xs) None r c f o h = absurd f.taken
+feeds-reading (Some xs) (Some ys) r c f o h = reading-take xs o (subst (λ zs. IsReading zs o) (taken-first xs ys f.bytes f.taken f.within f.ended).0 h)
 
-pub feeds-taken : (old new : Option (List ℕ)) (r : DocReader) → Feeds old new r → TakesFirst 4194305 old new
-feeds-taken None new r f = tt
-feeds-taken (Some xs) None r f = f.taken
-feeds-taken (Some xs) (Some ys) r f = (taken-first xs ys f.bytes f.taken f.within f.ended).1
+pub feeds-taken : (old new : Option (List ℕ)) (r : DocReader) (c : LineCount) → Feeds old new r c → TakesFirst 4194305 old new
+feeds-taken None new r c f = tt
+feeds-taken (Some xs) None r c f = f.taken
+feeds-taken (Some xs) (Some ys) r c f = (taken-first xs ys f.bytes f.taken f.within f.ended).1
+
+-- the lines of a document's bytes are those of what a reader was fed
+pub feeds-read : (old new : Option (List ℕ)) (r : DocReader) (c : LineCount) (f : Feeds old new r c) (d : Doc) (after : ℕ) → after ≡ line_after f.bytes → IsReading f.bytes (Accepted d) → IfSome old (λ xs. IsReadAs xs d after)
+feeds-read None new r c f d after e h = tt
+feeds-read (Some xs) None r c f d after e h = absurd f.taken
+feeds-read (Some xs) (Some ys) r c f d after e h =
+    let ended : ys ≡ [] = f.ended (omega (arith, short f.bytes d h)) in
+    let whole : f.bytes ≡ xs = sym (append-nil f.bytes) ∙ ap (λ zs. f.bytes ++ zs) (sym ended) ∙ sym f.taken in
+    record { document = subst (λ zs. IsReading zs (Accepted d)) whole h; after_is = e ∙ ap line_after whole }
 
 -- a text that is read as a document was fed whole
-pub feeds-ended : (old new : Option (List ℕ)) (r : DocReader) (f : Feeds old new r) (d : Doc) → IsReading f.bytes (Accepted d) → IsAtEnd new
-feeds-ended old new r f d h = f.ended (omega (arith, short f.bytes d h))
+pub feeds-ended : (old new : Option (List ℕ)) (r : DocReader) (c : LineCount) (f : Feeds old new r c) (d : Doc) → IsReading f.bytes (Accepted d) → IsAtEnd new
+feeds-ended old new r c f d h = f.ended (omega (arith, short f.bytes d h))
 
 pub consumes-none : (a : Option (List ℕ)) → Consumes a a []
 consumes-none None = tt

@@ -11,7 +11,7 @@ use Rattle.program_answer.specs.declared.answer.AnswerError.{AnswerError}
 use Rattle.program_answer.specs.declared.answer.AnswerError.TheVariants as error
 use Rattle.program_answer.specs.Answers.{Reads, ReadsFirst, Stops, StopsBy}
 use Rattle.program_answer.specs.Called.{SourceSeen, IsSame}
-use Rattle.program_answer.specs.Input.{IsAcceptedAs, IsRefused, placed_fault, TellsFirst}
+use Rattle.program_answer.specs.Input.{IsAcceptedAs, IsReadAs, IsRefused, IsTextRefusal, placed_fault, TellsFirst}
 use Rattle.program_answer.specs.Versions.{AreVersions, IsFirstPolicyFault}
 
 -- what holds of bytes, if they are known
@@ -29,11 +29,13 @@ first_more P Q s f r = record { taken = r.taken; faultless = r.faultless; bytes 
 stops-by-more : (P Q : List ℕ → Fault → Type 0) → ((xs : List ℕ) (f : Fault) → P xs f → Q xs f) → (s : SourceSeen) (f : Fault) → StopsBy P s f → StopsBy Q s f
 stops-by-more P Q h s (fault.Line line column f) r = first_more _ _ s (λ xs p. h xs (fault.Line line column f) p) r
 stops-by-more P Q h s (fault.NotEnabled line) r = first_more _ _ s (λ xs p. h xs (fault.NotEnabled line) p) r
+stops-by-more P Q h s (fault.NotTwo line) r = first_more _ _ s (λ xs p. h xs (fault.NotTwo line) p) r
 stops-by-more P Q h s (fault.Compile policy f) r = first_more _ _ s (λ xs p. h xs (fault.Compile policy f) p) r
 stops-by-more P Q h s (fault.Emit policy f) r = first_more _ _ s (λ xs p. h xs (fault.Emit policy f) p) r
 stops-by-more P Q h s fault.Read r = r
 stops-by-more P Q h s fault.Net r = r
 stops-by-more P Q h s fault.NoThread r = r
+stops-by-more P Q h s fault.Report r = r
 stops-by-more P Q h s fault.Usage r = r
 
 pub stops_more : (P Q : List ℕ → Fault → Type 0) → ((xs : List ℕ) (f : Fault) → P xs f → Q xs f) → (s : SourceSeen) (e : AnswerError) → Stops P s e → Stops Q s e
@@ -41,26 +43,36 @@ stops_more P Q h s (error.Fault f) r = stops-by-more P Q h s f r
 stops_more P Q h s error.Memory r = r
 
 -- the first fault of the text
-pub text_stops : (s : SourceSeen) (f : DocFault) (placed : Fault) → placed ≡ placed_fault f → TakesFirst 4194305 s.left.before s.left.after → IsSame s.faults → IfSome s.left.before (λ xs. HasDocFault xs f) → StopsBy IsRefused s placed
-text_stops s f placed is taken same read = subst (λ (g : Fault). StopsBy IsRefused s g) (sym is) (record {
+pub text_stops : (s : SourceSeen) (f : DocFault) (placed : Fault) → placed ≡ placed_fault f → TakesFirst 4194305 s.left.before s.left.after → IsSame s.faults → IfSome s.left.before (λ xs. HasDocFault xs f) → StopsBy IsTextRefusal s placed
+text_stops s f placed is taken same read = subst (λ (g : Fault). StopsBy IsTextRefusal s g) (sym is) (record {
   taken = taken;
   faultless = same;
-  bytes = known_more _ _ s.left.before (λ xs h. inl (record { text_fault = f; has = h; is = refl })) read;
+  bytes = known_more _ _ s.left.before (λ xs h. record { text_fault = f; has = h; is = refl }) read;
 })
 
 -- the fault of the first policy that has one
 policy-first : (s : SourceSeen) (d : Doc) (f : Fault) → Reads (λ xs. IsDocument xs d) s → TakesFirst 4194305 s.left.before s.left.after → IsFirstPolicyFault d.layout d.settings d.policies f → ReadsFirst (λ xs. IsRefused xs f) s
 policy-first s d f r taken first = record { taken = taken; faultless = r.faultless; bytes = known_more _ _ s.left.before (λ xs h. inr (record { document = d; read = h; first = first })) r.bytes }
 
+-- what is refused for its text is refused
+pub text_refuses : (s : SourceSeen) (e : AnswerError) → Stops IsTextRefusal s e → Stops IsRefused s e
+text_refuses s e h = stops_more IsTextRefusal IsRefused (λ xs f r. inl r) s e h
+
+-- the document of what was read
+pub document_reads : (s : SourceSeen) (d : Doc) (after : ℕ) → Reads (λ xs. IsReadAs xs d after) s → Reads (λ xs. IsDocument xs d) s
+document_reads s d after r = reads_more _ _ s (λ xs h. h.document) r
+
 pub policy_stops : (s : SourceSeen) (d : Doc) (e : AnswerError) → Reads (λ xs. IsDocument xs d) s → TakesFirst 4194305 s.left.before s.left.after → TellsFirst d.layout d.settings d.policies e → Stops IsRefused s e
 policy_stops s d error.Memory r taken told = r.faultless
 policy_stops s d (error.Fault (fault.Line line column f)) r taken told = policy-first s d _ r taken told
 policy_stops s d (error.Fault (fault.NotEnabled line)) r taken told = policy-first s d _ r taken told
+policy_stops s d (error.Fault (fault.NotTwo line)) r taken told = policy-first s d _ r taken told
 policy_stops s d (error.Fault (fault.Compile policy f)) r taken told = policy-first s d _ r taken told
 policy_stops s d (error.Fault (fault.Emit policy f)) r taken told = policy-first s d _ r taken told
 policy_stops s d (error.Fault fault.Read) r taken told = absurd told.here
 policy_stops s d (error.Fault fault.Net) r taken told = absurd told.here
 policy_stops s d (error.Fault fault.NoThread) r taken told = absurd told.here
+policy_stops s d (error.Fault fault.Report) r taken told = absurd told.here
 policy_stops s d (error.Fault fault.Usage) r taken told = absurd told.here
 
 -- a document with its versions

@@ -25,9 +25,11 @@ abbrev pub StopsBy : (List ℕ → Fault → Type 0) → SourceSeen → Fault �
 StopsBy HasFault s fault.Read = HasRisen s.faults
 StopsBy HasFault s fault.Net = ⊥
 StopsBy HasFault s fault.NoThread = ⊥
+StopsBy HasFault s fault.Report = ⊥
 StopsBy HasFault s fault.Usage = ⊥
 StopsBy HasFault s (fault.Line line column f) = ReadsFirst (λ xs. HasFault xs (fault.Line line column f)) s
 StopsBy HasFault s (fault.NotEnabled line) = ReadsFirst (λ xs. HasFault xs (fault.NotEnabled line)) s
+StopsBy HasFault s (fault.NotTwo line) = ReadsFirst (λ xs. HasFault xs (fault.NotTwo line)) s
 StopsBy HasFault s (fault.Compile policy f) = ReadsFirst (λ xs. HasFault xs (fault.Compile policy f)) s
 StopsBy HasFault s (fault.Emit policy f) = ReadsFirst (λ xs. HasFault xs (fault.Emit policy f)) s
 

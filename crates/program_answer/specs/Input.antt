@@ -16,6 +16,8 @@ use Rattle.value_text.specs.declared.fault.Fault.{Fault}
 use Rattle.value_text.specs.declared.fault.Fault.TheVariants.{Line}
 use Rattle.program_answer.specs.declared.answer.AnswerError.{AnswerError}
 use Rattle.program_answer.specs.declared.answer.AnswerError.TheVariants as error
+use Rattle.program_answer.specs.Lines.{Counts, line_after}
+use Rattle.program_answer.specs.declared.lines.LineCount.{LineCount}
 use Rattle.program_answer.specs.Versions.{AreVersions, IsPolicyFault, IsFirstPolicyFault}
 
 -- ---- what is accepted, and what is refused
@@ -52,13 +54,20 @@ IsRefused xs f = IsTextRefusal xs f ⊎ IsPolicyRefusal xs f
 
 -- ---- as the calls tell it
 
--- The reader stands for the bytes that were taken of a source, which are all of them or 4,194,305.
-pub record Feeds (old new : Option (List ℕ)) (r : DocReader) : Type 0 where
+-- the bytes are read as the document, and the line after their last one has this number
+pub record IsReadAs (xs : List ℕ) (d : Doc) (after : ℕ) : Type 0 where
+  pub document : IsDocument xs d
+  pub after_is : after ≡ line_after xs
+
+-- The reader stands for the bytes that were taken of a source, which are all of them or 4,194,305, and their lines were counted.
+pub record Feeds (old new : Option (List ℕ)) (r : DocReader) (c : LineCount) : Type 0 where
   pub bytes : List ℕ
   pub taken : Consumes old new bytes
   pub within : length bytes ≤ 4194305
   pub ended : length bytes < 4194305 → IsAtEnd new
   pub stands : StandsFor r bytes
+  pub counts : Counts c bytes
+  pub few : c.ended ≤ 4194305
 
 abbrev pub policies_of : Document → List Term
 policies_of d = map term_of d.policies.items

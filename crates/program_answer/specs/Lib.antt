@@ -1,6 +1,7 @@
 pub mod Answers
 pub mod Called
 pub mod Input
+pub mod Lines
 pub mod Sound
 pub mod Statuses
 pub mod Versions

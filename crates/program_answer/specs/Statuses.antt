@@ -1,7 +1,7 @@
 -- The exit statuses.
 use Rattle.std.specs.Prelude.{ℕ, Bool, true, false}
 use Rattle.program_answer.specs.declared.status.Status.{Status}
-use Rattle.program_answer.specs.declared.status.Status.TheVariants.{Done, Refused, Usage, Halted, ReadFault, WriteFault, NetFault, NoThread, Memory}
+use Rattle.program_answer.specs.declared.status.Status.TheVariants.{Done, Refused, Usage, Halted, ReadFault, WriteFault, NetFault, NoThread, Memory, ReportFault}
 use Rattle.value_text.specs.declared.fault.Fault.{Fault}
 use Rattle.value_text.specs.declared.fault.Fault.TheVariants as fault
 
@@ -15,16 +15,19 @@ number_of WriteFault = 5
 number_of NetFault = 6
 number_of NoThread = 7
 number_of Memory = 8
+number_of ReportFault = 9
 
 -- how a call ends once the line of a fault is written
 abbrev pub status_of : Fault → Status
 status_of (fault.Line line column f) = Refused
 status_of (fault.NotEnabled line) = Refused
+status_of (fault.NotTwo line) = Refused
 status_of (fault.Compile policy f) = Refused
 status_of (fault.Emit policy f) = Refused
 status_of fault.Read = ReadFault
 status_of fault.Net = NetFault
 status_of fault.NoThread = NoThread
+status_of fault.Report = ReportFault
 status_of fault.Usage = Usage
 
 -- how a call ends once a report is written: `halts` says whether the updates stand still
@@ -43,3 +46,4 @@ IsReport WriteFault = ⊥
 IsReport NetFault = ⊥
 IsReport NoThread = ⊥
 IsReport Memory = ⊥
+IsReport ReportFault = ⊥

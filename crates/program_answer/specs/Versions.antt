@@ -48,9 +48,11 @@ IsPolicyFault t s k p (fault.Compile i f) = (i ≡ suc k) × IsFaultOf p f
 IsPolicyFault t s k p (fault.Emit i f) = (i ≡ suc k) × HasNoRows t s k p f
 IsPolicyFault t s k p (fault.Line line column f) = ⊥
 IsPolicyFault t s k p (fault.NotEnabled line) = ⊥
+IsPolicyFault t s k p (fault.NotTwo line) = ⊥
 IsPolicyFault t s k p fault.Read = ⊥
 IsPolicyFault t s k p fault.Net = ⊥
 IsPolicyFault t s k p fault.NoThread = ⊥
+IsPolicyFault t s k p fault.Report = ⊥
 IsPolicyFault t s k p fault.Usage = ⊥
 
 -- the fault of the first policy that has one

@@ -33,7 +33,8 @@ pub fn read_input<S: Source>(alloc: Global, source: &mut S) -> Result<Input, Ans
     ensures stops { IfErr result (Stops IsRefused (source_of S.left S.faults source.old source.new)) }
     ensures at_most { TakesAtMost 4194305 (S.left source.old) (S.left source.new) }
 {
-    let document = read_source(alloc, source)?;
+    let read = read_source(alloc, source)?;
+    let document = read.document;
     let versions = versions(alloc, &document)?;
     Ok(Input { document, versions })
 }

@@ -4,6 +4,7 @@
 
 mod answer;
 mod input;
+mod lines;
 mod reading;
 mod report;
 mod status;
@@ -12,6 +13,7 @@ mod writing;
 
 pub use answer::{Answer, AnswerError};
 pub use input::{Input, read_input};
+pub use reading::{ReadDocument, read_source};
 pub use report::world_answer;
 pub use status::Status;
 pub use writing::say;

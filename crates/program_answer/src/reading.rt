@@ -2,14 +2,15 @@
 ghost use Rattle.std.specs.Prelude.{◌≡◌, [], IfOk, IfErr, OnOk};
 ghost use Rattle.document_text.specs.Answers.{doc_of};
 ghost use Rattle.document_text.specs.Feeding.{StandsFor};
-ghost use Rattle.document_text.specs.Grammar.{IsDocument};
 ghost use Rattle.outside_io.specs.Lists.{TakesAtMost, TakesFirst};
 ghost use Rattle.program_answer.specs.Answers.{Reads, Stops};
 ghost use Rattle.program_answer.specs.Called.{source_of};
-ghost use Rattle.program_answer.specs.Input.{Feeds, IsRefused, placed_fault};
+ghost use Rattle.program_answer.specs.Input.{Feeds, IsReadAs, IsTextRefusal, placed_fault};
+ghost use Rattle.program_answer.specs.Lines.{Counts};
 ghost use Rattle.program_answer.specs.Sound.{IsSound};
 
 use crate::answer::AnswerError;
+use crate::lines::LineCount;
 use document_text::{DocFault, DocReader, Document, DocumentError};
 use nk_values::MOST_DOCUMENT_BYTES;
 use outside_io::{Failed, Source};
@@ -19,18 +20,29 @@ use value_text::Fault;
 /// The most bytes of a source that are read: one more than a document may have.
 pub const READ_LIMIT: usize = MOST_DOCUMENT_BYTES + 1;
 
+/// A document, and the number of the line after its last one.
+#[derive(Drop)]
+pub struct ReadDocument {
+    pub document: Document,
+    pub line_after: u64,
+}
+
 /// Reads the source piece by piece, and its document.
-pub fn read_source<S: Source>(alloc: Global, source: &mut S) -> Result<Document, AnswerError>
-    ensures reads { IfOk result (λ d. Reads (λ xs. IsDocument xs (doc_of d)) (source_of S.left S.faults source.old source.new)) }
-    ensures sound { IfOk result (λ d. IsSound (doc_of d)) }
+pub fn read_source<S: Source>(alloc: Global, source: &mut S) -> Result<ReadDocument, AnswerError>
+    ensures reads { IfOk result (λ d. Reads (λ xs. IsReadAs xs (doc_of d.document) d.line_after) (source_of S.left S.faults source.old source.new)) }
+    ensures sound { IfOk result (λ d. IsSound (doc_of d.document)) }
     ensures taken { OnOk result (TakesFirst 4194305 (S.left source.old) (S.left source.new)) }
-    ensures stops { IfErr result (Stops IsRefused (source_of S.left S.faults source.old source.new)) }
+    ensures stops { IfErr result (Stops IsTextRefusal (source_of S.left S.faults source.old source.new)) }
     ensures at_most { TakesAtMost 4194305 (S.left source.old) (S.left source.new) }
 {
     let mut reader = DocReader::new(alloc);
-    feed_from(alloc, source, &mut reader)?;
+    let mut lines = LineCount::new();
+    feed_from(alloc, source, &mut reader, &mut lines)?;
     match reader.finish(alloc) {
-        Ok(document) => Ok(document),
+        Ok(document) => Ok(ReadDocument {
+            document,
+            line_after: lines.line_after(),
+        }),
         Err(DocumentError::Fault(fault)) => Err(AnswerError::Fault(placed_fault(&fault))),
         Err(DocumentError::Memory) => Err(AnswerError::Memory),
     }
@@ -53,12 +65,15 @@ fn feed_from<S: Source>(
     alloc: Global,
     source: &mut S,
     reader: &mut DocReader,
+    lines: &mut LineCount,
 ) -> Result<(), AnswerError>
-    requires { StandsFor reader.old [] }
-    ensures feeds { OnOk result (Feeds (S.left source.old) (S.left source.new) reader.new) }
+    requires reader { StandsFor reader.old [] }
+    requires lines { Counts lines.old [] }
+    requires none { lines.old.ended ≡ 0 }
+    ensures feeds { OnOk result (Feeds (S.left source.old) (S.left source.new) reader.new lines.new) }
     ensures at_most { TakesAtMost 4194305 (S.left source.old) (S.left source.new) }
     ensures same { OnOk result (S.faults source.new ≡ S.faults source.old) }
-    ensures stops { IfErr result (Stops IsRefused (source_of S.left S.faults source.old source.new)) }
+    ensures stops { IfErr result (Stops IsTextRefusal (source_of S.left S.faults source.old source.new)) }
 {
     let mut buf = [0u8; 4096];
     let mut fed = 0;
@@ -73,6 +88,7 @@ fn feed_from<S: Source>(
         if let Err(_) = reader.feed(alloc, &piece[..count]) {
             return Err(AnswerError::Memory);
         }
+        lines.add(&piece[..count]);
         fed += count;
     }
     Ok(())

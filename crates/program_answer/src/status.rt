@@ -24,12 +24,14 @@ pub enum Status {
     NoThread = 7,
     /// 8: out of memory.
     Memory = 8,
+    /// 9: the reporter of drains failed.
+    ReportFault = 9,
 }
 
 impl Status {
     ghost use Rattle.program_answer.specs.Statuses.{number_of, status_of};
 
-    /// The number, 0 to 8.
+    /// The number, 0 to 9.
     pub fn number(self) -> u8
         ensures { result ≡ number_of self }
     {
@@ -43,11 +45,13 @@ impl Status {
         match fault {
             Fault::Line { .. }
             | Fault::NotEnabled { .. }
+            | Fault::NotTwo { .. }
             | Fault::Compile { .. }
             | Fault::Emit { .. } => Status::Refused,
             Fault::Read => Status::ReadFault,
             Fault::Net => Status::NetFault,
             Fault::NoThread => Status::NoThread,
+            Fault::Report => Status::ReportFault,
             Fault::Usage => Status::Usage,
         }
     }

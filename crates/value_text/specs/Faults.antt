@@ -72,20 +72,24 @@ policy_text i = codes "nkctl: policy " ++ decimal i
 abbrev pub fault_text : Fault → List ℕ
 fault_text (fault.Line l c f) = codes "nkctl: line " ++ (decimal l ++ (codes " column " ++ (decimal c ++ (codes ": " ++ line (label (text_number f) (text_name f))))))
 fault_text (fault.NotEnabled l) = codes "nkctl: line " ++ (decimal l ++ line (codes " column 1: 40 NotEnabled"))
+fault_text (fault.NotTwo l) = codes "nkctl: line " ++ (decimal l ++ line (codes " column 1: 41 NotTwo"))
 fault_text (fault.Compile i f) = policy_text i ++ line (compile_text f)
 fault_text (fault.Emit i f) = policy_text i ++ line (emit_text f)
 fault_text fault.Read = line (codes "nkctl: read fault")
 fault_text fault.Net = line (codes "nkctl: net fault")
 fault_text fault.NoThread = line (codes "nkctl: no thread")
+fault_text fault.Report = line (codes "nkctl: report fault")
 fault_text fault.Usage = line (codes "usage: nkctl rules|trace|simulate|run|generate N")
 
 -- the fault has values to show, so that its line has to be made
 abbrev pub HasValues : Fault → Type 0
 HasValues (fault.Line l c f) = Unit {0}
 HasValues (fault.NotEnabled l) = Unit {0}
+HasValues (fault.NotTwo l) = Unit {0}
 HasValues (fault.Compile i f) = Unit {0}
 HasValues (fault.Emit i f) = Unit {0}
 HasValues fault.Read = ⊥
 HasValues fault.Net = ⊥
 HasValues fault.NoThread = ⊥
+HasValues fault.Report = ⊥
 HasValues fault.Usage = ⊥

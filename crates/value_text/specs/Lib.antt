@@ -1,3 +1,4 @@
+pub mod Equality
 pub mod Faults
 pub mod Histories
 pub mod Rules

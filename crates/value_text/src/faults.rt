@@ -19,6 +19,9 @@ pub const NET_FAULT: &str = "nkctl: net fault\n";
 /// The line of a thread that could not be started.
 pub const NO_THREAD: &str = "nkctl: no thread\n";
 
+/// The line of a reporter that failed.
+pub const REPORT_FAULT: &str = "nkctl: report fault\n";
+
 /// The line of words that are no command line.
 pub const USAGE: &str = "usage: nkctl rules|trace|simulate|run|generate N\n";
 
@@ -31,9 +34,11 @@ pub fn fixed_line(fault: &Fault) -> Option<&'static str>
         Fault::Read => Some(READ_FAULT),
         Fault::Net => Some(NET_FAULT),
         Fault::NoThread => Some(NO_THREAD),
+        Fault::Report => Some(REPORT_FAULT),
         Fault::Usage => Some(USAGE),
         Fault::Line { .. }
         | Fault::NotEnabled { .. }
+        | Fault::NotTwo { .. }
         | Fault::Compile { .. }
         | Fault::Emit { .. } => None,
     }
@@ -58,6 +63,7 @@ fn put_fault(out: &mut String, fault: &Fault) -> Result<(), AllocError>
             fault,
         } => put_line(out, *line, *column, *fault),
         Fault::NotEnabled { line } => put_not_enabled(out, *line),
+        Fault::NotTwo { line } => put_not_two(out, *line),
         Fault::Compile { policy, fault } => {
             put_policy(out, *policy)?;
             put_compile(out, fault)?;
@@ -71,6 +77,7 @@ fn put_fault(out: &mut String, fault: &Fault) -> Result<(), AllocError>
         Fault::Read => out.push_str(READ_FAULT),
         Fault::Net => out.push_str(NET_FAULT),
         Fault::NoThread => out.push_str(NO_THREAD),
+        Fault::Report => out.push_str(REPORT_FAULT),
         Fault::Usage => out.push_str(USAGE),
     }
 }
@@ -87,6 +94,13 @@ fn put_not_enabled(out: &mut String, line: u64) -> Result<(), AllocError>
     ensures { OnOk result (string_bytes out.new ≡ string_bytes out.old ++ fault_text (Fault.NotEnabled line)) }
 {
     write!(out, "nkctl: line {line} column 1: 40 NotEnabled\n")
+}
+
+// Puts the line of a document that has not two policies at the end.
+fn put_not_two(out: &mut String, line: u64) -> Result<(), AllocError>
+    ensures { OnOk result (string_bytes out.new ≡ string_bytes out.old ++ fault_text (Fault.NotTwo line)) }
+{
+    write!(out, "nkctl: line {line} column 1: 41 NotTwo\n")
 }
 
 fn put_policy(out: &mut String, policy: u64) -> Result<(), AllocError>
@@ -117,8 +131,8 @@ fn put_shown(out: &mut String, fault: &CompileFault) -> Result<(), AllocError>
     }
 }
 
-// Puts a packet and its output at the end.
-fn put_pair(out: &mut String, packet: &Packet, output: &Packet) -> Result<(), AllocError>
+/// Puts a packet and its output at the end.
+pub fn put_pair(out: &mut String, packet: &Packet, output: &Packet) -> Result<(), AllocError>
     ensures { OnOk result (string_bytes out.new ≡ string_bytes out.old ++ pair_text packet.now output.now) }
 {
     out.push_str(" ")?;

@@ -1,6 +1,7 @@
 //! The texts of what policies and packets are: values, patterns, rows, histories, traces, and the lines of faults.
 #![tactic(auto)]
 
+mod equality;
 mod fault;
 mod faults;
 mod histories;
@@ -10,11 +11,12 @@ mod text;
 mod traces;
 mod values;
 
+pub use equality::{apart_text, equal_text};
 pub use fault::Fault;
-pub use faults::{NET_FAULT, NO_THREAD, READ_FAULT, USAGE, fault_text, fixed_line};
+pub use faults::{NET_FAULT, NO_THREAD, READ_FAULT, REPORT_FAULT, USAGE, fault_text, fixed_line};
 pub use histories::{history_text, put_history};
 pub use lines::{history_lines, line_of, put_lines, sort_lines};
-pub use rules::rules_text;
+pub use rules::{put_row, rules_text};
 pub use text::Text;
 pub use traces::trace_text;
 pub use values::{put_fields, put_hex_byte, put_place};

@@ -95,8 +95,8 @@ fn put_rows(out: &mut String, rows: &[Row]) -> Result<(), AllocError>
     Ok(())
 }
 
-// Puts the line of a row at the end.
-fn put_row(out: &mut String, row: &Row) -> Result<(), AllocError>
+/// Puts the line of a row at the end: its priority, what it fixes, and its actions.
+pub fn put_row(out: &mut String, row: &Row) -> Result<(), AllocError>
     ensures { OnOk result (string_bytes out.new ≡ string_bytes out.old ++ line (row_text row.now)) }
 {
     put_number(out, u64::from(row.priority))?;

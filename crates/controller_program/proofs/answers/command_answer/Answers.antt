@@ -1,6 +1,6 @@
 use Rattle.std.proofs.Common.{ap}
 use Rattle.program_answer.specs.Called.{SourceSeen, source_of}
-use Rattle.controller_program.proofs.Coming.{to_rules, to_trace, to_simulate, to_generate}
+use Rattle.controller_program.proofs.Coming.{to_rules, to_trace, to_simulate, to_equiv, to_audit, to_generate}
 use Rattle.controller_program.proofs.answers.command_answer.Goals as goal
 
 pub returns-in-Rules-clause-answers : goal.returns-in-Rules-clause-answers
@@ -26,6 +26,22 @@ returns-in-Simulate-clause-answers g c =
 
 pub returns-in-Simulate-clause-untouched : goal.returns-in-Simulate-clause-untouched
 returns-in-Simulate-clause-untouched g c = rw c.in-Simulate.is (λ n. absurd (n (tt, tt)))
+
+pub returns-in-Equiv-clause-answers : goal.returns-in-Equiv-clause-answers
+returns-in-Equiv-clause-answers g c =
+    let S = g.S.Source in
+    rw c.in-Equiv.is (λ t k e. to_equiv k (source_of S.left S.faults c.args.source.now c.equiv_answer.new.source) c.equiv_answer.result e c.equiv_answer.ensures.answer c.equiv_answer.ensures.stops)
+
+pub returns-in-Equiv-clause-untouched : goal.returns-in-Equiv-clause-untouched
+returns-in-Equiv-clause-untouched g c = rw c.in-Equiv.is (λ n. absurd (n (tt, tt)))
+
+pub returns-in-Audit-clause-answers : goal.returns-in-Audit-clause-answers
+returns-in-Audit-clause-answers g c =
+    let S = g.S.Source in
+    rw c.in-Audit.is (λ t k e. to_audit k (source_of S.left S.faults c.args.source.now c.audit_answer.new.source) c.audit_answer.result e c.audit_answer.ensures.answer c.audit_answer.ensures.stops)
+
+pub returns-in-Audit-clause-untouched : goal.returns-in-Audit-clause-untouched
+returns-in-Audit-clause-untouched g c = rw c.in-Audit.is (λ n. absurd (n (tt, tt)))
 
 pub returns-in-Generate-clause-answers : goal.returns-in-Generate-clause-answers
 returns-in-Generate-clause-answers g c =

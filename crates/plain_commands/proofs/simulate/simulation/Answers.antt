@@ -1,17 +1,13 @@
-use Rattle.std.proofs.Common.{refl}
-use Rattle.program_answer.proofs.Starting.{versions-start}
-use Rattle.plain_commands.proofs.Simulating.{starts, simulated, stopped}
+use Rattle.std.proofs.Common.{List, refl, subst}
+use Rattle.world_core.specs.declared.event.Event.{Event}
+use Rattle.program_answer.specs.Worlds.{IsWorldAnswer}
 use Rattle.plain_commands.proofs.simulate.simulation.Goals as goal
-
-pub start-requires-clause-versions : goal.start-requires-clause-versions
-start-requires-clause-versions c = versions-start _ _ _ _ c.requires.sound.stamps c.requires.sound.policies c.requires.versions
 
 pub returns-clause-answer : goal.returns-clause-answer
 returns-clause-answer c =
-    simulated c.args.document c.args.versions.items c.in_ok-world.world c.deref.result.now c.deref-2.result.now c.report.result
-    (starts c.args.document c.args.versions.items c.in_ok-world.world _ _ _ c.deref.result.now c.deref-2.result.now c.in_ok-world.ensures.world c.from-hops.ensures refl refl c.in_ok-world.ensures.runs c.deref.ensures.value c.deref-2.ensures.value) c.report.ensures.answer
-
-pub returns-clause-stop : goal.returns-clause-stop
-returns-clause-stop c =
-    stopped c.args.document c.args.versions.items c.in_ok-world.world c.deref.result.now c.deref-2.result.now c.report.result
-    (starts c.args.document c.args.versions.items c.in_ok-world.world _ _ _ c.deref.result.now c.deref-2.result.now c.in_ok-world.ensures.world c.from-hops.ensures refl refl c.in_ok-world.ensures.runs c.deref.ensures.value c.deref-2.ensures.value) c.report.ensures.stop
+    let told = subst (λ (es : List Event). IsWorldAnswer c.in_ok-outcome.outcome.world es c.in_ok-answer.answer) c.deref.ensures.value c.in_ok-answer.ensures in
+    record {
+      halts = _;
+      status = told.status;
+      simulation = record { events = c.in_ok-outcome.outcome.events.items; world = c.in_ok-outcome.outcome.world; outcome = c.in_ok-outcome.ensures.outcome; ends = refl; text_is = told.report };
+    }

@@ -1,0 +1,2 @@
+pub mod Equiv
+pub mod Compared

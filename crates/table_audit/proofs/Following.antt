@@ -1,0 +1,239 @@
+-- A switch with nothing left of its batch has the rows that the phase gives it.
+use Rattle.std.proofs.Common.{◌≡◌, ◌⊎◌, inl, inr, ℕ, zero, suc, ◌-◌, ◌≤◌, Bool, true, false, not, List, [], ◌∷◌, ◌++◌, length, map, refl, sym, ◌∙◌, ap, subst, Option, is_some, nat_lt, arith}
+use Rattle.std.proofs.lemmas.Bool.Decides.{nat_tests}
+use Rattle.nk_values.specs.declared.row.Row.{Row}
+use Rattle.nk_values.specs.declared.row.FlowMod.{FlowMod}
+use Rattle.nk_values.specs.Members.{IsIn, SameMembers}
+use Rattle.nk_values.proofs.MemberLaws.{in-left, in-right, in-either, in-flat_map, from-flat_map}
+use Rattle.topology_model.specs.Layouts.{Layout}
+use Rattle.topology_model.specs.Wired.{IsTopology}
+use Rattle.policy_rows.specs.declared.version.Version.{Version}
+use Rattle.openflow_wire.specs.declared.message.Message.{Message}
+use Rattle.session_core.specs.declared.session.SessionState.TheVariants as state
+use Rattle.switch_model.specs.declared.pending.Pending.{Pending}
+use Rattle.update_coordinator.specs.declared.cause.Cause.{Cause}
+use Rattle.update_coordinator.specs.Batches.{planned}
+use Rattle.update_coordinator.specs.Controls.{orders_of}
+use Rattle.update_laws.specs.Lines.{Changing}
+use Rattle.update_laws.specs.Updates.{Setting, IsSetting, Phase, Opening, Idle, Install, Flip, Drain, Clean, spot, inner, outer, begun, outer_begun, FlipBase, DrainBase, Base, batch, adds, flip_next, upper_of}
+use Rattle.update_laws.specs.Settings.{odd, setting_of, AreVersions}
+use Rattle.update_laws.specs.Fleets.{wire_of}
+use Rattle.update_laws.specs.Stages.{Stage, Away, Meeting, Asking, Telling, Sending, Waiting, Answered, Resting, IsAt, state_of, to_come, Left, IsLine, IsFullError, job}
+use Rattle.update_laws.specs.Wired.{Wire, numbered}
+use Rattle.update_laws.proofs.Batches.{changing-same}
+use Rattle.update_laws.proofs.Cuts.{take-whole, take-none}
+use Rattle.update_laws.proofs.Fleets.{end-here}
+use Rattle.update_laws.proofs.Made.{made}
+use Rattle.update_laws.proofs.Overlays.{in-take}
+use Rattle.update_laws.proofs.Phases.{Same, moves}
+use Rattle.world_core.specs.Worlds.{setting, IsKept}
+use Rattle.table_audit.specs.Laws.{IsError, TablesFollow}
+use Rattle.table_audit.proofs.Parts.{first, all_but, have, Piece, piece-of, of-piece}
+use Rattle.table_audit.proofs.Keys.{gives, planned-is}
+
+-- ---- parts of policies
+
+-- two parts together
+pieces : (t : Layout) (vs : List Version) (limit capacity : ℕ) → IsTopology t → AreVersions t vs → (old new : ℕ → ℕ) (o sw : ℕ) →
+    Same (λ r. Piece (odd o) (setting_of t vs limit capacity) o old sw r ⊎ Piece (odd (suc o)) (setting_of t vs limit capacity) (suc o) new sw r) (λ r. IsIn (have vs old o sw ++ have vs new (suc o) sw) r)
+pieces t vs limit capacity k a old new o sw = record {
+  front = λ r m. elim m [
+    | inl x ↦ in-left (have vs old o sw) (have vs new (suc o) sw) r (of-piece t vs limit capacity k a old o sw r x)
+    | inr x ↦ in-right (have vs old o sw) (have vs new (suc o) sw) r (of-piece t vs limit capacity k a new (suc o) sw r x)
+  ];
+  back = λ r m. elim (in-either (have vs old o sw) (have vs new (suc o) sw) r m) [
+    | inl x ↦ inl (piece-of t vs limit capacity k a old o sw r x)
+    | inr x ↦ inr (piece-of t vs limit capacity k a new (suc o) sw r x)
+  ];
+}
+
+joined : {P Q R : Row → Type 0} → Same P Q → Same Q R → Same P R
+joined f g = record { front = λ r m. g.front r (f.front r m); back = λ r m. f.back r (g.back r m) }
+
+turned : {P Q : Row → Type 0} → Same P Q → Same Q P
+turned f = record { front = f.back; back = f.front }
+
+-- where a list comes in its first rows, and where it goes all but its last
+flip-pieces : (d : Bool) (c : Setting) (o k sw : ℕ) →
+    Same (λ r. (IsIn (inner c o sw) r ⊎ IsIn (inner c (suc o) sw) r) ⊎ FlipBase (not d) c o k sw r) (λ r. Piece d c o (λ n. n - k) sw r ⊎ Piece (not d) c (suc o) (λ n. k) sw r)
+flip-pieces true c o k sw = record {
+  front = λ r m. elim m [ inl x ↦ elim x [ inl y ↦ inl (inl y) | inr y ↦ inr (inl y) ] | inr x ↦ elim x [ inl y ↦ inr (inr y) | inr y ↦ inl (inr y) ] ];
+  back = λ r m. elim m [ inl x ↦ elim x [ inl y ↦ inl (inl y) | inr y ↦ inr (inr y) ] | inr x ↦ elim x [ inl y ↦ inl (inr y) | inr y ↦ inr (inl y) ] ];
+}
+flip-pieces false c o k sw = record {
+  front = λ r m. elim m [ inl x ↦ elim x [ inl y ↦ inl (inl y) | inr y ↦ inr (inl y) ] | inr x ↦ elim x [ inl y ↦ inl (inr y) | inr y ↦ inr (inr y) ] ];
+  back = λ r m. elim m [ inl x ↦ elim x [ inl y ↦ inl (inl y) | inr y ↦ inr (inl y) ] | inr x ↦ elim x [ inl y ↦ inl (inr y) | inr y ↦ inr (inr y) ] ];
+}
+
+-- a beginning that is all of each list, and one that is none
+begun-all : (c : Setting) (v : ℕ) (f : ℕ → ℕ) (sw : ℕ) → ((pt : ℕ) → IsIn (c.edge sw) pt → length (c.rows_at v (spot sw pt)) ≤ f (length (c.rows_at v (spot sw pt)))) → Same (λ r. IsIn (outer c v sw) r) (λ r. IsIn (outer_begun c v f sw) r)
+begun-all c v f sw le = record {
+  front = λ r m.
+      let x = from-flat_map (λ b. c.rows_at v (spot sw b)) (c.edge sw) r m in
+      in-flat_map (λ b. begun f (c.rows_at v (spot sw b))) (c.edge sw) x.0 r x.1 (take-whole (f (length (c.rows_at v (spot sw x.0)))) (c.rows_at v (spot sw x.0)) r (le x.0 x.1) x.2);
+  back = λ r m.
+      let x = from-flat_map (λ b. begun f (c.rows_at v (spot sw b))) (c.edge sw) r m in
+      in-flat_map (λ b. c.rows_at v (spot sw b)) (c.edge sw) x.0 r x.1 (in-take (f (length (c.rows_at v (spot sw x.0)))) (c.rows_at v (spot sw x.0)) r x.2);
+}
+
+begun-none : (c : Setting) (v : ℕ) (f : ℕ → ℕ) (sw : ℕ) → ((pt : ℕ) → IsIn (c.edge sw) pt → f (length (c.rows_at v (spot sw pt))) ≡ 0) → (r : Row) → IsIn (outer_begun c v f sw) r → ⊥
+begun-none c v f sw z r m =
+    let x = from-flat_map (λ b. begun f (c.rows_at v (spot sw b))) (c.edge sw) r m in
+    take-none (f (length (c.rows_at v (spot sw x.0)))) (c.rows_at v (spot sw x.0)) r (z x.0 x.1) x.2
+
+-- all of what comes in is there, and nothing of what goes
+record Ended (d : Bool) (c : Setting) (o sw : ℕ) (f g : ℕ → ℕ) : Type 0 where
+  gone : d ≡ true → (pt : ℕ) → IsIn (c.edge sw) pt → f (length (c.rows_at o (spot sw pt))) ≡ 0
+  come : d ≡ false → (pt : ℕ) → IsIn (c.edge sw) pt → length (c.rows_at (suc o) (spot sw pt)) ≤ g (length (c.rows_at (suc o) (spot sw pt)))
+
+drain-pieces : (d : Bool) (c : Setting) (o sw : ℕ) (f g : ℕ → ℕ) → Ended d c o sw f g →
+    Same (λ r. (IsIn (inner c o sw) r ⊎ IsIn (inner c (suc o) sw) r) ⊎ DrainBase (not d) c o sw r) (λ r. Piece d c o f sw r ⊎ Piece (not d) c (suc o) g sw r)
+drain-pieces true c o sw f g h = record {
+  front = λ r m. elim m [ inl x ↦ elim x [ inl y ↦ inl (inl y) | inr y ↦ inr (inl y) ] | inr x ↦ inr (inr x) ];
+  back = λ r m. elim m [ inl x ↦ elim x [ inl y ↦ inl (inl y) | inr y ↦ absurd (begun-none c o f sw (h.gone refl) r y) ] | inr x ↦ elim x [ inl y ↦ inl (inr y) | inr y ↦ inr y ] ];
+}
+drain-pieces false c o sw f g h =
+    let all = begun-all c (suc o) g sw (h.come refl) in
+    record {
+      front = λ r m. elim m [ inl x ↦ elim x [ inl y ↦ inl (inl y) | inr y ↦ inr (inl y) ] | inr x ↦ elim x [ inl y ↦ inl (inr y) | inr y ↦ inr (inr (all.front r y)) ] ];
+      back = λ r m. elim m [ inl x ↦ elim x [ inl y ↦ inl (inl y) | inr y ↦ inr (inl y) ] | inr x ↦ elim x [ inl y ↦ inl (inr y) | inr y ↦ inr (inr (all.back r y)) ] ];
+    }
+
+-- a policy alone
+idle-pieces : (d : Bool) (c : Setting) (v sw : ℕ) → Same (λ r. IsIn (inner c v sw) r ⊎ IsIn (outer c v sw) r) (λ r. Piece d c v (λ n. n - 0) sw r)
+idle-pieces true c v sw =
+    let all = begun-all c v (λ n. n - 0) sw (λ pt m. omega arith) in
+    record { front = λ r m. elim m [ inl x ↦ inl x | inr x ↦ inr (all.front r x) ]; back = λ r m. elim m [ inl x ↦ inl x | inr x ↦ inr (all.back r x) ] }
+idle-pieces false c v sw = record { front = λ r m. m; back = λ r m. m }
+
+no-more : (k n : ℕ) → nat_lt (suc k) n ≡ false → n ≤ suc k
+no-more k n e = grind (arith, nat_tests)
+
+-- ---- what a batch leaves is what the phase gives
+
+-- once nothing of its batch is left
+abbrev Over : Setting → Phase → ℕ → List Row → Type 0
+Over c ph sw rows = Changing (adds c ph) (Base c ph sw) (batch c ph sw) (λ r. ⊥) rows
+
+-- the rows of the phase, where it has no batch
+still-rows : (P : Row → Type 0) (rows : List Row) → Changing true P [] (λ r. ⊥) rows → Same P (λ r. IsIn rows r)
+still-rows P rows t = record { front = λ r m. t.old r m; back = λ r m. elim (t.only r m) [ inl x ↦ x | inr x ↦ absurd x ] }
+
+given : (t : Layout) (vs : List Version) (limit capacity : ℕ) → IsTopology t → AreVersions t vs → (ph : Phase) (sw : ℕ) (rows : List Row) → Over (setting_of t vs limit capacity) ph sw rows → Same (λ r. IsIn (gives vs ph sw) r) (λ r. IsIn rows r)
+given t vs limit capacity k a ph sw rows over = by_phase ph over
+  where
+    c : Setting
+    c = setting_of t vs limit capacity
+
+    q : IsSetting c
+    q = made t vs limit capacity k a
+
+    one : (v : ℕ) → Same (λ r. IsIn (have vs (all_but 0) v sw) r) (λ r. IsIn (inner c v sw) r ⊎ IsIn (outer c v sw) r)
+    one v = joined (record { front = λ r m. piece-of t vs limit capacity k a (all_but 0) v sw r m; back = λ r m. of-piece t vs limit capacity k a (all_but 0) v sw r m }) (turned (idle-pieces (odd v) c v sw))
+
+    begun-flip : (o n : ℕ) → Same (λ r. IsIn (have vs (all_but n) o sw ++ have vs (first n) (suc o) sw) r) (λ r. (IsIn (inner c o sw) r ⊎ IsIn (inner c (suc o) sw) r) ⊎ FlipBase (c.high (suc o)) c o n sw r)
+    begun-flip o n = joined (turned (pieces t vs limit capacity k a (all_but n) (first n) o sw)) (turned (flip-pieces (odd o) c o n sw))
+
+    ended-flip : (o : ℕ) (old new : ℕ → ℕ) → Ended (odd o) c o sw old new → Same (λ r. IsIn (have vs old o sw ++ have vs new (suc o) sw) r) (λ r. (IsIn (inner c o sw) r ⊎ IsIn (inner c (suc o) sw) r) ⊎ DrainBase (c.high (suc o)) c o sw r)
+    ended-flip o old new h = joined (turned (pieces t vs limit capacity k a old new o sw)) (turned (drain-pieces (odd o) c o sw old new h))
+
+    -- no list has more rows than there are rounds
+    longest : (o : ℕ) (d : Bool) → odd o ≡ d → (pt : ℕ) → IsIn (c.edge sw) pt → length (c.rows_at (upper_of (not d) o) (spot sw pt)) ≤ c.rounds o
+    longest o d e pt m = subst (λ (b : Bool). length (c.rows_at (upper_of (not b) o) (spot sw pt)) ≤ c.rounds o) e (q.longest o sw pt m)
+
+    last-round : (o n : ℕ) → c.rounds o ≤ suc n → Ended (odd o) c o sw (all_but (suc n)) (first (suc n))
+    last-round o n l = record {
+      gone = λ e pt m. let h = longest o true e pt m in omega (arith, h, l);
+      come = λ e pt m. let h = longest o false e pt m in omega (arith, h, l);
+    }
+
+    -- the first policy has nothing before it
+    first-idle : Same (λ r. (IsIn (inner c 0 sw) r ⊎ IsIn (inner c 1 sw) r) ⊎ DrainBase (c.high 1) c 0 sw r) (λ r. IsIn (inner c 1 sw) r ⊎ IsIn (outer c 1 sw) r)
+    first-idle = record {
+      front = λ r m. elim m [ inl x ↦ elim x [ inl y ↦ absurd (none-inner r y) | inr y ↦ inl y ] | inr x ↦ elim x [ inl y ↦ absurd (none-outer r y) | inr y ↦ inr y ] ];
+      back = λ r m. elim m [ inl x ↦ inl (inr x) | inr x ↦ inr (inr x) ];
+    }
+      where
+        none-inner : (r : Row) → IsIn (inner c 0 sw) r → ⊥
+        none-inner r m = let x = from-flat_map (λ b. c.rows_at 0 (spot sw b)) (c.linked sw) r m in subst (λ (rs : List Row). IsIn rs r) (q.none (spot sw x.0)) x.2
+
+        none-outer : (r : Row) → IsIn (outer c 0 sw) r → ⊥
+        none-outer r m = let x = from-flat_map (λ b. c.rows_at 0 (spot sw b)) (c.edge sw) r m in subst (λ (rs : List Row). IsIn rs r) (q.none (spot sw x.0)) x.2
+
+    flip-over : (o n : ℕ) (b : Bool) → nat_lt (suc n) (c.rounds o) ≡ b → (p : ℕ) → p ≡ o → Same (Base c (flip_next b p n) sw) (λ r. IsIn rows r) → Same (λ r. IsIn (have vs (all_but (suc n)) o sw ++ have vs (first (suc n)) (suc o) sw) r) (λ r. IsIn rows r)
+    flip-over o n true e p same h = joined (begun-flip o (suc n)) (subst (λ (z : ℕ). Same (Base c (Flip z (suc n)) sw) (λ r. IsIn rows r)) same h)
+    flip-over o n false e zero same h =
+        joined (ended-flip o (all_but (suc n)) (first (suc n)) (last-round o n (no-more n (c.rounds o) e)))
+        (subst (λ (z : ℕ). Same (λ r. (IsIn (inner c z sw) r ⊎ IsIn (inner c (suc z) sw) r) ⊎ DrainBase (c.high (suc z)) c z sw r) (λ r. IsIn rows r)) same (joined first-idle h))
+    flip-over o n false e (suc p) same h =
+        joined (ended-flip o (all_but (suc n)) (first (suc n)) (last-round o n (no-more n (c.rounds o) e)))
+        (subst (λ (z : ℕ). Same (Base c (Drain z) sw) (λ r. IsIn rows r)) same h)
+
+    by_phase : (p : Phase) → Over c p sw rows → Same (λ r. IsIn (gives vs p sw) r) (λ r. IsIn rows r)
+    by_phase Opening h = record { front = λ r m. absurd m; back = λ r m. elim (h.only r m) [ inl x ↦ x | inr x ↦ x ] }
+    by_phase (Idle v) h = joined (one v) (still-rows (Base c (Idle v) sw) rows h)
+    by_phase (Install o) h = joined (begun-flip o 0) (moves c q (Install o) sw rows refl h)
+    by_phase (Flip o n) h = flip-over o n (nat_lt (suc n) (c.rounds o)) refl o refl (moves c q (Flip o n) sw rows refl h)
+    by_phase (Drain o) h =
+        joined (ended-flip o (first 0) (all_but 0) (record { gone = λ e pt m. refl; come = λ e pt m. omega arith })) (still-rows (Base c (Drain o) sw) rows h)
+    by_phase (Clean o) h = joined (one (suc o)) (moves c q (Clean o) sw rows refl h)
+
+-- ---- nothing is left
+
+nothing-to-come : (st : Stage) (js : List FlowMod) (due : Bool) (l : Wire) → IsAt st l → state.Up ≡ state_of st → l.site.unsent ≡ [] → l.there ≡ [] → (m : FlowMod) → IsIn (to_come js due st) m → ⊥
+nothing-to-come Away js due l at up unsent there m n = let e : state.Up ≡ state.Fresh = up in absurd (cc)
+nothing-to-come (Meeting x left) js due l at up unsent there m n = let e : state.Up ≡ state.Fresh = up in absurd (cc)
+nothing-to-come (Asking x left) js due l at up unsent there m n = let e : state.Up ≡ state.Greeted = up in absurd (cc)
+nothing-to-come Telling js due l at up unsent there m n = let e : state.Up ≡ state.Greeted = up in absurd (cc)
+nothing-to-come (Sending x []) js due l at up unsent there m n = n
+nothing-to-come (Sending x (y ∷ ys)) js due l at up unsent there m n =
+    let e : [] ≡ numbered x (orders_of (y ∷ ys)) = sym (λ i. there i ++ numbered l.site.sent (unsent i)) ∙ at.messages in
+    absurd (cc)
+nothing-to-come (Waiting x) js due l at up unsent there m n = n
+nothing-to-come (Answered x) js due l at up unsent there m n = n
+nothing-to-come Resting js due l at up unsent there m n = n
+
+-- no error is on its way
+no-errors : (errors before said behind back : List Message) → ((m : Message) → IsIn errors m → IsFullError m) → errors ≡ before ++ behind → back ≡ before ++ (said ++ behind) → ((m : Message) → IsIn back m → ¬ IsError m) → errors ≡ []
+no-errors [] before said behind back full parts is none = refl
+no-errors (x ∷ errors) before said behind back full parts is none =
+    let f = full x (inl refl) in
+    absurd (none x (subst (λ (ms : List Message). IsIn ms x) (sym is) (put (in-either before behind x (subst (λ (ms : List Message). IsIn ms x) parts (inl refl))))) (subst IsError (sym f.is) tt))
+  where
+    put : IsIn before x ⊎ IsIn behind x → IsIn (before ++ (said ++ behind)) x
+    put (inl m) = in-left before (said ++ behind) x m
+    put (inr m) = in-right before (said ++ behind) x (in-right said behind x m)
+
+-- the line of such a switch
+over-line : (c : Setting) (ph : Phase) (l : Wire) → IsLine c ph false l → l.site.session.state ≡ state.Up → l.site.unsent ≡ [] → l.there ≡ [] → l.switch.pending ≡ [] → ((m : Message) → IsIn l.back m → ¬ IsError m) → Over c ph l.switch.sw l.switch.table.rows
+over-line c ph l i up unsent there pending errors =
+    changing-same (adds c ph) (Base c ph l.switch.sw) (batch c ph l.switch.sw) (λ r. Left c ph l.switch.sw i.due i.stage i.held r ⊎ IsIn i.table.refused r) (λ r. ⊥) l.switch.table.rows
+    (λ r m. elim m [ inl x ↦ elim x.1 [ inl y ↦ nothing-to-come i.stage (job c ph l.switch.sw) i.due l i.at reached unsent there _ y | inr y ↦ none-held _ y ] | inr x ↦ none-refused r x ])
+    (λ r m. absurd m) i.table.changing
+  where
+    reached : state.Up ≡ state_of i.stage
+    reached = elim i.standing.state [ inl e ↦ absurd (cc) | inr e ↦ sym up ∙ e ]
+
+    none-held : (m : FlowMod) → IsIn i.held m → ⊥
+    none-held m n = subst (λ (ms : List FlowMod). IsIn ms m) (sym i.pending ∙ ap (map (λ (p : Pending). p.change)) pending) n
+
+    no-error : i.errors ≡ []
+    no-error = no-errors i.errors i.voice.before i.voice.said i.voice.behind l.back i.full i.voice.parts i.voice.is errors
+
+    none-refused : (r : Row) → IsIn i.table.refused r → ⊥
+    none-refused r m = elim i.table.excuse [
+      | inl e ↦ subst (λ (rs : List Row). IsIn rs r) e m
+      | inr f ↦ elim f [ inl e ↦ absurd (cc) | inr n ↦ n no-error ]
+    ]
+
+-- ---- of a world
+
+pub tables-follow : TablesFollow
+unfolding IsKept
+tables-follow w place s e k running at here done =
+    let h = end-here (setting w) w.fleet k.fleet place e here in
+    let l = subst (λ (o : Option Cause). IsLine (setting w) k.fleet.phase (is_some o) (wire_of w.fleet.control s h.reply e)) running (k.fleet.lines place s h.reply e at h.reply_at here) in
+    let over = over-line (setting w) k.fleet.phase (wire_of w.fleet.control s h.reply e) l done.up done.unsent done.there done.pending done.errors in
+    let same = given w.topology w.versions w.limit w.capacity k.topology k.versions k.fleet.phase e.switch.sw e.switch.table.rows over in
+    subst (λ (rs : List Row). SameMembers rs e.switch.table.rows) (sym ((λ i. planned (k.rows i) (k.fleet.is i) e.switch.sw) ∙ planned-is w.versions k.fleet.phase e.switch.sw))
+    (record { front = same.front; back = same.back })
