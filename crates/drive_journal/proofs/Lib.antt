@@ -1,0 +1,8 @@
+mod Counting
+mod Growing
+mod Reading
+mod Echoing
+mod Resting
+mod Greeting
+mod Ending
+pub mod Losing

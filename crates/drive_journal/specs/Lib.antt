@@ -1,0 +1,9 @@
+pub mod Steering
+pub mod Losses
+pub mod Journals
+pub mod Cuts
+pub mod Greetings
+pub mod Lasting
+pub mod Drives
+pub mod Elements
+pub mod Calls

@@ -1,0 +1,190 @@
+//! What the worker of an outside switch asks of a drive: each answer is decided by the state found.
+ghost use Rattle.std.specs.Prelude.{◌≡◌, ◌≢◌, ◌<◌, ◌↔◌, None, IfOk, OnErr, IsTrue, length};
+ghost use Rattle.worker_desk.specs.Answers.{CanBeWritten, GivesBack, OnNewEnd, OnShutNewEnd};
+ghost use Rattle.worker_desk.specs.Streams.{TellsWhereKnown};
+ghost use Rattle.openflow_wire.specs.Writing.{Fits};
+ghost use Rattle.drive_journal.specs.declared.element.Element.TheVariants as elements;
+ghost use Rattle.drive_journal.specs.Calls.{Gives, GivesEcho, GivesNext, IsAwaited, IsNext, Loses, RestsAs, HearsAs, RunsOut, Shuts, Tells};
+ghost use Rattle.drive_journal.specs.Drives.{Stops, echo_at};
+ghost use Rattle.drive_journal.specs.Journals.{told_before};
+
+use crate::drive::Drive;
+use crate::element::{Element, read_element};
+use crate::name::DriveName;
+use crate::refused::Refused;
+use crate::steering::Steering;
+use openflow_wire::{Message, WireFault};
+use outside_net::{Kind, Link, Receipt};
+use session_core::echo_reply;
+use std::alloc::{AllocError, Global};
+use worker_desk::{Given, Shut, Told};
+
+impl<L: DriveName, E: Link, Q: Receipt> Drive<L, E, Q> {
+    /// What the worker of the switch at a place is to do next: to stop; to send the answer to what it told last, or
+    /// the next message; to receive; or nothing. It receives if the switch owes a reply or did not greet yet.
+    /// Out of memory, the next message may be noted as sent.
+    pub fn give(&mut self, alloc: Global, place: usize) -> Result<Given<E>, AllocError>
+        requires { place < length L.start.sites }
+        ensures fits { IfOk result CanBeWritten }
+        ensures answer { IfOk result (Gives place self.old self.new) }
+        // Its session is the only one.
+        ensures same_end { IfOk result (OnNewEnd (λ _. ⊥)) }
+        ensures memory { OnErr result (RunsOut place self.old self.new) }
+    {
+        if self.stops(place) {
+            return Ok(Given::Stop);
+        }
+        if self.has_echo(place) {
+            return Ok(self.give_echo(place));
+        }
+        self.give_next(alloc, place)
+    }
+
+    // The answer that is still to be sent.
+    fn give_echo(&mut self, place: usize) -> Given<E>
+        requires place { place < length L.start.sites }
+        requires some { echo_at self.old place ≢ None }
+        ensures fits { CanBeWritten result }
+        ensures answer { GivesEcho place self.old self.new result }
+        ensures same_end { OnNewEnd (λ _. ⊥) result }
+    {
+        match self.take_echo(place) {
+            Some(message) => Given::Out {
+                message,
+                made: None,
+            },
+            None => unreachable!(),
+        }
+    }
+
+    // The next message, or what is to be done if there is none.
+    fn give_next(&mut self, alloc: Global, place: usize) -> Result<Given<E>, AllocError>
+        requires { place < length L.start.sites }
+        ensures fits { IfOk result CanBeWritten }
+        ensures answer { IfOk result (GivesNext place self.old self.new) }
+        ensures same_end { IfOk result (OnNewEnd (λ _. ⊥)) }
+        ensures memory { OnErr result (RunsOut place self.old self.new) }
+    {
+        match self.send(alloc, place) {
+            Ok(Some(message)) => Ok(Given::Out {
+                message,
+                made: Some(Kind::Send),
+            }),
+            Ok(None) => Err(AllocError),
+            Err(Refused::Memory(())) => Err(AllocError),
+            Err(Refused::NotEnabled(())) => Ok(self.rest(place)),
+        }
+    }
+
+    // What is to be done if nothing is to be sent.
+    fn rest(&self, place: usize) -> Given<E>
+        requires { place < length L.start.sites }
+        ensures answer { RestsAs place self.now result }
+        ensures same_end { OnNewEnd (λ _. ⊥) result }
+    {
+        if self.awaits(place) {
+            Given::Expect { made: None }
+        } else {
+            Given::Nothing { made: None }
+        }
+    }
+
+    // Whether a message of the switch at a place is to come.
+    fn awaits(&self, place: usize) -> bool
+        requires { place < length L.start.sites }
+        ensures { IsTrue result ↔ IsAwaited place self.now }
+    {
+        self.coordinator().owes(place) || !self.coordinator().has_greeted(place)
+    }
+
+    /// Takes the bytes of a message of the switch at a place, which came after k others, or those at which its stream
+    /// has a fault. What halts the coordinator has its end kept.
+    pub fn tell(&mut self, alloc: Global, place: usize, bytes: &[u8], end: E, k: u64) -> Told<E>
+        requires place { place < length L.start.sites }
+        requires name { E.named end ≡ place }
+        requires stream { TellsWhereKnown (E.received end) k bytes.now }
+        ensures answer { Tells place bytes.now k end self.old self.new result }
+        ensures back { GivesBack end result }
+    {
+        if self.told(place) as u64 != k {
+            return Told::Back { end, made: None };
+        }
+        match read_element(alloc, bytes) {
+            Element::Message(message) => self.hear(alloc, place, message, end),
+            Element::Fault(fault) => self.garble(place, fault, end),
+            Element::Rest => Told::Back { end, made: None },
+            Element::Memory => Told::Memory(end),
+        }
+    }
+
+    // Hears a message.
+    fn hear(&mut self, alloc: Global, place: usize, message: Message, end: E) -> Told<E>
+        requires place { place < length L.start.sites }
+        requires name { E.named end ≡ place }
+        requires fits { Fits message }
+        requires next { IsNext (told_before place self.old.held.journal) (E.received end) (elements.Message message) }
+        ensures answer { HearsAs place (elements.Message message) end self.old self.new result }
+        ensures back { GivesBack end result }
+    {
+        let Ok(reply) = echo_reply(alloc, &message) else {
+            return Told::Memory(end);
+        };
+        match self.cut(Steering::Heard(place, message), end) {
+            Ok(None) => Told::Kept,
+            Ok(Some(end)) => {
+                self.note_echo(place, reply);
+                Told::Back {
+                    end,
+                    made: Some(Kind::Heard),
+                }
+            }
+            Err(Refused::NotEnabled(end)) => Told::Back { end, made: None },
+            Err(Refused::Memory(end)) => Told::Memory(end),
+        }
+    }
+
+    // The stream has a fault.
+    fn garble(&mut self, place: usize, fault: WireFault, end: E) -> Told<E>
+        requires place { place < length L.start.sites }
+        requires name { E.named end ≡ place }
+        requires next { IsNext (told_before place self.old.held.journal) (E.received end) (elements.Fault fault) }
+        ensures answer { HearsAs place (elements.Fault fault) end self.old self.new result }
+        ensures back { GivesBack end result }
+    {
+        match self.cut(Steering::Garbled(place, fault), end) {
+            Ok(None) => Told::Kept,
+            Ok(Some(_)) => unreachable!(),
+            Err(Refused::NotEnabled(end)) => Told::Back { end, made: None },
+            Err(Refused::Memory(end)) => Told::Memory(end),
+        }
+    }
+
+    /// The end of the switch at a place failed: the session is lost, unless the coordinator has halted.
+    pub fn lost(&mut self, place: usize, end: E) -> Told<E>
+        requires place { place < length L.start.sites }
+        requires name { E.named end ≡ place }
+        requires failed { 0 < E.faults end }
+        ensures answer { Loses place end self.old self.new result }
+        ensures back { GivesBack end result }
+    {
+        match self.cut(Steering::Lost(place), end) {
+            Ok(None) => Told::Kept,
+            Ok(Some(_)) => unreachable!(),
+            Err(Refused::NotEnabled(end)) => Told::Back { end, made: None },
+            Err(Refused::Memory(end)) => Told::Memory(end),
+        }
+    }
+
+    /// Whether the worker of the switch at a place, whose end is closed, is to stop.
+    pub fn shut(&self, place: usize) -> Shut<E>
+        requires { place < length L.start.sites }
+        ensures answer { Shuts (Stops self.now place) result }
+        ensures same_end { OnShutNewEnd (λ _. ⊥) result }
+    {
+        if self.stops(place) {
+            Shut::Stop
+        } else {
+            Shut::Nothing
+        }
+    }
+}

@@ -1,0 +1,200 @@
+//! What lies under the one lock of a drive.
+ghost use Rattle.std.specs.Prelude.{◌≡◌, None, IfOk, replicate};
+
+use crate::name::DriveName;
+use crate::refused::Refused;
+use crate::steered::Steered;
+use crate::steering::Steering;
+use crate::updates::is_last;
+use openflow_wire::Message;
+use outside_net::{Link, Receipt};
+use std::alloc::{AllocError, Global};
+use std::marker::Model;
+use update_coordinator::Coordinator;
+
+/// A journal with its coordinator, whether the drive was closed, and the answers that are still to be sent.
+#[derive(Drop)]
+pub struct Drive<L: DriveName, E: Link, Q: Receipt> {
+    pub(crate) held: Steered<L, E, Q>,
+    pub(crate) closed: bool,
+    echoes: Vec<Option<Message>>,
+}
+
+impl<L: DriveName, E: Link, Q: Receipt> Model for Drive<L, E, Q> {
+    ghost use Rattle.std.specs.Prelude.{◌≡◌, length};
+    ghost use Rattle.drive_journal.specs.Drives.{DriveValue};
+    ghost use Rattle.drive_journal.specs.Elements.{AreFitting};
+
+    ghost Value = { DriveValue E Q };
+
+    ghost view = { λ d. record { held = d.held; closed = d.closed; echoes = d.echoes.items } };
+
+    ghost invariant = { λ d. AreFitting d.echoes.items × (length d.echoes.items ≡ length L.start.sites) };
+}
+
+impl<L: DriveName, E: Link, Q: Receipt> Drive<L, E, Q> {
+    ghost use Rattle.std.specs.Prelude.{◌≡◌, ◌≢◌, ◌<◌, ◌↔◌, ◌⊎◌, ◌++◌, ◌∷◌, [], None, Some, true, false, IsTrue, IfOk, IfErr, OnOk, OnErr, IfSome, length, replicate};
+    ghost use Rattle.openflow_wire.specs.Writing.{Fits};
+    ghost use Rattle.update_coordinator.specs.Calls.{drain_refusal};
+    ghost use Rattle.update_coordinator.specs.Sending.{MaySend};
+    ghost use Rattle.drive_journal.specs.declared.steering.Steering.TheVariants as steering;
+    ghost use Rattle.drive_journal.specs.Cuts.{Halts, HandsBack, IsAmong, Keeps, Refuses, Sends};
+    ghost use Rattle.drive_journal.specs.Drives.{IsBeside, Stops, answering, echo_at};
+    ghost use Rattle.drive_journal.specs.Journals.{IsWritable, MetBy, told_before};
+    ghost use Rattle.drive_journal.specs.Steering.{Steers};
+
+    /// A drive that begins: no answer is to be sent.
+    pub fn new(alloc: Global, held: Steered<L, E, Q>) -> Result<Drive<L, E, Q>, AllocError>
+        ensures { IfOk result (λ d. d ≡ record { held = held; closed = false; echoes = replicate (length L.start.sites) None }) }
+    {
+        let count = held.switch_count();
+        let echoes = no_echoes(alloc, count)?;
+        Ok(Drive {
+            held,
+            closed: false,
+            echoes,
+        })
+    }
+
+    /// The coordinator.
+    pub fn coordinator(&self) -> &Coordinator
+        ensures is { result.now ≡ self.now.held.control }
+        ensures count { length result.now.sites ≡ length L.start.sites }
+    {
+        self.held.coordinator()
+    }
+
+    /// How many messages of the switch at a place were heard.
+    pub fn told(&self, place: usize) -> usize
+        requires { place < length L.start.sites }
+        ensures { result ≡ told_before place self.now.held.journal }
+    {
+        self.held.told(place)
+    }
+
+    /// How many switches there are.
+    pub fn switch_count(&self) -> usize
+        ensures here { result ≡ length self.now.held.control.sites }
+        ensures start { result ≡ length L.start.sites }
+    {
+        self.held.switch_count()
+    }
+
+    /// Whether an answer is still to be sent to the switch at a place.
+    pub fn has_echo(&self, place: usize) -> bool
+        requires { place < length L.start.sites }
+        ensures { IsTrue result ↔ (echo_at self.now place ≢ None) }
+    {
+        self.echoes[place].is_some()
+    }
+
+    /// Takes the answer that is still to be sent to the switch at a place.
+    pub fn take_echo(&mut self, place: usize) -> Option<Message>
+        requires { place < length L.start.sites }
+        ensures is { result ≡ echo_at self.old place }
+        ensures fits { IfSome result Fits }
+        ensures taken { self.new ≡ answering self.old place None }
+    {
+        self.echoes[place].take()
+    }
+
+    /// Notes what is to be answered to the last message of the switch at a place.
+    pub fn note_echo(&mut self, place: usize, reply: Option<Message>)
+        requires place { place < length L.start.sites }
+        requires fits { IfSome reply Fits }
+        ensures { self.new ≡ answering self.old place reply }
+    {
+        self.echoes[place] = reply;
+    }
+
+    /// Sends the next message to the switch at a place. A copy of it is given, unless memory
+    /// runs out after the message was noted.
+    pub fn send(&mut self, alloc: Global, place: usize) -> Result<Option<Message>, Refused<()>>
+        requires { place < length L.start.sites }
+        ensures sent { IfOk result (λ copy. Sends place copy self.old.held self.new.held × IsBeside self.old self.new) }
+        ensures refused { IfErr result (Refuses (¬ MaySend place self.old.held.control)) }
+        ensures err { OnErr result (self.new ≡ self.old) }
+    {
+        self.held.send(alloc, place)
+    }
+
+    /// Does what came over an end.
+    pub fn cut(&mut self, event: Steering, end: E) -> Result<Option<E>, Refused<E>>
+        requires place { IsAmong (length L.start.sites) event }
+        requires met { MetBy E.named E.faults E.received self.old.held.journal event end }
+        requires fits { IsWritable event }
+        ensures step { OnOk result (Steers self.old.held.control event self.new.held.control) }
+        ensures refused { IfErr result (Refuses (self.old.held.control.halt ≢ None)) }
+        ensures journal { OnOk result (self.new.held.journal ≡ self.old.held.journal ++ event ∷ []) }
+        ensures kept { IfOk result (Keeps end self.old.held.ends self.new.held) }
+        ensures halts { IfOk result (λ back. Halts event → back ≡ None) }
+        ensures receipts { OnOk result (self.new.held.receipts ≡ self.old.held.receipts) }
+        ensures beside { OnOk result (IsBeside self.old self.new) }
+        ensures err { OnErr result (self.new ≡ self.old) }
+        ensures back { IfErr result (HandsBack end) }
+    {
+        self.held.cut(event, end)
+    }
+
+    /// Takes the report of a drain, and keeps it.
+    pub fn drained(&mut self, receipt: Q) -> Result<(), Refused<Q>>
+        ensures step { OnOk result (Steers self.old.held.control (steering.Drained (Q.stamped receipt)) self.new.held.control) }
+        ensures refused { IfErr result (Refuses (drain_refusal self.old.held.control (Q.stamped receipt) ≢ None)) }
+        ensures receipts { OnOk result (self.new.held.receipts ≡ self.old.held.receipts ++ receipt ∷ []) }
+        ensures err { OnErr result (self.new ≡ self.old) }
+        ensures back { IfErr result (HandsBack receipt) }
+    {
+        self.held.drained(receipt)
+    }
+
+    /// Whether the worker of the switch at a place is to stop.
+    pub fn stops(&self, place: usize) -> bool
+        requires { place < length L.start.sites }
+        ensures { IsTrue result ↔ Stops self.now place }
+    {
+        self.closed
+            || self.coordinator().halt().is_some()
+            || (is_last(self.coordinator())
+                && !self.has_echo(place)
+                && !self.coordinator().may_send(place))
+    }
+
+    /// Makes every worker stop: out of memory, or out of threads.
+    pub fn close(&mut self)
+        ensures { self.new ≡ record self.old { closed = true } }
+    {
+        self.closed = true;
+    }
+
+    /// Whether it was closed.
+    pub fn is_closed(&self) -> bool
+        ensures { result ≡ self.now.closed }
+    {
+        self.closed
+    }
+
+    /// The journal with all that was kept.
+    pub fn finish(self) -> Steered<L, E, Q>
+        ensures { result ≡ self.held }
+    {
+        let Drive {
+            held,
+            closed: _closed,
+            echoes: _echoes,
+        } = self;
+        held
+    }
+}
+
+// No answer to any of the switches.
+fn no_echoes(alloc: Global, count: usize) -> Result<Vec<Option<Message>>, AllocError>
+    ensures { IfOk result (λ v. v.items ≡ replicate count None) }
+{
+    let mut echoes = Vec::new(alloc);
+    for _ in 0..count {
+        let Ok(()) = echoes.push(None) else {
+            return Err(AllocError);
+        };
+    }
+    Ok(echoes)
+}

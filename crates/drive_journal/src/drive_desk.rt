@@ -1,0 +1,235 @@
+//! The one lock of a drive.
+ghost use Rattle.std.specs.Prelude.{◌≡◌, ◌<◌, None, IfSome, length};
+ghost use Rattle.drive_journal.specs.Drives.{IsOver};
+
+use crate::drive::Drive;
+use crate::moment::{is_done, moment_of};
+use crate::name::DriveName;
+use crate::refused::Refused;
+use crate::steered::Steered;
+use crate::updates::Next;
+use outside_net::{Link, Receipt};
+use std::alloc::{AllocError, Global};
+use std::sync::{Arc, Condvar, Mutex, MutexGuard, Wait};
+use std::thread;
+use std::time::{Clock, Duration};
+use worker_desk::{Desk, Given, Shut, Told};
+
+/// The worker of the switch at a place, from 0.
+#[derive(Clone, Copy, Debug, PartialEq, Eq)]
+pub struct DriveSeat {
+    pub place: usize,
+}
+
+/// A drive behind its one lock, as its workers share it. Each call locks once and asks the drive; what it answers is
+/// stated of the drive's own call of that name. A worker that is told there is nothing to do waits, with the lock given
+/// up, until a phase begins; after a second it is to receive for a moment, so that it hears what its switch sends unasked.
+#[derive(Drop)]
+pub struct DriveDesk<R, L: DriveName, E: Link, Q: Receipt> {
+    rt: R,
+    alloc: Global,
+    drive: Arc<Mutex<Option<Drive<L, E, Q>>>>,
+    bell: Arc<Condvar>,
+}
+
+// How long a worker with nothing to do waits, in milliseconds.
+const REST: u64 = 1000;
+
+// How long the caller waits before it asks for a report again, in milliseconds.
+const PAUSE: u64 = 10;
+
+impl<R: Wait + Clock + Drop, L: DriveName, E: Link, Q: Receipt> Desk for DriveDesk<R, L, E, Q> {
+    type Seat = DriveSeat;
+
+    type End = E;
+
+    ghost seated = { λ s. s.place < length L.start.sites };
+
+    ghost place = { λ s. s.place };
+
+    ghost place_of = { λ name. name };
+
+    ghost given = { λ s. None };
+
+    ghost told = { λ s. None };
+
+    ghost kept = { λ s. None };
+
+    fn give(&self, seat: &mut DriveSeat) -> Result<Given<E>, AllocError> {
+        let mut guard = self.drive.lock(&self.rt);
+        let given = match &mut *guard {
+            None => Ok(Given::Stop),
+            Some(drive) => drive.give(self.alloc, seat.place),
+        };
+        if is_idle(&given) && self.rest(guard) {
+            return Ok(Given::Expect { made: None });
+        }
+        given
+    }
+
+    fn tell(&self, seat: &mut DriveSeat, bytes: &[u8], end: E, k: u64) -> Told<E> {
+        let mut guard = self.drive.lock(&self.rt);
+        let before = moment_of(&guard);
+        let told = match &mut *guard {
+            None => Told::Back { end, made: None },
+            Some(drive) => drive.tell(self.alloc, seat.place, bytes, end, k),
+        };
+        let after = moment_of(&guard);
+        drop(guard);
+        if before != after {
+            self.bell.notify_all();
+        }
+        told
+    }
+
+    fn lost(&self, seat: &mut DriveSeat, end: E) -> Told<E> {
+        let told = match &mut *self.drive.lock(&self.rt) {
+            None => Told::Back { end, made: None },
+            Some(drive) => drive.lost(seat.place, end),
+        };
+        self.bell.notify_all();
+        told
+    }
+
+    fn shut(&self, seat: &mut DriveSeat) -> Shut<E> {
+        let guard = self.drive.lock(&self.rt);
+        let shut = match &*guard {
+            None => Shut::Stop,
+            Some(drive) => drive.shut(seat.place),
+        };
+        if matches!(shut, Shut::Nothing) {
+            self.rest(guard);
+        }
+        shut
+    }
+
+    fn close(&self, _seat: &mut DriveSeat) {
+        self.close_all();
+    }
+}
+
+impl<R: Wait + Clock + Drop, L: DriveName, E: Link, Q: Receipt> DriveDesk<R, L, E, Q> {
+    /// Locks a drive up.
+    pub fn new(
+        rt: R,
+        alloc: Global,
+        drive: Drive<L, E, Q>,
+    ) -> Result<DriveDesk<R, L, E, Q>, AllocError> {
+        Ok(DriveDesk {
+            rt,
+            alloc,
+            drive: Arc::new(alloc, Mutex::new(Some(drive)))?,
+            bell: Arc::new(alloc, Condvar::new())?,
+        })
+    }
+
+    /// The same lock, for another worker.
+    pub fn again(&self) -> Result<DriveDesk<R, L, E, Q>, AllocError>
+    where
+        R: Clone,
+    {
+        Ok(DriveDesk {
+            rt: self.rt.clone()?,
+            alloc: self.alloc,
+            drive: Arc::try_clone(&self.drive)?,
+            bell: Arc::try_clone(&self.bell)?,
+        })
+    }
+
+    /// The runtime that its calls wait by.
+    pub fn runtime(&self) -> &R {
+        &self.rt
+    }
+
+    /// The allocator of its calls.
+    pub fn alloc(&self) -> Global {
+        self.alloc
+    }
+
+    /// Begins the next update, or says what the caller is to do. It waits if there is nothing to do.
+    pub fn update(&self) -> Result<Next, AllocError> {
+        let mut guard = self.drive.lock(&self.rt);
+        let next = match &mut *guard {
+            None => Ok(Next::Stop),
+            Some(drive) => drive.update(),
+        };
+        match next {
+            Ok(Next::Nothing) => {
+                self.rest(guard);
+            }
+            Ok(Next::Step) => {
+                drop(guard);
+                self.bell.notify_all();
+            }
+            _ => {}
+        }
+        next
+    }
+
+    /// Waits a moment for a phase, with the lock given up.
+    pub fn pause(&self) {
+        self.rest_for(self.drive.lock(&self.rt), PAUSE);
+    }
+
+    /// Takes the report of a drain. It comes to nothing if the drive has halted.
+    pub fn drained(&self, receipt: Q) -> Result<(), AllocError> {
+        let done = match &mut *self.drive.lock(&self.rt) {
+            None => Ok(()),
+            Some(drive) => match drive.drained(receipt) {
+                Err(Refused::Memory(_)) => Err(AllocError),
+                _ => Ok(()),
+            },
+        };
+        self.bell.notify_all();
+        done
+    }
+
+    /// Makes every worker stop.
+    pub fn close_all(&self) {
+        match &mut *self.drive.lock(&self.rt) {
+            None => {}
+            Some(drive) => drive.close(),
+        }
+        self.bell.notify_all();
+    }
+
+    /// Waits until the drive is closed or over, and takes its journal out: none if it was closed.
+    pub fn finish(&self) -> Option<Steered<L, E, Q>>
+        ensures { IfSome result (λ h. IsOver h.control) }
+    {
+        for _ in self.rt.forever() {
+            let mut guard = self.drive.lock(&self.rt);
+            if is_done(&guard) {
+                if let Some(drive) = guard.take() {
+                    return if drive.is_closed() {
+                        None
+                    } else {
+                        Some(drive.finish())
+                    };
+                }
+            }
+            drop(guard);
+            thread::yield_now();
+        }
+        unreachable!()
+    }
+
+    // Waits for a phase with the lock given up, and says whether none began in this time.
+    fn rest(&self, guard: MutexGuard<'_, Option<Drive<L, E, Q>>>) -> bool {
+        self.rest_for(guard, REST)
+    }
+
+    // Waits for a phase, at most `most` milliseconds, and says whether none began in this time.
+    fn rest_for(&self, guard: MutexGuard<'_, Option<Drive<L, E, Q>>>, most: u64) -> bool {
+        let (guard, rested) = self
+            .bell
+            .wait_timeout(&self.rt, guard, Duration::from_millis(most));
+        drop(guard);
+        rested.timed_out()
+    }
+}
+
+// Whether there was nothing to do.
+fn is_idle<E>(given: &Result<Given<E>, AllocError>) -> bool {
+    matches!(given, Ok(Given::Nothing { made: None }))
+}

@@ -1,0 +1,27 @@
+//! The controller beside the journal of what it did and heard, and the one lock over which the workers of outside
+//! switches share both (SIGCOMM 2012, section 5).
+#![tactic(auto)]
+
+mod calls;
+mod drive;
+mod drive_desk;
+mod element;
+mod intake;
+mod laws;
+mod moment;
+mod name;
+mod parts;
+mod refused;
+mod steered;
+mod steering;
+mod updates;
+
+pub use drive::Drive;
+pub use drive_desk::{DriveDesk, DriveSeat};
+pub use element::Element;
+pub use laws::{a_lost_session_is_last, greetings_are_noted, starts_halt_at_loss};
+pub use name::DriveName;
+pub use refused::Refused;
+pub use steered::Steered;
+pub use steering::Steering;
+pub use updates::Next;

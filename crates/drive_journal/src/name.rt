@@ -1,0 +1,16 @@
+//! What a drive is named after.
+ghost use Rattle.std.specs.Prelude.{[]};
+ghost use Rattle.update_coordinator.specs.Controls.{Control};
+ghost use Rattle.update_coordinator.specs.Starts.{start};
+
+use std::marker::Brand;
+
+/// Names the start of a drive, in contracts alone.
+pub trait DriveName {
+    /// The coordinator at the start.
+    ghost start: { Control };
+}
+
+impl DriveName for Brand {
+    ghost start = { start [] [] 0 };
+}

@@ -1,0 +1,10 @@
+//! Events that did not happen.
+
+/// Why an event did not happen. What was handed in comes back.
+#[derive(Drop)]
+pub enum Refused<X> {
+    /// It cannot happen now.
+    NotEnabled(X),
+    /// Out of memory.
+    Memory(X),
+}

@@ -1,0 +1,106 @@
+//! The texts of drives.
+ghost use Rattle.std.specs.Prelude.{◌≡◌, ◌++◌, OnOk, IfOk, option_map, string_bytes};
+ghost use Rattle.openflow_wire.specs.Writing.{Fits};
+ghost use Rattle.drive_journal.specs.Journals.{AreWritable, IsWritable};
+ghost use Rattle.drive_text.specs.Drives.{drive_text, message_text, steering_line, steering_text, steerings_text};
+
+use bytes::BytesMut;
+use drive_journal::Steering;
+use openflow_wire::{Message, encode};
+use report_text::{fault_number, put_at, put_bytes, put_state};
+use std::alloc::{AllocError, Global};
+use std::fmt::Write;
+use topology_model::Site;
+use update_coordinator::{Cause, Phase};
+use value_text::Text;
+
+/// The events of a drive, in order, a line each, and then the phase and why the updates stand still, if they do. A
+/// message is told as its bytes (OpenFlow 1.0.0, section 5), two hexadecimal digits each. Switches go by their numbers,
+/// which `switches` has in the order of their places.
+pub fn drive_text(
+    alloc: Global,
+    switches: &[Site],
+    journal: &[Steering],
+    phase: Phase,
+    halt: Option<&Cause>,
+) -> Result<Text, AllocError>
+    requires { AreWritable journal.now }
+    ensures { IfOk result (λ t. t ≡ drive_text switches.now journal.now phase (option_map (λ c. c.now) halt.entry)) }
+{
+    let mut out = String::new(alloc);
+    put_journal(alloc, &mut out, switches, journal)?;
+    put_state(alloc, &mut out, phase, halt)?;
+    Ok(Text::new(out))
+}
+
+// Puts the lines of events at the end.
+fn put_journal(
+    alloc: Global,
+    out: &mut String,
+    switches: &[Site],
+    journal: &[Steering],
+) -> Result<(), AllocError>
+    requires { AreWritable journal.now }
+    ensures { OnOk result (string_bytes out.new ≡ string_bytes out.old ++ steerings_text switches.now journal.now) }
+{
+    for event in journal {
+        put_line(alloc, out, switches, event)?;
+    }
+    Ok(())
+}
+
+// Puts the line of an event at the end.
+fn put_line(
+    alloc: Global,
+    out: &mut String,
+    switches: &[Site],
+    event: &Steering,
+) -> Result<(), AllocError>
+    requires { IsWritable event.now }
+    ensures { OnOk result (string_bytes out.new ≡ string_bytes out.old ++ steering_line switches.now event.now) }
+{
+    out.push_str("e ")?;
+    put_event(alloc, out, switches, event)?;
+    out.push_str("\n")
+}
+
+// Puts an event at the end.
+fn put_event(
+    alloc: Global,
+    out: &mut String,
+    switches: &[Site],
+    event: &Steering,
+) -> Result<(), AllocError>
+    requires { IsWritable event.now }
+    ensures { OnOk result (string_bytes out.new ≡ string_bytes out.old ++ steering_text switches.now event.now) }
+{
+    match event {
+        Steering::Begin => out.push_str("begin"),
+        Steering::Send(place, message) => {
+            put_at(out, "send ", switches, *place)?;
+            put_message(alloc, out, message)
+        }
+        Steering::Heard(place, message) => {
+            put_at(out, "heard ", switches, *place)?;
+            put_message(alloc, out, message)
+        }
+        Steering::Drained(stamp) => write!(out, "drained {stamp}"),
+        Steering::Lost(place) => put_at(out, "lost ", switches, *place),
+        Steering::Garbled(place, fault) => {
+            put_at(out, "garbled ", switches, *place)?;
+            let number = fault_number(*fault);
+            write!(out, " {number}")
+        }
+    }
+}
+
+// Puts a blank and the bytes of a message at the end.
+fn put_message(alloc: Global, out: &mut String, message: &Message) -> Result<(), AllocError>
+    requires { Fits message.now }
+    ensures { OnOk result (string_bytes out.new ≡ string_bytes out.old ++ message_text message.now) }
+{
+    let mut bytes = BytesMut::new(alloc);
+    encode(message, &mut bytes)?;
+    out.push_str(" ")?;
+    put_bytes(out, bytes.as_slice())
+}

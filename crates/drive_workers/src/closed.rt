@@ -1,0 +1,85 @@
+//! A drive that names itself.
+ghost use Rattle.std.specs.Prelude.{◌≡◌, vec_len, length, IfOk, None};
+ghost use Rattle.drive_journal.specs.Drives.{IsOver};
+ghost use Rattle.drive_journal.specs.Journals.{AreWritable, IsSteered};
+ghost use Rattle.drive_journal.specs.Losses.{HaltsAtLoss};
+ghost use Rattle.drive_workers.specs.Ends.{AreEnds};
+ghost use Rattle.drive_workers.specs.Faults.{RunCause};
+
+use crate::crew::drive_fleet;
+use crate::fault::DriveFault;
+use drive_journal::{DriveName, Steered, Steering};
+use outside_net::{Gate, Link, Reporter, Spawner};
+use std::alloc::Global;
+use std::marker::Brand;
+use std::sync::{Arc, Wait};
+use std::time::Clock;
+use update_coordinator::Coordinator;
+
+/// Drives outside switches from this start until it is over, with a worker for each end. Gives the coordinator, the
+/// journal that led to it, the reports that were kept for drains, and the end that was kept if it has halted.
+pub fn run_drive<
+    R: Wait + Clock + Clone + Drop + Send + 'static,
+    E: Link + Send + 'static,
+    Q: Reporter,
+    G: Gate + Send + Sync + 'static,
+    T: Spawner,
+>(
+    rt: &R,
+    alloc: Global,
+    coordinator: Coordinator,
+    ends: Vec<E>,
+    reporter: &mut Q,
+    threads: &mut T,
+    gate: Arc<G>,
+) -> Result<(Coordinator, Vec<Steering>, Vec<Q::Receipt>, Vec<E>), DriveFault>
+where
+    Q::Receipt: Send + 'static,
+    requires runs { coordinator.halt ≡ None }
+    requires losses { HaltsAtLoss coordinator }
+    requires count { vec_len ends ≡ length coordinator.sites }
+    requires ends { AreEnds E.named E.received ends.items }
+    ensures journal { IfOk result (λ r. IsSteered E.named E.faults E.received Q.Receipt.stamped coordinator r.0 r.1.items r.2.items r.3.items) }
+    ensures writable { IfOk result (λ r. AreWritable r.1.items) }
+    ensures over { IfOk result (λ r. IsOver r.0) }
+    ensures cause { RunCause (T.faults threads.old) (T.faults threads.new) (Q.faults reporter.old) (Q.faults reporter.new) result }
+{
+    run_named::<Brand, R, E, Q, G, T>(rt, alloc, coordinator, ends, reporter, threads, gate)
+}
+
+fn run_named<
+    L: DriveName + Send + Sync + 'static,
+    R: Wait + Clock + Clone + Drop + Send + 'static,
+    E: Link + Send + 'static,
+    Q: Reporter,
+    G: Gate + Send + Sync + 'static,
+    T: Spawner,
+>(
+    rt: &R,
+    alloc: Global,
+    coordinator: Coordinator,
+    ends: Vec<E>,
+    reporter: &mut Q,
+    threads: &mut T,
+    gate: Arc<G>,
+) -> Result<(Coordinator, Vec<Steering>, Vec<Q::Receipt>, Vec<E>), DriveFault>
+where
+    Q::Receipt: Send + 'static,
+    requires start { coordinator ≡ L.start }
+    requires runs { coordinator.halt ≡ None }
+    requires losses { HaltsAtLoss coordinator }
+    requires count { vec_len ends ≡ length L.start.sites }
+    requires ends { AreEnds E.named E.received ends.items }
+    ensures journal { IfOk result (λ r. IsSteered E.named E.faults E.received Q.Receipt.stamped L.start r.0 r.1.items r.2.items r.3.items) }
+    ensures writable { IfOk result (λ r. AreWritable r.1.items) }
+    ensures over { IfOk result (λ r. IsOver r.0) }
+    ensures cause { RunCause (T.faults threads.old) (T.faults threads.new) (Q.faults reporter.old) (Q.faults reporter.new) result }
+{
+    let Ok(held) = Steered::<L, E, Q::Receipt>::make(alloc, coordinator) else {
+        return Err(DriveFault::Memory);
+    };
+    match drive_fleet(rt, alloc, held, ends, reporter, threads, gate) {
+        Ok(held) => Ok(held.parts()),
+        Err(fault) => Err(fault),
+    }
+}

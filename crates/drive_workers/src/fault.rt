@@ -1,0 +1,14 @@
+//! Drives that have no journal.
+
+/// Why a drive has no journal.
+#[derive(Clone, Copy, Debug, PartialEq, Eq)]
+pub enum DriveFault {
+    /// A port could not be opened.
+    Net,
+    /// A thread could not be made.
+    NoThread,
+    /// The reporter failed.
+    Report,
+    /// Out of memory.
+    Memory,
+}

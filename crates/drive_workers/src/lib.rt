@@ -1,0 +1,20 @@
+//! The workers of outside switches, and a drive of all of them (SIGCOMM 2012, section 5).
+#![tactic(auto)]
+
+mod caller;
+mod closed;
+mod crew;
+mod ends;
+mod fault;
+mod kept;
+mod over;
+mod worker;
+
+pub use caller::steer;
+pub use closed::run_drive;
+pub use crew::drive_fleet;
+pub use ends::{meet_ends, port_at};
+pub use fault::DriveFault;
+pub use kept::take_back;
+pub use over::drive_over;
+pub use worker::DriveWorker;
