@@ -4,19 +4,11 @@ from __future__ import annotations
 
 from typing import Optional
 
+from netkat import value_text
+
 from .document import Document, Packet, packet_of
 from .policy import HEADER
 from .world import At, Event, World
-
-
-def value_text(name: str, value: int) -> str:
-    if name == "ethTyp":
-        return f"0x{value:04x}"
-    if name in ("ethSrc", "ethDst"):
-        return ":".join(f"{byte:02x}" for byte in value.to_bytes(6, "big"))
-    if name in ("ip4Src", "ip4Dst"):
-        return ".".join(str(byte) for byte in value.to_bytes(4, "big"))
-    return str(value)
 
 
 def place_text(place: tuple[int, int]) -> str:
