@@ -6,15 +6,18 @@ use crate::reader::Reader;
 use bytes::BytesMut;
 use netkat_parser::{Place, PolicyReader};
 
-/// Where reading stands: at a line of the document; at a line of a policy's text, which began at a line; inside of
-/// a line of one, which is not its `end` line; behind its `end` line, where the policy is still to be made; or behind
-/// the first fault.
+/// What is read next. The number in `Text`, `Inside` and `Closing` is the line at which the policy began.
 #[derive(Clone, Copy, Debug)]
 pub enum Spot {
+    /// A line of the document.
     Line,
+    /// A line of a policy's text.
     Text(u64),
+    /// The rest of a line of a policy's text, which is not its `end` line.
     Inside(u64),
+    /// Nothing yet: the `end` line was read, and the policy is still to be made.
     Closing(u64),
+    /// Nothing more: the first fault was met.
     Refused(DocFault),
 }
 

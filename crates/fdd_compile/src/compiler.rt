@@ -46,8 +46,8 @@ impl Compiler {
     }
 }
 
-/// The split diagram of a policy, or the first of the reasons against it: the leftmost `dup`, assignment to sw, or
-/// assignment to ethTyp or ipProto; the first star that is deep; a well-shaped packet with a result that is not.
+/// The split diagram of a policy, or the first reason against it. In order, these are the leftmost `dup` or assignment to
+/// sw, ethTyp or ipProto; the first star that is deep; and a well-shaped packet with a result that is not.
 pub fn compile(alloc: Global, pol: &Pol) -> Result<Compiled, CompileError>
     requires { AreFewNamed (TermNames (term_of pol.now)) }
     ensures told { MatchResult result (λ c. CompiledOf (term_of pol.now) (diagram_of c)) (λ e. Refuses (term_of pol.now) e) }

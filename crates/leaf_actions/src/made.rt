@@ -19,9 +19,9 @@ use fdd_nodes::{Cell, Leaf, Path};
 use nk_values::{Action, Actions, Field, IN_PORT, Packet, PortKind};
 use std::alloc::{AllocError, Global};
 
-/// Why no list of actions makes all copies, since none gives a field back its original number: two copies, `a`
-/// before `b` in the order of listing, that each set a header field which the other leaves and the path does not fix,
-/// with each its first such field.
+/// Why no list of actions makes all copies: no action gives a field back its original number. The copies `a` and `b`, in
+/// the order of listing, each set a header field which the other leaves and the path does not fix. The first such field of
+/// each is told.
 #[derive(Drop)]
 pub struct ActionsFault {
     pub a: Route,
@@ -48,9 +48,9 @@ impl From<AllocError> for ActionsError {
     }
 }
 
-/// The actions that make the copies of a leaf, for the packets of a path at a port (OpenFlow 1.0.0, 5.2.4): copies to ports
-/// that are not declared are left out, and the others are listed by the number of header fields that they set and the path
-/// does not fix, then by port and assignments. The error carries the first two copies that no order makes both.
+/// The actions that make the copies of a leaf, for the packets of a path at a port (OpenFlow 1.0.0, 5.2.4). Copies to ports
+/// that are not declared are left out. The others are listed by the number of header fields that they set and the path does
+/// not fix, then by port and assignments. The error carries the first two copies that no order makes both.
 pub fn actions(
     alloc: Global,
     path: &Path,

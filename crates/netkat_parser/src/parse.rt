@@ -23,9 +23,9 @@ use std::alloc::Global;
 /// atom     = "skip" | "drop" | "dup" | field "=" value | field ":=" value | "(" policy ")"
 /// ```
 ///
-/// A value is 1 to 20 decimal digits, or `0x` and 1 to 16 hexadecimal ones; for ethSrc and ethDst
-/// also six pairs of hexadecimal digits joined by `:`, for ip4Src and ip4Dst four numbers of 1 to
-/// 3 digits, each at most 255, joined by `.`.
+/// A value is 1 to 20 decimal digits, or `0x` and 1 to 16 hexadecimal ones. For ethSrc and ethDst it may also be six pairs
+/// of hexadecimal digits joined by `:`, and for ip4Src and ip4Dst four numbers of 1 to 3 digits, each at most 255, joined
+/// by `.`.
 pub fn parse_policy(alloc: Global, text: &[u8]) -> Result<Pol, ParseError>
     ensures read { IfOk result (λ pol. IsText text.now (term_of pol)) }
     ensures fault { (f : Located) → result ≡ Err (ParseError.Fault f) → HasFault text_start text.now f }

@@ -26,10 +26,10 @@ pub struct Standing<'a> {
     pub arrivals: &'a [Arrival],
 }
 
-/// The events that were done, in order, and how the network stands then: the phase, why the updates stand
-/// still, if they do, and for each packet that came in, from 1 on, a line `done` for each finished history and
-/// then a line `open` for each copy in flight, sorted by bytes, equal lines once. Events tell a switch by its
-/// number, and nothing where there is none at their place; a copy of no packet that came in is left out.
+/// The events that were done, in order, and how the network stands then: the phase, and the cause of a halt, if there is
+/// one. For each packet that came in, from 1 on, a line `done` follows for each finished history, and then a line `open` for
+/// each copy in flight. These lines are sorted by bytes, equal lines once. Events tell a switch by its number, and nothing
+/// if none is at their place. A copy of no packet that came in is left out.
 pub fn report_text(
     alloc: Global,
     standing: &Standing<'_>,

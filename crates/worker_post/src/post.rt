@@ -308,9 +308,9 @@ impl<'a, D: Desk, G: Gate> Post<'a, D, G> {
     }
 
     /// Works until it is to stop, one session after the other, each over an end of its own. An end that was not kept
-    /// comes back. Over the end of each session went just the encodings of the messages that the desk gave in it, in
-    /// order, the last perhaps in part; and what was told in it is, in order, a prefix of the stream that this end
-    /// received. Of an end that was kept this is so if the desk tells it.
+    /// comes back. Over the end of each session went exactly the encodings of the messages that the desk gave in it, in
+    /// order, the last perhaps in part. What was told in it is, in order, a prefix of the stream that this end received. Of an
+    /// end that was kept this is so if the desk tells it.
     pub fn work<R: Wait>(&self, rt: &R, seat: &mut D::Seat, end: D::End) -> Option<D::End>
         requires seat { D.seated seat.old × (D.place_of (D.End.named end) ≡ D.place seat.old) }
         requires fresh { IfSome (D.End.received end) (λ xs. xs ≡ []) }

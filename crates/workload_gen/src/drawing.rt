@@ -17,10 +17,10 @@ use world_core::{Event, StepFault, World};
 
 /// Lets these packets come in and does the updates of a world by drawn events, until none can happen, and gives the
 /// events. In each turn one word is drawn, and of the events that can happen the one with the number that the word
-/// leaves when it is divided by their count, from 0, is done. They are counted switch by switch (the coordinator hears
-/// it, it answers its barrier, it applies a flow mod that is pending, it takes a message, one is sent to it), then come
-/// the hops of the copies in flight, the arrival of the next packet, the beginning of the next update, and the report
-/// that no copy carries the stamp that is to be drained. Where memory runs out, some of the events are done.
+/// leaves when it is divided by their count, from 0, is done. They are counted switch by switch: the coordinator hears it,
+/// it answers its barrier, it applies a flow mod that is pending, it takes a message, one is sent to it. Then come the hops
+/// of the copies in flight, the arrival of the next packet, the beginning of the next update, and the report of the drain.
+/// If memory runs out, some of the events are done.
 pub fn draw(
     alloc: Global,
     world: &mut World,
