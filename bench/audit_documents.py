@@ -126,7 +126,7 @@ def moved_in(lines: list[str], policies: list[str], events: list[str]) -> str:
 
 
 def crowded(sources: int, targets: int) -> str:
-    """One switch with so many sources by so many destinations at each of four ports."""
+    """One switch with some sources by some destinations at each of four ports."""
     tests = ["(" + " + ".join(f"{name}={n}" for n in range(1, count + 1)) + ")" for name, count in (("ethSrc", sources), ("ethDst", targets))]
     return moved_in(["switch 1 ports 1 2 3 4"], ["; ".join([*tests, "pt:=2"])], ["settle", "begin", "settle"])
 

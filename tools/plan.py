@@ -95,7 +95,7 @@ class Phase:
 
 
 def read_phase(text: str) -> Phase:
-    """A phase as a report has it behind the word `phase`: `flip 2 1`."""
+    """A phase as a report has it after the word `phase`: `flip 2 1`."""
     name, *numbers = text.split()
     wanted = {"opening": 0, "flip": 2}.get(name, 1)
     if name not in ("opening", "idle", "install", "flip", "drain", "clean") or len(numbers) != wanted:
