@@ -2,7 +2,8 @@
 ghost use Rattle.std.specs.Prelude.{◌↔◌, IfOk, IsTrue, List};
 ghost use Rattle.nk_values.specs.declared.lit.Lit.{Lit};
 ghost use Rattle.nk_values.specs.Members.{IsIn};
-ghost use Rattle.fdd_split.specs.Bars.{Bars, Adds};
+ghost use Rattle.fdd_split.specs.Bars.{Bars, Adds, IsBarredBy};
+ghost use Rattle.fdd_split.specs.declared.bars.Bar.TheVariants as bar;
 
 use crate::bars::Bar;
 use fdd_nodes::Assignments;
@@ -15,6 +16,18 @@ pub(crate) fn are_barring(bars: &[Bar], l: &Lit) -> bool
 {
     for b in bars {
         if b.bars(l) {
+            return true;
+        }
+    }
+    false
+}
+
+/// Whether some bar bars all literals of the field with this place in the order of fields.
+pub(crate) fn bar_field(bars: &[Bar], place: u64) -> bool
+    ensures { IsTrue result → (x : Lit) → IsBarredBy (bar.Place place) x → Bars bars.now x }
+{
+    for b in bars {
+        if b.bars_field(place) {
             return true;
         }
     }

@@ -15,6 +15,7 @@ pub enum Bar {
 impl Bar {
     ghost use Rattle.nk_values.specs.declared.lit.Lit.{Lit};
     ghost use Rattle.fdd_split.specs.Bars.{IsBarredBy};
+    ghost use Rattle.fdd_split.specs.declared.bars.Bar.TheVariants as bar;
 
     /// Whether it bars a literal.
     pub(crate) fn bars(&self, l: &Lit) -> bool
@@ -23,6 +24,16 @@ impl Bar {
         match self {
             Bar::Place(place) => l.field().place() == *place,
             Bar::Literal(m) => m.is(l),
+        }
+    }
+
+    /// Whether it bars all literals of the field with this place.
+    pub(crate) fn bars_field(&self, place: u64) -> bool
+        ensures { IsTrue result → (x : Lit) → IsBarredBy (bar.Place place) x → IsBarredBy self.now x }
+    {
+        match self {
+            Bar::Place(barred) => *barred == place,
+            Bar::Literal(_) => false,
         }
     }
 

@@ -10,7 +10,7 @@ ghost use Rattle.fdd_store.specs.Stores.{Has, tree_at};
 ghost use Rattle.fdd_split.specs.Pairs.{FieldThreat, IsCandidate, IsFirstOf, IsFirstWith};
 ghost use Rattle.fdd_split.specs.Threats.{Threat, KeepsField};
 
-use crate::barring::are_barring;
+use crate::barring::{are_barring, bar_field};
 use crate::bars::Bar;
 use crate::pairs::meets_some;
 use fdd_nodes::Assignments;
@@ -54,6 +54,9 @@ fn field_threat(
     requires { (x : List Lit) → IsIn copies.now x → IsCopy x }
     ensures { IfOk result (λ o. IsFirstWith found (FieldThreat bars.now copies.now copies.now field) o) }
 {
+    if is_settled(bars, field, found) {
+        return Ok(found);
+    }
     if !has_candidate(bars, copies, field, found) {
         return Ok(found);
     }
@@ -97,6 +100,19 @@ fn has_candidate(bars: &[Bar], copies: &[Assignments], field: Field, found: Opti
         }
     }
     false
+}
+
+// Whether no literal of a field can be a threat before the one that was found: an earlier field has that one, or all
+// literals of the field are barred.
+fn is_settled(bars: &[Bar], field: Field, found: Option<Lit>) -> bool
+    ensures { IsTrue result → (x : Lit) → lit_field x ≡ field → ¬ IsCandidate bars.now x found }
+{
+    let place = field.place();
+    let is_behind = match found {
+        None => false,
+        Some(m) => m.field().place() < place,
+    };
+    is_behind || bar_field(bars, place)
 }
 
 // Whether a literal is not barred, and comes before the one that was found.
