@@ -3,14 +3,18 @@
 //! A row is written as `PRIORITY [exact] [in=PORT] [ethDst=ADDRESS] : PORT ..`, with the ports that it sends to; `exact` fixes each
 //! other field to 0. A line `plan ROW | ROW ..` gives the planned rows. `report ROW | ROW ..` is one reply with rows, `report more
 //! ROW | ROW ..` one that says that more come, and `other` a message of another kind. `audit` prints the verdict on the messages
-//! since the last one, or why they are no report. Any other line is printed as it is.
+//! since the last one, or why they are no report. `table N` asks a switch for its N rows, and prints how many replies it gives, how
+//! many bytes the first and the last one take, how many say that more come, and the verdict on them. Any other line is printed as
+//! it is.
 #![tactic(auto)]
 
 mod reports;
 mod rows;
+mod tables;
 
 use crate::reports::{Case, verdict_text};
 use crate::rows::{report, rows_of};
+use crate::tables::table_answer;
 use flow_audit::audit;
 use openflow_wire::Message;
 use std::alloc::{AllocError, Global};
@@ -50,6 +54,8 @@ fn answer(alloc: Global, case: &mut Case, line: &str) -> Result<Option<String>, 
         let verdict = audit(alloc, case.planned.rows(), &case.messages);
         case.messages.clear();
         Ok(Some(verdict_text(alloc, verdict)?))
+    } else if let Some(count) = line.strip_prefix("table ") {
+        Ok(Some(table_answer(alloc, count.parse().unwrap_or(0))?))
     } else {
         Ok(Some(line.to_string(alloc)?))
     }
