@@ -9,9 +9,9 @@ use Rattle.clap.specs.Lexer.{long_of, short_of}
 use Rattle.clap.specs.Walk.{Names, Rule, Text, Walk, nothing_held, walk_from, walked, walked_from}
 use Rattle.clap.specs.Simple.{Shape, built, built_leaf, inherited, marked_built, names_of, new_app, new_shape, on_top, subcommand_of, with_leaf_noted, with_rule}
 use Rattle.clap.proofs.OnLiterals.{clap_on_literals}
-use Rattle.command_line.specs.declared.command.Command.TheVariants.{Generate}
-use Rattle.command_line.specs.Commands.{is_plain, workload_number}
-use Rattle.command_line.specs.Form.{asked_by, form, number}
+use Rattle.command_line.specs.declared.command.Command.TheVariants.{Drive, Generate}
+use Rattle.command_line.specs.Commands.{base_port, is_plain, workload_number}
+use Rattle.command_line.specs.Form.{asked_by, base, form, number}
 
 -- ---- faults one behind another
 
@@ -61,6 +61,9 @@ leaf name = built_leaf (inherited (on_top with_leaf_noted (on_top marked_built f
 abbrev generate : Shape
 generate = built_leaf (inherited (on_top with_leaf_noted (on_top marked_built form)).top (with_rule (new_app (codes "generate")) number).top)
 
+abbrev drive : Shape
+drive = built_leaf (inherited (on_top with_leaf_noted (on_top marked_built form)).top (with_rule (new_app (codes "drive")) base).top)
+
 not-dashes : (x : Text) → is_plain x ≡ true → bytes_eq x (45 ∷ 45 ∷ []) ≡ false
 not-dashes [] p = refl
 not-dashes (c ∷ cs) p = let no = not-dash (c == 45) p in rw no
@@ -88,15 +91,15 @@ more-words name x zs p e = stray name x p (first-none _ _ (first-none _ _ e))
 
 -- ---- the word of the program's first level
 
-turn-other : (w : Text) → bytes_eq (codes "rules") w ≡ false → bytes_eq (codes "trace") w ≡ false → bytes_eq (codes "simulate") w ≡ false → bytes_eq (codes "equiv") w ≡ false → bytes_eq (codes "audit") w ≡ false → bytes_eq (codes "run") w ≡ false → bytes_eq (codes "generate") w ≡ false
+turn-other : (w : Text) → bytes_eq (codes "rules") w ≡ false → bytes_eq (codes "trace") w ≡ false → bytes_eq (codes "simulate") w ≡ false → bytes_eq (codes "equiv") w ≡ false → bytes_eq (codes "audit") w ≡ false → bytes_eq (codes "run") w ≡ false → bytes_eq (codes "generate") w ≡ false → bytes_eq (codes "drive") w ≡ false
     → bytes_eq w (45 ∷ 45 ∷ []) ≡ false → long_of w ≡ None → short_of w ≡ None → turn_fault (built form).top (names_of (built form)) (walk_from nothing_held) w ≡ stray_fault (built form).top
 unfolding clap_on_literals
-turn-other w a b c q u d f g h i = rw (a, b, c, q, u, d, f, g, h, i)
+turn-other w a b c q u d f g h i j = rw (a, b, c, q, u, d, f, g, h, i, j)
 
-other-word : (n w : Text) (rest : List Text) → bytes_eq (codes "rules") w ≡ false → bytes_eq (codes "trace") w ≡ false → bytes_eq (codes "simulate") w ≡ false → bytes_eq (codes "equiv") w ≡ false → bytes_eq (codes "audit") w ≡ false → bytes_eq (codes "run") w ≡ false → bytes_eq (codes "generate") w ≡ false → is_plain w ≡ true
+other-word : (n w : Text) (rest : List Text) → bytes_eq (codes "rules") w ≡ false → bytes_eq (codes "trace") w ≡ false → bytes_eq (codes "simulate") w ≡ false → bytes_eq (codes "equiv") w ≡ false → bytes_eq (codes "audit") w ≡ false → bytes_eq (codes "run") w ≡ false → bytes_eq (codes "generate") w ≡ false → bytes_eq (codes "drive") w ≡ false → is_plain w ≡ true
     → fault_of form (n ∷ w ∷ rest) ≡ [] → ⊥
 unfolding clap_on_literals
-other-word n w rest a b c q u d f p e = no-kinds _ _ (sym (turn-other w a b c q u d f (not-dashes w p) (not-long w p) (not-short w p)) ∙ first-none _ _ (first-none _ _ e))
+other-word n w rest a b c q u d f g p e = no-kinds _ _ (sym (turn-other w a b c q u d f g (not-dashes w p) (not-long w p) (not-short w p)) ∙ first-none _ _ (first-none _ _ e))
 
 -- what is refused behind the word of a subcommand
 behind : (n name x : Text) (zs : List Text) → (walked [] (names_of (built form)) (walk_from nothing_held) name).stopped ≡ Some (name, []) → fault_of form (n ∷ name ∷ x ∷ zs) ≡ [] → entered_fault (built form) (Some (name, x ∷ zs)) ≡ []
@@ -167,6 +170,39 @@ number-found n x p = found-number n x (not-dashes x p) (not-long x p) (not-short
 pub number-faultless : (n x : Text) → is_plain x ≡ true → fault_of form (n ∷ codes "generate" ∷ x ∷ []) ≡ []
 number-faultless n x p = number-taken n x (not-dashes x p) (not-long x p) (not-short x p)
 
+-- ---- after `drive`
+
+turn-port : (x y : Text) → bytes_eq x (45 ∷ 45 ∷ []) ≡ false → long_of x ≡ None → short_of x ≡ None → bytes_eq y (45 ∷ 45 ∷ []) ≡ false → long_of y ≡ None → short_of y ≡ None
+    → turn_fault drive [] (walked drive.rules [] (walk_from nothing_held) x) y ≡ stray_fault drive
+unfolding clap_on_literals
+turn-port x y a b c d e f = rw (a, b, c, d, e, f)
+
+found-port : (n x : Text) → bytes_eq x (45 ∷ 45 ∷ []) ≡ false → long_of x ≡ None → short_of x ≡ None → option_and_then asked_by (subcommand_of form (n ∷ codes "drive" ∷ x ∷ [])) ≡ option_map Drive (base_port x)
+unfolding clap_on_literals
+found-port n x a b c = rw (a, b, c)
+
+port-taken : (n x : Text) → bytes_eq x (45 ∷ 45 ∷ []) ≡ false → long_of x ≡ None → short_of x ≡ None → fault_of form (n ∷ codes "drive" ∷ x ∷ []) ≡ []
+unfolding clap_on_literals
+port-taken n x a b c = rw (a, b, c)
+
+-- a third word after the port
+many-ports : (x y : Text) (zs : List Text) → is_plain x ≡ true → is_plain y ≡ true → level_fault drive [] nothing_held (x ∷ y ∷ zs) false [] ≡ [] → ⊥
+unfolding clap_on_literals
+many-ports x y zs p q e =
+    no-kinds _ _ (sym (turn-port x y (not-dashes x p) (not-long x p) (not-short x p) (not-dashes y q) (not-long y q) (not-short y q)) ∙ first-none _ _ (second-none _ _ (first-none _ _ e)))
+
+pub base-alone : (n : Text) (rest : List Text) → list_all is_plain rest ≡ true → fault_of form (n ∷ codes "drive" ∷ rest) ≡ [] → (x : Text) × (rest ≡ x ∷ []) × (is_plain x ≡ true)
+unfolding clap_on_literals
+base-alone n [] p e = absurd (no-kinds _ _ e)
+base-alone n (x ∷ []) p e = (x, refl, and-first _ _ p)
+base-alone n (x ∷ y ∷ zs) p e = absurd (many-ports x y zs (and-first _ _ p) (and-first _ _ (and-second _ _ p)) (behind n (codes "drive") x (y ∷ zs) refl e))
+
+pub base-found : (n x : Text) → is_plain x ≡ true → option_and_then asked_by (subcommand_of form (n ∷ codes "drive" ∷ x ∷ [])) ≡ option_map Drive (base_port x)
+base-found n x p = found-port n x (not-dashes x p) (not-long x p) (not-short x p)
+
+pub base-faultless : (n x : Text) → is_plain x ≡ true → fault_of form (n ∷ codes "drive" ∷ x ∷ []) ≡ []
+base-faultless n x p = port-taken n x (not-dashes x p) (not-long x p) (not-short x p)
+
 -- ---- which word it is
 
 -- The word behind the program's name, with what may stand behind it.
@@ -178,6 +214,7 @@ pub data Taken (w : Text) (rest : List Text) : Type 0 where
   for_audit : w ≡ codes "audit" → rest ≡ [] → Taken w rest
   for_run : w ≡ codes "run" → rest ≡ [] → Taken w rest
   for_generate : (x : Text) → w ≡ codes "generate" → rest ≡ x ∷ [] → is_plain x ≡ true → Taken w rest
+  for_drive : (x : Text) → w ≡ codes "drive" → rest ≡ x ∷ [] → is_plain x ≡ true → Taken w rest
 
 is-word : (a w : Text) → bytes_eq a w ≡ true → w ≡ a
 is-word a w e = sym ((bytes_eq-Decides a w).0 e)
@@ -185,17 +222,18 @@ is-word a w e = sym ((bytes_eq-Decides a w).0 e)
 with-word : (n w a : Text) (rest : List Text) → w ≡ a → fault_of form (n ∷ w ∷ rest) ≡ [] → fault_of form (n ∷ a ∷ rest) ≡ []
 with-word n w a rest e f = subst (λ (v : Text). fault_of form (n ∷ v ∷ rest) ≡ []) e f
 
-taken-by : (n w : Text) (rest : List Text) (a b c q u d f : Bool) → bytes_eq (codes "rules") w ≡ a → bytes_eq (codes "trace") w ≡ b → bytes_eq (codes "simulate") w ≡ c → bytes_eq (codes "equiv") w ≡ q → bytes_eq (codes "audit") w ≡ u → bytes_eq (codes "run") w ≡ d → bytes_eq (codes "generate") w ≡ f
+taken-by : (n w : Text) (rest : List Text) (a b c q u d f g : Bool) → bytes_eq (codes "rules") w ≡ a → bytes_eq (codes "trace") w ≡ b → bytes_eq (codes "simulate") w ≡ c → bytes_eq (codes "equiv") w ≡ q → bytes_eq (codes "audit") w ≡ u → bytes_eq (codes "run") w ≡ d → bytes_eq (codes "generate") w ≡ f → bytes_eq (codes "drive") w ≡ g
     → is_plain w ≡ true → list_all is_plain rest ≡ true → fault_of form (n ∷ w ∷ rest) ≡ [] → Taken w rest
-taken-by n w rest true b c q u d f ea eb ec eq eu ed ef p l e = let is = is-word _ w ea in for_rules is (rules-alone n rest l (with-word n w _ rest is e))
-taken-by n w rest false true c q u d f ea eb ec eq eu ed ef p l e = let is = is-word _ w eb in for_trace is (trace-alone n rest l (with-word n w _ rest is e))
-taken-by n w rest false false true q u d f ea eb ec eq eu ed ef p l e = let is = is-word _ w ec in for_simulate is (simulate-alone n rest l (with-word n w _ rest is e))
-taken-by n w rest false false false true u d f ea eb ec eq eu ed ef p l e = let is = is-word _ w eq in for_equiv is (equiv-alone n rest l (with-word n w _ rest is e))
-taken-by n w rest false false false false true d f ea eb ec eq eu ed ef p l e = let is = is-word _ w eu in for_audit is (audit-alone n rest l (with-word n w _ rest is e))
-taken-by n w rest false false false false false true f ea eb ec eq eu ed ef p l e = let is = is-word _ w ed in for_run is (run-alone n rest l (with-word n w _ rest is e))
-taken-by n w rest false false false false false false true ea eb ec eq eu ed ef p l e = let is = is-word _ w ef in let h = number-alone n rest l (with-word n w _ rest is e) in for_generate h.0 is h.1 h.2
-taken-by n w rest false false false false false false false ea eb ec eq eu ed ef p l e = absurd (other-word n w rest ea eb ec eq eu ed ef p e)
+taken-by n w rest true b c q u d f g ea eb ec eq eu ed ef eg p l e = let is = is-word _ w ea in for_rules is (rules-alone n rest l (with-word n w _ rest is e))
+taken-by n w rest false true c q u d f g ea eb ec eq eu ed ef eg p l e = let is = is-word _ w eb in for_trace is (trace-alone n rest l (with-word n w _ rest is e))
+taken-by n w rest false false true q u d f g ea eb ec eq eu ed ef eg p l e = let is = is-word _ w ec in for_simulate is (simulate-alone n rest l (with-word n w _ rest is e))
+taken-by n w rest false false false true u d f g ea eb ec eq eu ed ef eg p l e = let is = is-word _ w eq in for_equiv is (equiv-alone n rest l (with-word n w _ rest is e))
+taken-by n w rest false false false false true d f g ea eb ec eq eu ed ef eg p l e = let is = is-word _ w eu in for_audit is (audit-alone n rest l (with-word n w _ rest is e))
+taken-by n w rest false false false false false true f g ea eb ec eq eu ed ef eg p l e = let is = is-word _ w ed in for_run is (run-alone n rest l (with-word n w _ rest is e))
+taken-by n w rest false false false false false false true g ea eb ec eq eu ed ef eg p l e = let is = is-word _ w ef in let h = number-alone n rest l (with-word n w _ rest is e) in for_generate h.0 is h.1 h.2
+taken-by n w rest false false false false false false false true ea eb ec eq eu ed ef eg p l e = let is = is-word _ w eg in let h = base-alone n rest l (with-word n w _ rest is e) in for_drive h.0 is h.1 h.2
+taken-by n w rest false false false false false false false false ea eb ec eq eu ed ef eg p l e = absurd (other-word n w rest ea eb ec eq eu ed ef eg p e)
 
 -- Words that are taken are these.
 pub taken : (n w : Text) (rest : List Text) → list_all is_plain (w ∷ rest) ≡ true → fault_of form (n ∷ w ∷ rest) ≡ [] → Taken w rest
-taken n w rest p e = taken-by n w rest _ _ _ _ _ _ _ refl refl refl refl refl refl refl (and-first _ _ p) (and-second _ _ p) e
+taken n w rest p e = taken-by n w rest _ _ _ _ _ _ _ _ refl refl refl refl refl refl refl refl (and-first _ _ p) (and-second _ _ p) e

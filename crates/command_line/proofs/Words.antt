@@ -1,5 +1,5 @@
 -- What words ask for, and what they are taken for.
-use Rattle.std.proofs.Common.{◌≡◌, ◌∙◌, ◌==◌, ◌&&◌, ℕ, zero, suc, Bool, true, false, not, List, [], ◌∷◌, map, length, drop, All, Option, Some, None, IfSome, option_map, option_and_then, if◌then◌else◌, refl, sym, ap, ap₂, subst, codes, nat_le, nat_eq, String, string_bytes, arith}
+use Rattle.std.proofs.Common.{◌≡◌, ◌∙◌, ◌==◌, ◌&&◌, ℕ, zero, suc, Bool, true, false, not, List, [], ◌∷◌, map, length, drop, All, Option, Some, None, IfSome, option_map, option_and_then, if◌then◌else◌, refl, sym, ap, ap₂, subst, codes, nat_le, nat_lt, nat_eq, String, string_bytes, arith}
 use Rattle.std.specs.declared.alloc.Global.{Global}
 use Rattle.std.specs.List.{list_all}
 use Rattle.clap.specs.Faults.{fault_of}
@@ -9,10 +9,10 @@ use Rattle.clap.specs.Simple.{subcommand_of}
 use Rattle.clap.proofs.OnLiterals.{clap_on_literals}
 use Rattle.netkat_parser.specs.Numbers.{at_most}
 use Rattle.command_line.specs.declared.command.Command.{Command}
-use Rattle.command_line.specs.declared.command.Command.TheVariants.{Rules, Trace, Simulate, Equiv, Audit, Run, Generate}
-use Rattle.command_line.specs.Commands.{is_plain, workload_number, Asks, IsCommandLine, IsPlain, OneCommand}
+use Rattle.command_line.specs.declared.command.Command.TheVariants.{Rules, Trace, Simulate, Equiv, Audit, Run, Drive, Generate}
+use Rattle.command_line.specs.Commands.{base_port, is_plain, workload_number, Asks, IsCommandLine, IsPlain, OneCommand}
 use Rattle.command_line.specs.Form.{asked_by, form}
-use Rattle.command_line.proofs.Lines.{Taken, for_rules, for_trace, for_simulate, for_equiv, for_audit, for_run, for_generate, taken, number-found, number-faultless}
+use Rattle.command_line.proofs.Lines.{Taken, for_rules, for_trace, for_simulate, for_equiv, for_audit, for_run, for_generate, for_drive, taken, base-found, base-faultless, number-found, number-faultless}
 
 -- ---- numbers begin with a digit
 
@@ -30,6 +30,21 @@ plain-by c cs k true e is = absurd (dashed-number cs k (subst (λ (x : ℕ). wor
 plain-number : (ds : Text) (k : ℕ) → workload_number ds ≡ Some k → is_plain ds ≡ true
 plain-number [] k e = refl
 plain-number (c ∷ cs) k e = plain-by c cs k (c == 45) refl e
+
+cut-port : (b : Bool) → option_and_then (λ n. if nat_lt n 1024 then None else Some n) (at_most 65000 (if b then None else None)) ≡ None
+cut-port true = refl
+cut-port false = refl
+
+dashed-port : (xs : Text) (k : ℕ) → base_port (45 ∷ xs) ≡ Some k → ⊥
+dashed-port xs k e = let no = cut-port (nat_le 1 (length (45 ∷ xs)) && nat_le (length (45 ∷ xs)) 5) in absurd (cc)
+
+port-by : (c : ℕ) (cs : Text) (k : ℕ) (b : Bool) → (c == 45) ≡ b → base_port (c ∷ cs) ≡ Some k → not b ≡ true
+port-by c cs k false e is = refl
+port-by c cs k true e is = absurd (dashed-port cs k (subst (λ (x : ℕ). base_port (x ∷ cs) ≡ Some k) (eqb-true c 45 e) is))
+
+plain-port : (ds : Text) (k : ℕ) → base_port ds ≡ Some k → is_plain ds ≡ true
+plain-port [] k e = refl
+plain-port (c ∷ cs) k e = port-by c cs k (c == 45) refl e
 
 -- ---- what is asked for is found
 
@@ -89,6 +104,7 @@ faultless Simulate ws h = ap (fault_of form) h.1 ∙ faultless-simulate h.0
 faultless Equiv ws h = ap (fault_of form) h.1 ∙ faultless-equiv h.0
 faultless Audit ws h = ap (fault_of form) h.1 ∙ faultless-audit h.0
 faultless Run ws h = ap (fault_of form) h.1 ∙ faultless-run h.0
+faultless (Drive n) ws h = ap (fault_of form) h.2 ∙ base-faultless h.0 h.1 (plain-port h.1 n h.3)
 faultless (Generate n) ws h = ap (fault_of form) h.2 ∙ number-faultless h.0 h.1 (plain-number h.1 n h.3)
 
 -- what these words are taken for
@@ -103,6 +119,7 @@ found Simulate ws h = ap taken-for h.1 ∙ found-simulate h.0
 found Equiv ws h = ap taken-for h.1 ∙ found-equiv h.0
 found Audit ws h = ap taken-for h.1 ∙ found-audit h.0
 found Run ws h = ap taken-for h.1 ∙ found-run h.0
+found (Drive n) ws h = ap taken-for h.2 ∙ base-found h.0 h.1 (plain-port h.1 n h.3) ∙ ap (option_map Drive) h.3
 found (Generate n) ws h = ap taken-for h.2 ∙ number-found h.0 h.1 (plain-number h.1 n h.3) ∙ ap (option_map Generate) h.3
 
 -- ---- what words are taken for they ask for
@@ -110,6 +127,10 @@ found (Generate n) ws h = ap taken-for h.2 ∙ number-found h.0 h.1 (plain-numbe
 as-number : (x : Text) (o : Option ℕ) (P : Command → Type 0) → workload_number x ≡ o → ((k : ℕ) → workload_number x ≡ Some k → P (Generate k)) → IfSome (option_map Generate o) P
 as-number x None P e h = tt
 as-number x (Some k) P e h = h k e
+
+as-port : (x : Text) (o : Option ℕ) (P : Command → Type 0) → base_port x ≡ o → ((k : ℕ) → base_port x ≡ Some k → P (Drive k)) → IfSome (option_map Drive o) P
+as-port x None P e h = tt
+as-port x (Some k) P e h = h k e
 
 -- a word alone
 asks-alone : (ws : List (String Global)) (n w word : Text) (rest : List Text) (c : Command) → map string_bytes ws ≡ n ∷ w ∷ rest → w ≡ word → rest ≡ [] → option_and_then asked_by (subcommand_of form (n ∷ word ∷ [])) ≡ Some c
@@ -129,6 +150,10 @@ asks-taken ws n w rest e (for_generate x is one p) =
     let f : n ∷ w ∷ rest ≡ n ∷ codes "generate" ∷ x ∷ [] = ap₂ (λ a b. n ∷ a ∷ b) is one in
     subst (λ (o : Option Command). IfSome o (λ c. Asks c ws)) (sym (ap taken-for f ∙ number-found n x p))
     (as-number x (workload_number x) (λ c. Asks c ws) refl (λ k is'. (n, x, e ∙ f, is')))
+asks-taken ws n w rest e (for_drive x is one p) =
+    let f : n ∷ w ∷ rest ≡ n ∷ codes "drive" ∷ x ∷ [] = ap₂ (λ a b. n ∷ a ∷ b) is one in
+    subst (λ (o : Option Command). IfSome o (λ c. Asks c ws)) (sym (ap taken-for f ∙ base-found n x p))
+    (as-port x (base_port x) (λ c. Asks c ws) refl (λ k is'. (n, x, e ∙ f, is')))
 
 -- no word, or the program's name alone
 short : (ws : List (String Global)) (ts : List Text) → map string_bytes ws ≡ ts → list_all is_plain (drop 1 ts) ≡ true → fault_of form ts ≡ [] → IfSome (option_and_then asked_by (subcommand_of form ts)) (λ c. Asks c ws)
@@ -150,6 +175,7 @@ texts-plain Simulate ws h = ap (λ (t : List Text). list_all is_plain (drop 1 t)
 texts-plain Equiv ws h = ap (λ (t : List Text). list_all is_plain (drop 1 t)) h.1
 texts-plain Audit ws h = ap (λ (t : List Text). list_all is_plain (drop 1 t)) h.1
 texts-plain Run ws h = ap (λ (t : List Text). list_all is_plain (drop 1 t)) h.1
+texts-plain (Drive n) ws h = ap (λ (t : List Text). list_all is_plain (drop 1 t)) h.2 ∙ ap (λ (b : Bool). b && true) (plain-port h.1 n h.3)
 texts-plain (Generate n) ws h = ap (λ (t : List Text). list_all is_plain (drop 1 t)) h.2 ∙ ap (λ (b : Bool). b && true) (plain-number h.1 n h.3)
 
 pub all_plain : (ws : List (String Global)) → All IsPlain ws → list_all is_plain (map string_bytes ws) ≡ true

@@ -1,9 +1,9 @@
 -- The words of a command line.
-use Rattle.std.specs.Prelude.{◌≡◌, ◌==◌, ℕ, Bool, true, not, nat_eq, if◌then◌else◌, List, [], ◌∷◌, map, Option, Some, None, option_and_then, String, string_bytes, codes}
+use Rattle.std.specs.Prelude.{◌≡◌, ◌==◌, ℕ, Bool, true, not, nat_eq, nat_lt, if◌then◌else◌, List, [], ◌∷◌, map, Option, Some, None, option_and_then, String, string_bytes, codes}
 use Rattle.std.specs.declared.alloc.Global.{Global}
 use Rattle.netkat_parser.specs.Numbers.{numeral, at_most}
 use Rattle.command_line.specs.declared.command.Command.{Command}
-use Rattle.command_line.specs.declared.command.Command.TheVariants.{Rules, Trace, Simulate, Equiv, Audit, Run, Generate}
+use Rattle.command_line.specs.declared.command.Command.TheVariants.{Rules, Trace, Simulate, Equiv, Audit, Run, Drive, Generate}
 
 -- the word does not begin with a dash
 abbrev pub is_plain : List ℕ → Bool
@@ -17,6 +17,10 @@ IsPlain word = is_plain (string_bytes word) ≡ true
 abbrev pub workload_number : List ℕ → Option ℕ
 workload_number digits = option_and_then (λ n. if nat_eq n 0 then None else Some n) (at_most 1000 (numeral 10 1 4 digits))
 
+-- the first port of a drive: 1 to 5 decimal digits, from 1,024 to 65,000
+abbrev pub base_port : List ℕ → Option ℕ
+base_port digits = option_and_then (λ n. if nat_lt n 1024 then None else Some n) (at_most 65000 (numeral 10 1 5 digits))
+
 -- the program's name, and then this word
 abbrev pub IsName : List ℕ → List (String Global) → Type 0
 IsName word words = (name : List ℕ) × (map string_bytes words ≡ name ∷ word ∷ [])
@@ -24,6 +28,10 @@ IsName word words = (name : List ℕ) × (map string_bytes words ≡ name ∷ wo
 -- the program's name, the word `generate`, and the digits of this number
 abbrev pub IsNumbered : ℕ → List (String Global) → Type 0
 IsNumbered n words = (name : List ℕ) × (digits : List ℕ) × (map string_bytes words ≡ name ∷ codes "generate" ∷ digits ∷ []) × (workload_number digits ≡ Some n)
+
+-- the program's name, the word `drive`, and the digits of this port
+abbrev pub IsFromPort : ℕ → List (String Global) → Type 0
+IsFromPort n words = (name : List ℕ) × (digits : List ℕ) × (map string_bytes words ≡ name ∷ codes "drive" ∷ digits ∷ []) × (base_port digits ≡ Some n)
 
 -- The words ask for the command.
 abbrev pub Asks : Command → List (String Global) → Type 0
@@ -33,6 +41,7 @@ Asks Simulate = IsName (codes "simulate")
 Asks Equiv = IsName (codes "equiv")
 Asks Audit = IsName (codes "audit")
 Asks Run = IsName (codes "run")
+Asks (Drive n) = IsFromPort n
 Asks (Generate n) = IsNumbered n
 
 -- The words are a command line.
@@ -47,6 +56,7 @@ IsReader Simulate = Unit {0}
 IsReader Equiv = Unit {0}
 IsReader Audit = Unit {0}
 IsReader Run = Unit {0}
+IsReader (Drive n) = Unit {0}
 IsReader (Generate n) = ⊥
 
 -- what is asked for comes from a document

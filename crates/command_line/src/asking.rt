@@ -1,18 +1,19 @@
 //! The form of a command line, as `clap` reads it.
 ghost use Rattle.std.specs.Prelude.{◌≡◌, IfOk};
-ghost use Rattle.clap.specs.Words.{app_of, is_broken};
-ghost use Rattle.command_line.specs.Form.{form};
+ghost use Rattle.clap.specs.Simple.{new_app, with_rule};
+ghost use Rattle.clap.specs.Words.{app_of};
+ghost use Rattle.command_line.specs.Form.{IsLocal, form, one};
 
 use clap::{Arg, Command};
 use std::alloc::{AllocError, Global};
 
-/// The program with one level of subcommands, one of which takes a number. There is no help: its words are no command
+/// The program with one level of subcommands, two of which take a number. There is no help: its words are no command
 /// line.
 pub fn form<'a>(alloc: Global) -> Result<Command<'a>, AllocError>
     ensures { IfOk result (λ c. app_of c ≡ form) }
 {
-    let number = Arg::new(alloc, "number").required(true);
-    let generate = Command::new(alloc, "generate").arg(number)?;
+    let generate = taking(alloc, "generate", "number")?;
+    let drive = taking(alloc, "drive", "base")?;
     Command::new(alloc, "nkctl")
         .disable_help_flag(true)
         .disable_help_subcommand(true)
@@ -22,5 +23,15 @@ pub fn form<'a>(alloc: Global) -> Result<Command<'a>, AllocError>
         .subcommand(Command::new(alloc, "equiv"))?
         .subcommand(Command::new(alloc, "audit"))?
         .subcommand(Command::new(alloc, "run"))?
-        .subcommand(generate)
+        .subcommand(generate)?
+        .subcommand(drive)
+}
+
+// A subcommand that takes one word.
+fn taking<'a>(alloc: Global, name: &'a str, word: &'a str) -> Result<Command<'a>, AllocError>
+    ensures app { IfOk result (λ c. app_of c ≡ with_rule (new_app name.now) (one word.now)) }
+    ensures local { IfOk result IsLocal }
+{
+    let arg = Arg::new(alloc, word).required(true);
+    Command::new(alloc, name).arg(arg)
 }

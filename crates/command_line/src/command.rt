@@ -11,9 +11,12 @@ pub enum Command {
     Simulate,
     /// Whether the two policies mean the same.
     Equiv,
+    /// The updates and packets of the schedule, and each switch's table beside the plan.
     Audit,
     /// A run of the policies, with a thread for each session and each switch.
     Run,
+    /// A drive of switches outside, whose ports begin with this one.
+    Drive(u16),
     /// The workload of a number from 1 to 1,000.
     Generate(u64),
 }

@@ -1,7 +1,7 @@
 //! The words of a command line.
 ghost use Rattle.std.specs.Prelude.{◌≡◌, IfOk, IfSome, IfNone, All, IsTrue, ◌↔◌, option_and_then};
 ghost use Rattle.clap.specs.Words.{first_of, subcommand_rows_of};
-ghost use Rattle.command_line.specs.Commands.{Asks, IsCommandLine, IsPlain, workload_number};
+ghost use Rattle.command_line.specs.Commands.{Asks, IsCommandLine, IsPlain, base_port, workload_number};
 ghost use Rattle.command_line.specs.Form.{asked_by};
 
 use crate::asking::form;
@@ -11,8 +11,8 @@ use clap::error::ErrorKind;
 use netkat_parser::numeral;
 use std::alloc::{AllocError, Global};
 
-/// What the words ask for, if they are a command line: the program's name and the word of a command, and behind
-/// `generate` a number.
+/// What the words ask for, if they are a command line: the program's name and the word of a command, and after
+/// `generate` or `drive` a number.
 pub fn asked<'a>(alloc: Global, words: &'a [String]) -> Result<Option<Command>, AllocError>
     ensures some { IfOk result (λ r. IfSome r (λ c. Asks c words.now)) }
     ensures none { IfOk result (λ r. IfNone r (¬ (IsCommandLine words.now))) }
@@ -50,6 +50,7 @@ fn command_of(matches: &ArgMatches) -> Option<Command>
         "audit" => Some(Command::Audit),
         "run" => Some(Command::Run),
         "generate" => number_of(inner.get_str("number")?).map(Command::Generate),
+        "drive" => base_of(inner.get_str("base")?).map(Command::Drive),
         _ => None,
     }
 }
@@ -61,5 +62,15 @@ fn number_of(word: &str) -> Option<u64>
     match numeral(10, 1, 4, 1000, word.as_bytes()) {
         Some(0) => None,
         number => number,
+    }
+}
+
+// The first port of a drive: 1 to 5 decimal digits, from 1,024 to 65,000.
+fn base_of(word: &str) -> Option<u16>
+    ensures { result ≡ base_port word.now }
+{
+    match numeral(10, 1, 5, 65000, word.as_bytes()) {
+        Some(number) if number >= 1024 => Some(number as u16),
+        _ => None,
     }
 }
