@@ -3,7 +3,7 @@ use Rattle.std.proofs.Common.{◌≡◌, ◌≢◌, ◌⊎◌, inl, inr, ℕ, Li
 use Rattle.std.specs.Io.KnownBytes.{Appends}
 use Rattle.outside_io.specs.Lists.{TakesAtMost, AppendsPrefix}
 use Rattle.command_line.specs.declared.command.Command.{Command}
-use Rattle.command_line.specs.declared.command.Command.TheVariants.{Rules, Trace, Simulate, Equiv, Audit, Run, Generate}
+use Rattle.command_line.specs.declared.command.Command.TheVariants.{Rules, Trace, Simulate, Equiv, Audit, Run, Drive, Generate}
 use Rattle.command_line.specs.Commands.{Asks, IsReader}
 use Rattle.command_line.proofs.Words.{one_command_asked}
 use Rattle.value_text.specs.declared.fault.Fault.{Fault}
@@ -15,12 +15,13 @@ use Rattle.program_answer.specs.declared.answer.AnswerError.TheVariants as error
 use Rattle.program_answer.specs.declared.status.Status.{Status}
 use Rattle.program_answer.specs.declared.status.Status.TheVariants as status
 use Rattle.program_answer.specs.Answers.{StopsBy}
-use Rattle.program_answer.specs.Called.{Called, HasRisen, IsSame, SourceSeen}
+use Rattle.program_answer.specs.Called.{HasRisen, IsSame, SourceSeen}
 use Rattle.program_answer.specs.Input.{IsAccepted, IsRefused}
 use Rattle.program_answer.specs.Statuses.{IsReport, status_of}
 use Rattle.program_answer.specs.Writing.{Says, SaysAnswer, IsUnsaid, whole, cut}
 use Rattle.equal_command.specs.Equiv.{IsComparable, IsEquivRefused}
 use Rattle.plain_commands.specs.Simulate.{IsSimulateRefused}
+use Rattle.controller_program.specs.Called.{Called}
 use Rattle.controller_program.specs.Calls.{IsAnswered, IsCall, IsDue, IsLine}
 use Rattle.controller_program.specs.Commands.{Accepts, IsAnswer, IsStop}
 use Rattle.controller_program.specs.Told.{Answers, AnswersTo, by, none, memory}
@@ -29,7 +30,7 @@ use Rattle.controller_program.proofs.Coming.{reports}
 -- ---- what is due with a status
 
 -- What is known of a text that is due with this status: whether a read failed, and how the call may end.
-record IsMeant (Takes : Command → Type 0) (c : Called) (s : Status) (text : List ℕ) : Type 0 where
+record IsMeant {Q : Type 0} (Takes : Command → Type 0) (c : Called Q) (s : Status) (text : List ℕ) : Type 0 where
   due : IsDue Takes c s text
   written : s ≢ status.WriteFault
   reads : s ≢ status.ReadFault → IsSame c.source.faults
@@ -47,29 +48,31 @@ known-more P Q (Some xs) f h = f xs h
 
 -- ---- reports
 
-accepted-by : (k : Command) (c : Called) (s : Status) (text : List ℕ) → IsReader k → IsAnswer k c s text → IfSome c.source.left.before (Accepts k)
+accepted-by : {Q : Type 0} (k : Command) (c : Called Q) (s : Status) (text : List ℕ) → IsReader k → IsAnswer k c s text → IfSome c.source.left.before (Accepts k)
 accepted-by Rules c s text i a = known-more _ _ c.source.left.before (λ xs r. record { document = r.document; versions = r.versions; is = r.accepted }) a.read.bytes
 accepted-by Trace c s text i a = known-more _ _ c.source.left.before (λ xs r. record { document = r.document; versions = r.versions; is = r.accepted }) a.read.bytes
 accepted-by Simulate c s text i a = known-more _ _ c.source.left.before (λ xs r. record { document = r.document; versions = r.versions; is = r.accepted }) a.read.bytes
 accepted-by Equiv c s text i a = known-more _ _ c.source.left.before (λ xs r. record { document = r.document; read = r.read; first = r.compared.first; second = r.compared.second; two = r.compared.two; meant = r.compared.meant }) a.read.bytes
 accepted-by Audit c s text i a = known-more _ _ c.source.left.before (λ xs r. record { document = r.document; versions = r.versions; is = r.accepted }) a.read.bytes
 accepted-by Run c s text i a = known-more _ _ c.source.left.before (λ xs r. record { document = r.document; versions = r.versions; is = r.accepted }) a.read.bytes
+accepted-by (Drive n) c s text i a = known-more _ _ c.source.left.before (λ xs r. record { document = r.document; versions = r.versions; is = r.accepted }) a.read.bytes
 accepted-by (Generate n) c s text i a = absurd i
 
-faultless-by : (k : Command) (c : Called) (s : Status) (text : List ℕ) → (¬ (IsReader k) → IsSame c.source.faults) → IsAnswer k c s text → IsSame c.source.faults
+faultless-by : {Q : Type 0} (k : Command) (c : Called Q) (s : Status) (text : List ℕ) → (¬ (IsReader k) → IsSame c.source.faults) → IsAnswer k c s text → IsSame c.source.faults
 faultless-by Rules c s text other a = a.read.faultless
 faultless-by Trace c s text other a = a.read.faultless
 faultless-by Simulate c s text other a = a.read.faultless
 faultless-by Equiv c s text other a = a.read.faultless
 faultless-by Audit c s text other a = a.read.faultless
 faultless-by Run c s text other a = a.read.faultless
+faultless-by (Drive n) c s text other a = a.read.faultless
 faultless-by (Generate n) c s text other a = other (λ i. i)
 
 -- words ask for one command
-one-command : (k j : Command) (c : Called) (P : Command → Type 0) → Asks k c.words → Asks j c.words → P k → P j
+one-command : {Q : Type 0} (k j : Command) (c : Called Q) (P : Command → Type 0) → Asks k c.words → Asks j c.words → P k → P j
 one-command k j c P asks asks' p = subst P (one_command_asked k j c.words asks asks') p
 
-is-done : (Takes : Command → Type 0) (c : Called) (s : Status) (text : List ℕ) → IsReport s → IsAnswered Takes c s text → IsDue Takes c s text
+is-done : {Q : Type 0} (Takes : Command → Type 0) (c : Called Q) (s : Status) (text : List ℕ) → IsReport s → IsAnswered Takes c s text → IsDue Takes c s text
 is-done Takes c status.Done text i a = a
 is-done Takes c status.Halted text i a = a
 is-done Takes c status.Refused text i a = absurd i
@@ -96,7 +99,7 @@ either status.Memory i = absurd i
 written-report : (s : Status) → IsReport s → s ≢ status.WriteFault
 written-report s i e = subst IsReport e i
 
-report-meant : (Takes : Command → Type 0) (c : Called) (k : Command) (s : Status) (text : List ℕ) → Takes k → Asks k c.words → (¬ (IsReader k) → IsSame c.source.faults) → IsAnswer k c s text → IsMeant Takes c s text
+report-meant : {Q : Type 0} (Takes : Command → Type 0) (c : Called Q) (k : Command) (s : Status) (text : List ℕ) → Takes k → Asks k c.words → (¬ (IsReader k) → IsSame c.source.faults) → IsAnswer k c s text → IsMeant Takes c s text
 report-meant Takes c k s text takes asks other a =
     let i = reports k c s text a in record {
       due = is-done Takes c s text i (record { command = k; takes = takes; asks = asks; answer = a });
@@ -110,7 +113,7 @@ report-meant Takes c k s text takes asks other a =
 
 -- ---- faults
 
-stop-due : (Takes : Command → Type 0) (c : Called) (k : Command) (f : Fault) → Takes k → Asks k c.words → IsStop k c f → f ≢ fault.Usage → IsDue Takes c (status_of f) (fault_text f)
+stop-due : {Q : Type 0} (Takes : Command → Type 0) (c : Called Q) (k : Command) (f : Fault) → Takes k → Asks k c.words → IsStop k c f → f ≢ fault.Usage → IsDue Takes c (status_of f) (fault_text f)
 stop-due Takes c k (fault.Line line column f) takes asks stop u = record { fault = fault.Line line column f; refused = refl; stopped = record { command = k; takes = takes; asks = asks; stop = stop; line = refl } }
 stop-due Takes c k (fault.NotEnabled line) takes asks stop u = record { fault = fault.NotEnabled line; refused = refl; stopped = record { command = k; takes = takes; asks = asks; stop = stop; line = refl } }
 stop-due Takes c k (fault.NotTwo line) takes asks stop u = record { fault = fault.NotTwo line; refused = refl; stopped = record { command = k; takes = takes; asks = asks; stop = stop; line = refl } }
@@ -123,16 +126,17 @@ stop-due Takes c k fault.Report takes asks stop u = record { command = k; takes 
 stop-due Takes c k fault.Usage takes asks stop u = absurd (u refl)
 
 -- no command stops for its words
-no-usage : (k : Command) (c : Called) → IsStop k c fault.Usage → ⊥
+no-usage : {Q : Type 0} (k : Command) (c : Called Q) → IsStop k c fault.Usage → ⊥
 no-usage Rules c stop = stop
 no-usage Trace c stop = stop
 no-usage Simulate c stop = stop
 no-usage Equiv c stop = stop
 no-usage Audit c stop = stop
 no-usage Run c stop = stop
+no-usage (Drive n) c stop = stop
 no-usage (Generate n) c stop = stop
 
-not-usage : (k : Command) (c : Called) (f : Fault) → IsStop k c f → f ≢ fault.Usage
+not-usage : {Q : Type 0} (k : Command) (c : Called Q) (f : Fault) → IsStop k c f → f ≢ fault.Usage
 not-usage k c f stop e = no-usage k c (subst (λ (g : Fault). IsStop k c g) e stop)
 
 written-fault : (f : Fault) → status_of f ≢ status.WriteFault
@@ -160,7 +164,7 @@ by-source P s fault.NoThread h n = absurd h
 by-source P s fault.Report h n = absurd h
 by-source P s fault.Usage h n = absurd h
 
-stop-reads : (k : Command) (c : Called) (f : Fault) → IsStop k c f → status_of f ≢ status.ReadFault → IsSame c.source.faults
+stop-reads : {Q : Type 0} (k : Command) (c : Called Q) (f : Fault) → IsStop k c f → status_of f ≢ status.ReadFault → IsSame c.source.faults
 stop-reads Rules c f h n = by-source IsRefused c.source f h n
 stop-reads Trace c f h n = by-source IsRefused c.source f h n
 stop-reads Simulate c f h n = by-source IsSimulateRefused c.source f h n
@@ -176,6 +180,16 @@ stop-reads Run c fault.Net h n = h.read.faultless
 stop-reads Run c fault.NoThread h n = h.read.faultless
 stop-reads Run c fault.Report h n = absurd h
 stop-reads Run c fault.Usage h n = absurd h
+stop-reads (Drive n) c (fault.Line line column f) h m = h.faultless
+stop-reads (Drive n) c (fault.NotEnabled line) h m = h.faultless
+stop-reads (Drive n) c (fault.NotTwo line) h m = h.faultless
+stop-reads (Drive n) c (fault.Compile policy f) h m = h.faultless
+stop-reads (Drive n) c (fault.Emit policy f) h m = h.faultless
+stop-reads (Drive n) c fault.Read h m = absurd (m refl)
+stop-reads (Drive n) c fault.Net h m = h.read.faultless
+stop-reads (Drive n) c fault.NoThread h m = h.read.faultless
+stop-reads (Drive n) c fault.Report h m = h.read.faultless
+stop-reads (Drive n) c fault.Usage h m = absurd h
 stop-reads (Generate n) c f h m = absurd h
 
 -- what is not accepted is refused
@@ -191,7 +205,7 @@ refused-source P T s fault.NoThread h still = absurd h
 refused-source P T s fault.Report h still = absurd h
 refused-source P T s fault.Usage h still = absurd h
 
-stop-refuses : (k : Command) (c : Called) (f : Fault) → IsStop k c f → ¬ (HasRisen c.source.faults) → IfSome c.source.left.before (λ xs. ¬ (Accepts k xs) → status_of f ≡ status.Refused)
+stop-refuses : {Q : Type 0} (k : Command) (c : Called Q) (f : Fault) → IsStop k c f → ¬ (HasRisen c.source.faults) → IfSome c.source.left.before (λ xs. ¬ (Accepts k xs) → status_of f ≡ status.Refused)
 stop-refuses Rules c f h still = refused-source IsRefused IsAccepted c.source f h still
 stop-refuses Trace c f h still = refused-source IsRefused IsAccepted c.source f h still
 stop-refuses Simulate c f h still = refused-source IsSimulateRefused IsAccepted c.source f h still
@@ -207,9 +221,19 @@ stop-refuses Run c fault.Net h still = known-more _ _ c.source.left.before (λ x
 stop-refuses Run c fault.NoThread h still = known-more _ _ c.source.left.before (λ xs accepted n. absurd (n accepted)) h.read.bytes
 stop-refuses Run c fault.Report h still = absurd h
 stop-refuses Run c fault.Usage h still = absurd h
+stop-refuses (Drive n) c (fault.Line line column f) h still = if-known c.source.left.before _ (λ xs m. refl)
+stop-refuses (Drive n) c (fault.NotEnabled line) h still = if-known c.source.left.before _ (λ xs m. refl)
+stop-refuses (Drive n) c (fault.NotTwo line) h still = if-known c.source.left.before _ (λ xs m. refl)
+stop-refuses (Drive n) c (fault.Compile policy f) h still = if-known c.source.left.before _ (λ xs m. refl)
+stop-refuses (Drive n) c (fault.Emit policy f) h still = if-known c.source.left.before _ (λ xs m. refl)
+stop-refuses (Drive n) c fault.Read h still = absurd (still h)
+stop-refuses (Drive n) c fault.Net h still = known-more _ _ c.source.left.before (λ xs accepted m. absurd (m accepted)) h.read.bytes
+stop-refuses (Drive n) c fault.NoThread h still = known-more _ _ c.source.left.before (λ xs accepted m. absurd (m accepted)) h.read.bytes
+stop-refuses (Drive n) c fault.Report h still = known-more _ _ c.source.left.before (λ xs accepted m. absurd (m accepted)) h.read.bytes
+stop-refuses (Drive n) c fault.Usage h still = absurd h
 stop-refuses (Generate n) c f h still = absurd h
 
-stop-meant : (Takes : Command → Type 0) (c : Called) (k : Command) (f : Fault) → Takes k → Asks k c.words → IsStop k c f → IsMeant Takes c (status_of f) (fault_text f)
+stop-meant : {Q : Type 0} (Takes : Command → Type 0) (c : Called Q) (k : Command) (f : Fault) → Takes k → Asks k c.words → IsStop k c f → IsMeant Takes c (status_of f) (fault_text f)
 stop-meant Takes c k f takes asks stop = record {
   due = stop-due Takes c k f takes asks stop (not-usage k c f stop);
   written = written-fault f;
@@ -219,7 +243,7 @@ stop-meant Takes c k f takes asks stop = record {
   refuses = λ j t reads asks' still. stop-refuses j c f (one-command k j c (λ l. IsStop l c f) asks asks' stop) still;
 }
 
-usage-meant : (Takes : Command → Type 0) (c : Called) → ¬ (IsLine Takes c.words) → IsSame c.source.faults → IsMeant Takes c status.Usage (fault_text fault.Usage)
+usage-meant : {Q : Type 0} (Takes : Command → Type 0) (c : Called Q) → ¬ (IsLine Takes c.words) → IsSame c.source.faults → IsMeant Takes c status.Usage (fault_text fault.Usage)
 usage-meant Takes c n same = record {
   due = record { other = n; line = refl };
   written = written-fault fault.Usage;
@@ -234,7 +258,7 @@ usage-meant Takes c n same = record {
 no-write : (s : Status) → s ≡ status.Memory → s ≡ status.WriteFault → ⊥
 no-write s e f = absurd (cc)
 
-said-whole : (Takes : Command → Type 0) (c : Called) (d : Status) (text : List ℕ) → IsMeant Takes c d text → TakesAtMost 4194305 c.source.left.before c.source.left.after → Appends c.sink.written.before c.sink.written.after text → IsSame c.sink.faults → IsCall Takes c d
+said-whole : {Q : Type 0} (Takes : Command → Type 0) (c : Called Q) (d : Status) (text : List ℕ) → IsMeant Takes c d text → TakesAtMost 4194305 c.source.left.before c.source.left.after → Appends c.sink.written.before c.sink.written.after text → IsSame c.sink.faults → IsCall Takes c d
 said-whole Takes c d text m most w same = record {
   wrote = λ _ _. record { text = text; due = m.due; written = w };
   write_fault = λ e. absurd (m.written e);
@@ -247,7 +271,7 @@ said-whole Takes c d text m most w same = record {
   refuses = λ k t reads asks still _. known-more _ _ c.source.left.before (λ xs f n. inl (f n)) (m.refuses k t reads asks still);
 }
 
-said-cut : (Takes : Command → Type 0) (c : Called) (d : Status) (text : List ℕ) → IsMeant Takes c d text → TakesAtMost 4194305 c.source.left.before c.source.left.after → AppendsPrefix c.sink.written.before c.sink.written.after text → HasRisen c.sink.faults → IsCall Takes c status.WriteFault
+said-cut : {Q : Type 0} (Takes : Command → Type 0) (c : Called Q) (d : Status) (text : List ℕ) → IsMeant Takes c d text → TakesAtMost 4194305 c.source.left.before c.source.left.after → AppendsPrefix c.sink.written.before c.sink.written.after text → HasRisen c.sink.faults → IsCall Takes c status.WriteFault
 said-cut Takes c d text m most w rose = record {
   wrote = λ n _. absurd (n refl);
   write_fault = λ _. rose;
@@ -260,12 +284,12 @@ said-cut Takes c d text m most w rose = record {
   refuses = λ k t reads asks still n. absurd (n rose);
 }
 
-said : (Takes : Command → Type 0) (c : Called) (d s : Status) (text : List ℕ) → IsMeant Takes c d text → TakesAtMost 4194305 c.source.left.before c.source.left.after → Says d text s c.sink → IsCall Takes c s
+said : {Q : Type 0} (Takes : Command → Type 0) (c : Called Q) (d s : Status) (text : List ℕ) → IsMeant Takes c d text → TakesAtMost 4194305 c.source.left.before c.source.left.after → Says d text s c.sink → IsCall Takes c s
 said Takes c d s text m most (whole is w same) = subst (λ (x : Status). IsCall Takes c x) (sym is) (said-whole Takes c d text m most w same)
 said Takes c d s text m most (cut is w rose) = subst (λ (x : Status). IsCall Takes c x) (sym is) (said-cut Takes c d text m most w rose)
 
 -- without memory nothing was written
-unsaid : (Takes : Command → Type 0) (c : Called) (s : Status) → IsSame c.source.faults → TakesAtMost 4194305 c.source.left.before c.source.left.after → IsUnsaid s c.sink → IsCall Takes c s
+unsaid : {Q : Type 0} (Takes : Command → Type 0) (c : Called Q) (s : Status) → IsSame c.source.faults → TakesAtMost 4194305 c.source.left.before c.source.left.after → IsUnsaid s c.sink → IsCall Takes c s
 unsaid Takes c s same most u = record {
   wrote = λ _ n. absurd (n u.memory);
   write_fault = λ e. absurd (no-write s u.memory e);
@@ -292,16 +316,16 @@ shown-read fault.Report v e = absurd v
 shown-read fault.Usage v e = absurd v
 
 -- the fault's line, or nothing if its line takes memory
-said-fault : (Takes : Command → Type 0) (c : Called) (f : Fault) (s : Status) → IsMeant Takes c (status_of f) (fault_text f) → TakesAtMost 4194305 c.source.left.before c.source.left.after → Says (status_of f) (fault_text f) s c.sink ⊎ (HasValues f × IsUnsaid s c.sink) → IsCall Takes c s
+said-fault : {Q : Type 0} (Takes : Command → Type 0) (c : Called Q) (f : Fault) (s : Status) → IsMeant Takes c (status_of f) (fault_text f) → TakesAtMost 4194305 c.source.left.before c.source.left.after → Says (status_of f) (fault_text f) s c.sink ⊎ (HasValues f × IsUnsaid s c.sink) → IsCall Takes c s
 said-fault Takes c f s m most (inl w) = said Takes c (status_of f) s (fault_text f) m most w
 said-fault Takes c f s m most (inr u) = unsaid Takes c s (m.reads (shown-read f u.0)) most u.1
 
-by-command : (Takes : Command → Type 0) (c : Called) (k : Command) (r : Result Answer AnswerError) (s : Status) → Takes k → Asks k c.words → (¬ (IsReader k) → IsSame c.source.faults) → AnswersTo k c r → TakesAtMost 4194305 c.source.left.before c.source.left.after → SaysAnswer r s c.sink → IsCall Takes c s
+by-command : {Q : Type 0} (Takes : Command → Type 0) (c : Called Q) (k : Command) (r : Result Answer AnswerError) (s : Status) → Takes k → Asks k c.words → (¬ (IsReader k) → IsSame c.source.faults) → AnswersTo k c r → TakesAtMost 4194305 c.source.left.before c.source.left.after → SaysAnswer r s c.sink → IsCall Takes c s
 by-command Takes c k (Ok a) s takes asks other to most w = said Takes c a.status s a.text (report-meant Takes c k a.status a.text takes asks other to) most w
 by-command Takes c k (Err (error.Fault f)) s takes asks other to most w = said-fault Takes c f s (stop-meant Takes c k f takes asks to) most w
 by-command Takes c k (Err error.Memory) s takes asks other to most w = unsaid Takes c s to most w
 
-pub is_call : (Takes : Command → Type 0) (c : Called) (r : Result Answer AnswerError) (s : Status) → Answers Takes c r → TakesAtMost 4194305 c.source.left.before c.source.left.after → SaysAnswer r s c.sink → IsCall Takes c s
+pub is_call : {Q : Type 0} (Takes : Command → Type 0) (c : Called Q) (r : Result Answer AnswerError) (s : Status) → Answers Takes c r → TakesAtMost 4194305 c.source.left.before c.source.left.after → SaysAnswer r s c.sink → IsCall Takes c s
 is_call Takes c r s (by k takes asks to other) most w = by-command Takes c k r s takes asks other to most w
 is_call Takes c r s (none other is same) most w = said-fault Takes c fault.Usage s (usage-meant Takes c other same) most (subst (λ (x : Result Answer AnswerError). SaysAnswer x s c.sink) is w)
 is_call Takes c r s (memory is same) most w = unsaid Takes c s same most (subst (λ (x : Result Answer AnswerError). SaysAnswer x s c.sink) is w)

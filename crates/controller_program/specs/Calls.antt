@@ -9,9 +9,10 @@ use Rattle.value_text.specs.declared.fault.Fault.TheVariants as fault
 use Rattle.value_text.specs.Faults.{fault_text}
 use Rattle.program_answer.specs.declared.status.Status.{Status}
 use Rattle.program_answer.specs.declared.status.Status.TheVariants.{Done, Refused, Usage, Halted, ReadFault, WriteFault, NetFault, NoThread, Memory, ReportFault}
-use Rattle.program_answer.specs.Called.{Called, Change, HasRisen, IsSame, NetSeen}
+use Rattle.program_answer.specs.Called.{Change, HasRisen, IsSame, NetSeen}
 use Rattle.program_answer.specs.Statuses.{status_of}
 use Rattle.program_answer.specs.Writing.{Wrote, WrotePrefix}
+use Rattle.controller_program.specs.Called.{Called, ReporterSeen}
 use Rattle.controller_program.specs.Commands.{Accepts, IsAnswer, IsStop}
 
 -- ---- words
@@ -27,14 +28,14 @@ ReadsFrom Takes words = (k : Command) × Takes k × IsReader k × Asks k words
 -- ---- what is due
 
 -- The words ask for a command, and the text is its report.
-pub record IsAnswered (Takes : Command → Type 0) (c : Called) (status : Status) (text : List ℕ) : Type 0 where
+pub record IsAnswered {Q : Type 0} (Takes : Command → Type 0) (c : Called Q) (status : Status) (text : List ℕ) : Type 0 where
   pub command : Command
   pub takes : Takes command
   pub asks : Asks command c.words
   pub answer : IsAnswer command c status text
 
 -- The words ask for a command that stops for this fault, and the text is the fault's line.
-pub record IsStopped (Takes : Command → Type 0) (c : Called) (f : Fault) (text : List ℕ) : Type 0 where
+pub record IsStopped {Q : Type 0} (Takes : Command → Type 0) (c : Called Q) (f : Fault) (text : List ℕ) : Type 0 where
   pub command : Command
   pub takes : Takes command
   pub asks : Asks command c.words
@@ -42,18 +43,18 @@ pub record IsStopped (Takes : Command → Type 0) (c : Called) (f : Fault) (text
   pub line : text ≡ fault_text f
 
 -- The words ask for a command that refuses its document, a policy of it or a line of its schedule, and the text is the line of that fault.
-pub record IsRefusal (Takes : Command → Type 0) (c : Called) (text : List ℕ) : Type 0 where
+pub record IsRefusal {Q : Type 0} (Takes : Command → Type 0) (c : Called Q) (text : List ℕ) : Type 0 where
   pub fault : Fault
   pub refused : status_of fault ≡ Refused
   pub stopped : IsStopped Takes c fault text
 
 -- The words are no command line, and the text is the usage line.
-pub record IsUsage (Takes : Command → Type 0) (c : Called) (text : List ℕ) : Type 0 where
+pub record IsUsage {Q : Type 0} (Takes : Command → Type 0) (c : Called Q) (text : List ℕ) : Type 0 where
   pub other : ¬ (IsLine Takes c.words)
   pub line : text ≡ fault_text fault.Usage
 
 -- What a call has to write that ends with this status, where these commands are taken.
-abbrev pub IsDue : (Command → Type 0) → Called → Status → List ℕ → Type 0
+abbrev pub IsDue : {Q : Type 0} → (Command → Type 0) → Called Q → Status → List ℕ → Type 0
 IsDue Takes c Done text = IsAnswered Takes c Done text
 IsDue Takes c Halted text = IsAnswered Takes c Halted text
 IsDue Takes c Refused text = IsRefusal Takes c text
@@ -68,7 +69,7 @@ IsDue Takes c Memory text = ⊥
 -- ---- the call
 
 -- a prefix of what was due with some status
-pub record IsCutShort (Takes : Command → Type 0) (c : Called) : Type 0 where
+pub record IsCutShort {Q : Type 0} (Takes : Command → Type 0) (c : Called Q) : Type 0 where
   pub due : Status
   pub prefix : WrotePrefix (IsDue Takes c due) c.sink
 
@@ -80,7 +81,7 @@ pub record IsCutShort (Takes : Command → Type 0) (c : Called) : Type 0 where
 -- `no_command`: other words give the usage line, unless the sink fails or memory runs out;
 -- `complete`: a command that no fault stops gives its report, unless the sink fails or memory runs out;
 -- `refuses`: what its command does not take is refused, unless a read or a write fails or memory runs out, whatever links and threads do.
-pub record IsCall (Takes : Command → Type 0) (c : Called) (status : Status) : Type 0 where
+pub record IsCall {Q : Type 0} (Takes : Command → Type 0) (c : Called Q) (status : Status) : Type 0 where
   pub wrote : status ≢ WriteFault → status ≢ Memory → Wrote (IsDue Takes c status) c.sink
   pub write_fault : status ≡ WriteFault → HasRisen c.sink.faults
   pub prefix : status ≡ WriteFault → IsCutShort Takes c
@@ -91,10 +92,13 @@ pub record IsCall (Takes : Command → Type 0) (c : Called) (status : Status) : 
   pub complete : (k : Command) → Takes k → Asks k c.words → ((f : Fault) → ¬ (IsStop k c f)) → ¬ (HasRisen c.sink.faults) → ((status ≡ Done) ⊎ (status ≡ Halted)) ⊎ (status ≡ Memory)
   pub refuses : (k : Command) → Takes k → IsReader k → Asks k c.words → ¬ (HasRisen c.source.faults) → ¬ (HasRisen c.sink.faults) → IfSome c.source.left.before (λ xs. ¬ (Accepts k xs) → (status ≡ Refused) ⊎ (status ≡ Memory))
 
--- ---- calls without links and threads
+-- ---- calls without links, threads and a reporter
 
 abbrev pub still : Change ℕ
 still = record { before = 0; after = 0 }
 
 abbrev pub no_net : NetSeen
 no_net = record { faults = still; broken = still; gathered = record { before = None; after = None } }
+
+abbrev pub no_reporter : ReporterSeen ℕ
+no_reporter = record { faults = still; stamped = λ stamp. stamp }

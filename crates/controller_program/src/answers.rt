@@ -1,21 +1,24 @@
 //! Which command answers which words.
-ghost use Rattle.std.specs.Prelude.{◌≡◌, Err};
+ghost use Rattle.std.specs.Prelude.{◌≡◌, ℕ, Err};
 ghost use Rattle.outside_io.specs.Lists.{TakesAtMost};
-ghost use Rattle.command_line.specs.Commands.{Asks, IsReader};
-ghost use Rattle.program_answer.specs.Called.{Called, SinkSeen, called, change, net_of, source_of};
-ghost use Rattle.controller_program.specs.Calls.{ReadsFrom, no_net, still};
-ghost use Rattle.controller_program.specs.Commands.{IsAny, IsThreadless};
+ghost use Rattle.command_line.specs.Commands.{IsReader};
+ghost use Rattle.program_answer.specs.Called.{SinkSeen, change, net_of, source_of};
+ghost use Rattle.controller_program.specs.Called.{Called, called, reporter_of};
+ghost use Rattle.controller_program.specs.Calls.{IsLine, ReadsFrom, no_net, no_reporter, still};
+ghost use Rattle.controller_program.specs.Commands.{IsAny, IsReported, IsThreaded, IsThreadless};
 ghost use Rattle.controller_program.specs.Told.{Answers, AnswersTo};
 
 use audit_command::audit_answer;
 use command_line::{Command, asked};
+use drive_command::drive_answer;
 use equal_command::equiv_answer;
 use outside_io::Source;
-use outside_net::{Gate, Net, Spawner};
+use outside_net::{Gate, Net, Reporter, Spawner};
 use plain_commands::{generate_answer, rules_answer, simulate_answer, trace_answer};
 use program_answer::{Answer, AnswerError};
 use std::alloc::Global;
 use std::sync::{Arc, Wait};
+use std::time::Clock;
 use thread_commands::run_answer;
 use value_text::Fault;
 
@@ -25,7 +28,7 @@ pub fn plain_answer<S: Source>(
     words: &[String],
     source: &mut S,
 ) -> Result<Answer, AnswerError>
-    ensures answers { (sink : SinkSeen) → Answers IsThreadless (called words.now (source_of S.left S.faults source.old source.new) sink no_net still) result }
+    ensures answers { (sink : SinkSeen) → Answers IsThreadless (called words.now (source_of S.left S.faults source.old source.new) sink no_net still no_reporter) result }
     ensures at_most { TakesAtMost 4194305 (S.left source.old) (S.left source.new) }
     ensures untouched { ¬ (ReadsFrom IsThreadless words.now) → source.new ≡ source.old }
 {
@@ -38,11 +41,12 @@ pub fn plain_answer<S: Source>(
 
 /// What words come to.
 pub fn any_answer<
-    R: Wait + Clone + Drop + Send + 'static,
+    R: Wait + Clock + Clone + Drop + Send + 'static,
     S: Source,
     N: Net,
     G: Gate + Send + Sync + 'static,
     T: Spawner,
+    Q: Reporter,
 >(
     rt: &R,
     alloc: Global,
@@ -51,18 +55,24 @@ pub fn any_answer<
     net: &mut N,
     threads: &mut T,
     gate: Arc<G>,
+    reporter: &mut Q,
 ) -> Result<Answer, AnswerError>
 where
     N::End: 'static,
-    ensures answers { (sink : SinkSeen) → Answers IsAny (called words.now (source_of S.left S.faults source.old source.new) sink (net_of N.faults N.broken N.gathered net.old net.new) (change T.faults threads.old threads.new)) result }
+    Q::Receipt: Send + 'static,
+    ensures answers { (sink : SinkSeen) → Answers IsAny (called words.now (source_of S.left S.faults source.old source.new) sink (net_of N.faults N.broken N.gathered net.old net.new) (change T.faults threads.old threads.new) (reporter_of Q.Receipt.stamped (change Q.faults reporter.old reporter.new))) result }
     ensures at_most { TakesAtMost 4194305 (S.left source.old) (S.left source.new) }
     ensures untouched { ¬ (ReadsFrom IsAny words.now) → source.new ≡ source.old }
-    ensures untouched_net { ¬ (Asks Command.Run words.now) → net.new ≡ net.old }
-    ensures untouched_threads { ¬ (Asks Command.Run words.now) → threads.new ≡ threads.old }
+    ensures untouched_net { ¬ (IsLine IsThreaded words.now) → net.new ≡ net.old }
+    ensures untouched_threads { ¬ (IsLine IsThreaded words.now) → threads.new ≡ threads.old }
+    ensures untouched_reporter { ¬ (IsLine IsReported words.now) → reporter.new ≡ reporter.old }
 {
     match asked(alloc, words) {
         Ok(Some(command)) => match command {
             Command::Run => run_answer(rt, alloc, source, net, threads, gate),
+            Command::Drive(first) => {
+                drive_answer(rt, alloc, source, first, net, threads, gate, reporter)
+            }
             _ => command_answer(alloc, command, source),
         },
         Ok(None) => Err(AnswerError::Fault(Fault::Usage)),
@@ -76,8 +86,8 @@ fn command_answer<S: Source>(
     command: Command,
     source: &mut S,
 ) -> Result<Answer, AnswerError>
-    ensures answers { IsThreadless command → (c : Called) → c.source ≡ source_of S.left S.faults source.old source.new → AnswersTo command c result }
-    ensures threads { command ≡ Command.Run → result ≡ Err (AnswerError.Fault Fault.Usage) }
+    ensures answers { IsThreadless command → (c : Called ℕ) → c.source ≡ source_of S.left S.faults source.old source.new → AnswersTo command c result }
+    ensures threads { IsThreaded command → result ≡ Err (AnswerError.Fault Fault.Usage) }
     ensures at_most { TakesAtMost 4194305 (S.left source.old) (S.left source.new) }
     ensures untouched { ¬ (IsThreadless command × IsReader command) → source.new ≡ source.old }
 {
@@ -89,5 +99,6 @@ fn command_answer<S: Source>(
         Command::Audit => audit_answer(alloc, source),
         Command::Generate(number) => generate_answer(alloc, number),
         Command::Run => Err(AnswerError::Fault(Fault::Usage)),
+        Command::Drive(_) => Err(AnswerError::Fault(Fault::Usage)),
     }
 }

@@ -1,11 +1,12 @@
 // Calls of the program over sources, sinks and links in memory.
 use controller_program::{Status, nkctl, nkctl_plain};
 use outside_io::{MemorySink, MemorySource};
-use outside_net::{MemoryNet, OpenGate, RefusingSpawner, ThreadSpawner, Trouble};
+use outside_net::{MemoryNet, MemoryReporter, OpenGate, RefusingSpawner, ThreadSpawner, Trouble};
 use std::alloc::{AllocError, Global};
 use std::str;
 use std::sync::{Arc, Wait};
 use std::thread::Threads;
+use std::time::Clock;
 
 /// How a call ended, and what it wrote.
 #[derive(Drop)]
@@ -48,7 +49,7 @@ fn written(alloc: Global, status: Status, sink: &MemorySink) -> Result<Outcome, 
 }
 
 /// A run of a document, in which some calls fail.
-pub fn run<R: Wait + Threads + Copy + Clone + Drop + Send + Sync + 'static>(
+pub fn run<R: Wait + Clock + Threads + Copy + Clone + Drop + Send + Sync + 'static>(
     rt: R,
     alloc: Global,
     document: &str,
@@ -66,6 +67,7 @@ pub fn run<R: Wait + Threads + Copy + Clone + Drop + Send + Sync + 'static>(
     let mut net = MemoryNet::new(alloc, rt, pairs, links)?;
     let mut threads = RefusingSpawner::new(ThreadSpawner::new(alloc, rt), starts);
     let gate = Arc::new(alloc, OpenGate)?;
+    let mut reporter = MemoryReporter::new(0, Vec::new(alloc));
     let status = nkctl(
         &rt,
         alloc,
@@ -75,6 +77,7 @@ pub fn run<R: Wait + Threads + Copy + Clone + Drop + Send + Sync + 'static>(
         &mut net,
         &mut threads,
         gate,
+        &mut reporter,
     );
     written(alloc, status, &sink)
 }

@@ -24,6 +24,7 @@ use std::alloc::{AllocError, Global};
 use std::io;
 use std::sync::Wait;
 use std::thread::Threads;
+use std::time::Clock;
 
 fn main(rt: HostRuntime) -> io::Result<()> {
     let text = io::read_to_string(rt.alloc(), rt.stdin())?;
@@ -34,7 +35,7 @@ fn main(rt: HostRuntime) -> io::Result<()> {
 }
 
 // What comes of a table.
-fn table<R: Wait + Threads + AllocGlobal + Copy + Clone + Drop + Send + Sync + 'static>(
+fn table<R: Wait + Clock + Threads + AllocGlobal + Copy + Clone + Drop + Send + Sync + 'static>(
     rt: R,
     name: &str,
 ) -> Result<String, AllocError> {

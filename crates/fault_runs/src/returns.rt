@@ -7,6 +7,7 @@ use outside_net::{Effect, End, Trouble};
 use std::alloc::{AllocError, Global};
 use std::sync::Wait;
 use std::thread::Threads;
+use std::time::Clock;
 
 // The head of the document of two switches, its policies and packets; lines between them say what may be lost.
 const HEAD: &str = "switch 1 ports 1 2\nswitch 2 ports 1 2\nlink 1:2 2:1\n";
@@ -36,9 +37,9 @@ fn is_done(alloc: Global, outcome: &Outcome) -> Result<bool, AllocError> {
 
 /// Each call on a link fails, one a run, until three runs behind one another do not come so far. With returns each run is
 /// done.
-pub fn returns<R: Wait + Threads + AllocGlobal + Copy + Clone + Drop + Send + Sync + 'static>(
-    rt: R,
-) -> Result<Option<usize>, AllocError> {
+pub fn returns<
+    R: Wait + Clock + Threads + AllocGlobal + Copy + Clone + Drop + Send + Sync + 'static,
+>(rt: R) -> Result<Option<usize>, AllocError> {
     let alloc = rt.alloc();
     let document = document(alloc, 1_000)?;
     let mut whole = 0u32;
@@ -63,7 +64,7 @@ pub fn returns<R: Wait + Threads + AllocGlobal + Copy + Clone + Drop + Send + Sy
 
 // How a run ends where this becomes of the third message of switch 2 in its second session. Its first one is lost at the
 // third message to it, so the first barrier of the second one has number 7, and the next barrier number 9.
-fn second_session<R: Wait + Threads + Copy + Clone + Drop + Send + Sync + 'static>(
+fn second_session<R: Wait + Clock + Threads + Copy + Clone + Drop + Send + Sync + 'static>(
     rt: R,
     alloc: Global,
     rejoins: u32,
@@ -91,9 +92,9 @@ const fn reply_of(number: u8) -> [u8; 8] {
 
 /// Hostile links of a second session: a reply of the first one, a reply that comes twice, one that is none, half a reply
 /// where no more sessions may be lost, and half a reply where one more may.
-pub fn second<R: Wait + Threads + AllocGlobal + Copy + Clone + Drop + Send + Sync + 'static>(
-    rt: R,
-) -> Result<Option<usize>, AllocError> {
+pub fn second<
+    R: Wait + Clock + Threads + AllocGlobal + Copy + Clone + Drop + Send + Sync + 'static,
+>(rt: R) -> Result<Option<usize>, AllocError> {
     let alloc = rt.alloc();
     let old = second_session(rt, alloc, 1, Effect::Replaces(reply_of(4).to_vec(alloc)?))?;
     if !halts_by(
@@ -133,9 +134,9 @@ pub fn second<R: Wait + Threads + AllocGlobal + Copy + Clone + Drop + Send + Syn
 }
 
 /// Each pair of ends for a return is refused: the run ends for it.
-pub fn no_return<R: Wait + Threads + AllocGlobal + Copy + Clone + Drop + Send + Sync + 'static>(
-    rt: R,
-) -> Result<Option<usize>, AllocError> {
+pub fn no_return<
+    R: Wait + Clock + Threads + AllocGlobal + Copy + Clone + Drop + Send + Sync + 'static,
+>(rt: R) -> Result<Option<usize>, AllocError> {
     let alloc = rt.alloc();
     let mut failing = Failing::nothing(alloc);
     failing.pairs.push(3)?;
@@ -183,10 +184,9 @@ impl Runs {
 
 /// So many runs over links that fail at random. Each is done, and its events are a schedule of the document with the same
 /// report.
-pub fn random<R: Wait + Threads + AllocGlobal + Copy + Clone + Drop + Send + Sync + 'static>(
-    rt: R,
-    count: usize,
-) -> Result<Option<usize>, AllocError> {
+pub fn random<
+    R: Wait + Clock + Threads + AllocGlobal + Copy + Clone + Drop + Send + Sync + 'static,
+>(rt: R, count: usize) -> Result<Option<usize>, AllocError> {
     let alloc = rt.alloc();
     let document = document(alloc, 1_000)?;
     let mut runs = Runs::new();
@@ -200,10 +200,9 @@ pub fn random<R: Wait + Threads + AllocGlobal + Copy + Clone + Drop + Send + Syn
 }
 
 /// The document of such runs, and then the report of each behind a line `run`, for others to judge.
-pub fn reports<R: Wait + Threads + AllocGlobal + Copy + Clone + Drop + Send + Sync + 'static>(
-    rt: R,
-    count: usize,
-) -> Result<String, AllocError> {
+pub fn reports<
+    R: Wait + Clock + Threads + AllocGlobal + Copy + Clone + Drop + Send + Sync + 'static,
+>(rt: R, count: usize) -> Result<String, AllocError> {
     let alloc = rt.alloc();
     let document = document(alloc, 1_000)?;
     let mut text = format!(in alloc; "\n{document}")?;

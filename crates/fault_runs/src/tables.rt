@@ -9,6 +9,7 @@ use report_text::Text;
 use std::alloc::{AllocError, Global};
 use std::sync::Wait;
 use std::thread::Threads;
+use std::time::Clock;
 
 // Two switches in a line with three policies alike and ten packets; how they are wired; and the policy.
 const LINE: &str =
@@ -86,7 +87,7 @@ pub fn line_has_one_policy(alloc: Global, report: &str) -> Result<bool, AllocErr
 
 /// Each call on a link fails, one a run, until three runs behind one another do not come so far. A run ends by itself: it
 /// is done, or it lost a session and says which one.
-pub fn links<R: Wait + Threads + AllocGlobal + Copy + Clone + Drop + Send + Sync + 'static>(
+pub fn links<R: Wait + Clock + Threads + AllocGlobal + Copy + Clone + Drop + Send + Sync + 'static>(
     rt: R,
 ) -> Result<Option<usize>, AllocError> {
     let alloc = rt.alloc();
@@ -117,9 +118,9 @@ pub fn links<R: Wait + Threads + AllocGlobal + Copy + Clone + Drop + Send + Sync
 }
 
 /// Each start is refused, one a run. All threads that were started have ended then.
-pub fn starts<R: Wait + Threads + AllocGlobal + Copy + Clone + Drop + Send + Sync + 'static>(
-    rt: R,
-) -> Result<Option<usize>, AllocError> {
+pub fn starts<
+    R: Wait + Clock + Threads + AllocGlobal + Copy + Clone + Drop + Send + Sync + 'static,
+>(rt: R) -> Result<Option<usize>, AllocError> {
     let alloc = rt.alloc();
     for start in 1..7 {
         let mut failing = Failing::nothing(alloc);
@@ -133,7 +134,7 @@ pub fn starts<R: Wait + Threads + AllocGlobal + Copy + Clone + Drop + Send + Syn
 }
 
 /// Each pair of ends is refused, one a run.
-pub fn pairs<R: Wait + Threads + AllocGlobal + Copy + Clone + Drop + Send + Sync + 'static>(
+pub fn pairs<R: Wait + Clock + Threads + AllocGlobal + Copy + Clone + Drop + Send + Sync + 'static>(
     rt: R,
 ) -> Result<Option<usize>, AllocError> {
     let alloc = rt.alloc();

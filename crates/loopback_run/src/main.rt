@@ -4,12 +4,13 @@
 
 use controller_program::{Status, nkctl};
 use outside_io::{MemorySink, Source, StdSource};
-use outside_net::{OpenGate, TcpNet, ThreadSpawner};
+use outside_net::{LineReporter, OpenGate, TcpNet, ThreadSpawner};
 use std::alloc::AllocError;
 use std::env::Env;
 use std::net::{Net as Sockets, TcpListener, TcpStream};
 use std::sync::{Arc, Wait};
 use std::thread::Threads;
+use std::time::Clock;
 use std::{io, str};
 
 fn main(rt: HostRuntime) -> io::Result<()> {
@@ -36,6 +37,7 @@ fn main(rt: HostRuntime) -> io::Result<()> {
 fn run<
     R: Wait
         + Threads
+        + Clock
         + Sockets<Stream = TcpStream, Listener = TcpListener>
         + AllocGlobal
         + Copy
@@ -52,6 +54,7 @@ fn run<
     words.push("run".to_string(alloc)?)?;
     let mut net = TcpNet::new(rt);
     let mut threads = ThreadSpawner::new(alloc, rt);
+    let mut reporter = LineReporter::new(rt);
     let gate = Arc::new(alloc, OpenGate)?;
     Ok(nkctl(
         &rt,
@@ -62,5 +65,6 @@ fn run<
         &mut net,
         &mut threads,
         gate,
+        &mut reporter,
     ))
 }

@@ -1,6 +1,5 @@
--- What a call was: its words, and of all that was handed in what was seen before the call and after it.
-use Rattle.std.specs.Prelude.{◌≡◌, ℕ, List, String, Option}
-use Rattle.std.specs.declared.alloc.Global.{Global}
+-- What is seen, before a call and after it, of what is handed in.
+use Rattle.std.specs.Prelude.{◌≡◌, ℕ, List, Option}
 use Rattle.outside_io.specs.Causes.{Rose}
 
 -- what was seen before the call, and after it
@@ -43,14 +42,3 @@ pub record NetSeen : Type 0 where
 
 abbrev pub net_of : {N : Type 0} → (N → ℕ) → (N → ℕ) → (N → Option (List (List ℕ))) → N → N → NetSeen
 net_of faults broken gathered old new = record { faults = change faults old new; broken = change broken old new; gathered = change gathered old new }
-
--- a call: its words, its source, its sink, its net, and how often a thread could not be made
-pub record Called : Type 0 where
-  pub words : List (String Global)
-  pub source : SourceSeen
-  pub sink : SinkSeen
-  pub net : NetSeen
-  pub threads : Change ℕ
-
-abbrev pub called : List (String Global) → SourceSeen → SinkSeen → NetSeen → Change ℕ → Called
-called words source sink net threads = record { words = words; source = source; sink = sink; net = net; threads = threads }

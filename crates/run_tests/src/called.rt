@@ -1,11 +1,14 @@
 // A call of the program, and what is asked of its answer.
 use controller_program::{Status, nkctl};
 use outside_io::{MemorySink, MemorySource};
-use outside_net::{Gate, MemoryNet, Net, OpenGate, Spawner, ThreadSpawner, Trouble};
+use outside_net::{
+    Gate, MemoryNet, MemoryReporter, Net, OpenGate, Spawner, ThreadSpawner, Trouble,
+};
 use std::alloc::{AllocError, Global};
 use std::str;
 use std::sync::{Arc, Wait};
 use std::thread::Threads;
+use std::time::Clock;
 
 /// Two switches in a line, three policies alike, ten packets.
 pub const DOCUMENT: &str = "switch 1 ports 1 2
@@ -42,7 +45,7 @@ pub struct Called {
 
 /// How a call of `run` with the document ended, over this net, with these threads; the line is one that is looked for.
 pub fn call_over<
-    R: Wait + Clone + Drop + Send + Sync + 'static,
+    R: Wait + Clock + Clone + Drop + Send + Sync + 'static,
     N: Net,
     T: Spawner,
     G: Gate + Send + Sync + 'static,
@@ -63,6 +66,7 @@ where
     let document = DOCUMENT.as_bytes().to_vec(alloc)?;
     let mut source = MemorySource::new(document, 4096, Vec::new(alloc));
     let mut sink = MemorySink::new(alloc, 4096, Vec::new(alloc));
+    let mut reporter = MemoryReporter::new(0, Vec::new(alloc));
     let status = nkctl(
         rt,
         alloc,
@@ -72,13 +76,14 @@ where
         net,
         threads,
         gate,
+        &mut reporter,
     );
     Ok(read(status, sink.bytes(), line))
 }
 
 /// The same over links in memory, some of which are in trouble.
 pub fn called_over_memory<
-    R: Wait + Threads + Copy + Clone + Drop + Send + Sync + 'static,
+    R: Wait + Clock + Threads + Copy + Clone + Drop + Send + Sync + 'static,
     G: Gate + Send + Sync + 'static,
 >(
     rt: &R,

@@ -8,6 +8,7 @@ use std::alloc::{AllocError, Global};
 use std::sync::{Arc, Wait};
 use std::test::Fail;
 use std::thread::Threads;
+use std::time::Clock;
 
 fn times(worker: usize, kind: Kind, times: u32) -> Times {
     Times {
@@ -54,7 +55,7 @@ fn holds() -> [Hold; 6] {
 }
 
 // Whether the run is done with all packets, and the worker that was held went on in time.
-fn passes<R: Wait + Threads + Copy + Clone + Drop + Send + Sync + 'static>(
+fn passes<R: Wait + Clock + Threads + Copy + Clone + Drop + Send + Sync + 'static>(
     rt: &R,
     alloc: Global,
     hold: Hold,

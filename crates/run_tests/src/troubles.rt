@@ -7,6 +7,7 @@ use std::alloc::{AllocError, Global};
 use std::sync::{Arc, Wait};
 use std::test::Fail;
 use std::thread::Threads;
+use std::time::Clock;
 
 // The third message of a switch is its reply to the first barrier, which has number 4.
 const THIRD: u64 = 3;
@@ -50,7 +51,7 @@ fn no_message(rt: HostRuntime) -> Result<(), Fail> {
 }
 
 // Whether a run halts with this line where this becomes of the third message of switch 1.
-fn halts_by<R: Wait + Threads + Copy + Clone + Drop + Send + Sync + 'static>(
+fn halts_by<R: Wait + Clock + Threads + Copy + Clone + Drop + Send + Sync + 'static>(
     rt: R,
     alloc: Global,
     effect: Effect,

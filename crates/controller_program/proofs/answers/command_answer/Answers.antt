@@ -47,3 +47,21 @@ pub returns-in-Generate-clause-answers : goal.returns-in-Generate-clause-answers
 returns-in-Generate-clause-answers g c =
     rw c.in-Generate.is
     (λ t k e. to_generate k c.in-Generate.number _ c.generate_answer.result (ap (λ (s : SourceSeen). s.faults.before) e) (ap (λ (s : SourceSeen). s.faults.after) e) c.generate_answer.ensures.answer c.generate_answer.ensures.stops)
+
+pub returns-in-Rules-clause-threads : goal.returns-in-Rules-clause-threads
+returns-in-Rules-clause-threads g c = rw c.in-Rules.is (λ n. absurd (n tt))
+
+pub returns-in-Trace-clause-threads : goal.returns-in-Trace-clause-threads
+returns-in-Trace-clause-threads g c = rw c.in-Trace.is (λ n. absurd (n tt))
+
+pub returns-in-Simulate-clause-threads : goal.returns-in-Simulate-clause-threads
+returns-in-Simulate-clause-threads g c = rw c.in-Simulate.is (λ n. absurd (n tt))
+
+pub returns-in-Equiv-clause-threads : goal.returns-in-Equiv-clause-threads
+returns-in-Equiv-clause-threads g c = rw c.in-Equiv.is (λ n. absurd (n tt))
+
+pub returns-in-Audit-clause-threads : goal.returns-in-Audit-clause-threads
+returns-in-Audit-clause-threads g c = rw c.in-Audit.is (λ n. absurd (n tt))
+
+pub returns-in-Generate-clause-threads : goal.returns-in-Generate-clause-threads
+returns-in-Generate-clause-threads g c = rw c.in-Generate.is (λ n. absurd (n tt))

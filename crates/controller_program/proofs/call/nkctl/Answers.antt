@@ -2,7 +2,8 @@ use Rattle.std.proofs.Common.{subst, Result, IfOk}
 use Rattle.program_answer.specs.declared.answer.Answer.{Answer}
 use Rattle.program_answer.specs.declared.answer.AnswerError.{AnswerError}
 use Rattle.program_answer.specs.Statuses.{IsReport}
-use Rattle.program_answer.specs.Called.{called, change, net_of, sink_of, source_of}
+use Rattle.program_answer.specs.Called.{change, net_of, sink_of, source_of}
+use Rattle.controller_program.specs.Called.{called, reporter_of}
 use Rattle.controller_program.specs.Commands.{IsAny}
 use Rattle.controller_program.proofs.CallLaws.{is_call}
 use Rattle.controller_program.proofs.Coming.{is_report}
@@ -18,5 +19,6 @@ returns-clause-call g c =
     let S = g.S.Source in
     let K = g.K.Sink in
     let N = g.N.Net in
+    let R = g.Q.Reporter in
     let sink = sink_of K.written K.faults c.args.sink.now c.say.new.sink in
-    is_call IsAny (called c.args.words.now (source_of S.left S.faults c.args.source.now c.any_answer-answer.new.source) sink (net_of N.faults N.broken N.gathered c.args.net.now c.any_answer-answer.new.net) (change g.T.Spawner.faults c.args.threads.now c.any_answer-answer.new.threads)) c.any_answer-answer.result c.say.result (c.any_answer-answer.ensures.answers sink) c.any_answer-answer.ensures.at_most c.say.ensures.said
+    is_call IsAny (called c.args.words.now (source_of S.left S.faults c.args.source.now c.any_answer-answer.new.source) sink (net_of N.faults N.broken N.gathered c.args.net.now c.any_answer-answer.new.net) (change g.T.Spawner.faults c.args.threads.now c.any_answer-answer.new.threads) (reporter_of g.Q.Receipt.Receipt.stamped (change R.faults c.args.reporter.now c.any_answer-answer.new.reporter))) c.any_answer-answer.result c.say.result (c.any_answer-answer.ensures.answers sink) c.any_answer-answer.ensures.at_most c.say.ensures.said

@@ -1,0 +1,201 @@
+//! A switch at the other end of a wire.
+ghost use Rattle.std.specs.Prelude.{IfSome};
+ghost use Rattle.openflow_wire.specs.Writing.{Fits};
+
+use crate::wire::Wire;
+use bytes::BytesMut;
+use of_framing::Framer;
+use openflow_wire::{Message, Octets, encode};
+use outside_net::Job;
+use std::alloc::Global;
+use switch_model::Switch;
+
+/// What a switch does otherwise than others.
+#[derive(Clone, Copy, Debug, PartialEq, Eq)]
+pub enum Twist {
+    /// Nothing.
+    Plain,
+    /// It tells this datapath id.
+    Tells(u64),
+    /// Its table has room for so many rows.
+    Capacity(usize),
+    /// Its HELLO has this version.
+    Greets(u8),
+    /// The first byte of its messages after HELLO is this.
+    Speaks(u8),
+    /// It sends an ECHO_REQUEST before each answer.
+    Probes,
+    /// It goes once it took so many messages.
+    Leaves(u64),
+}
+
+/// A switch that greets, takes what comes, and does each thing at once.
+#[derive(Drop)]
+pub struct Fake<W: Wire> {
+    alloc: Global,
+    wire: W,
+    switch: Switch,
+    twist: Twist,
+}
+
+// How many rows a table has room for.
+const CAPACITY: usize = 1000;
+
+impl<W: Wire> Fake<W> {
+    /// A switch of this number, over this wire.
+    pub fn new(alloc: Global, wire: W, sw: u16, twist: Twist) -> Fake<W> {
+        let capacity = match twist {
+            Twist::Capacity(rows) => rows,
+            _ => CAPACITY,
+        };
+        Fake {
+            alloc,
+            wire,
+            switch: Switch::new(alloc, sw, capacity),
+            twist,
+        }
+    }
+
+    // Says a message, with this first byte, and whether it went out.
+    fn say(&mut self, message: &Message, version: u8) -> bool
+        requires { Fits message.now }
+    {
+        let mut out = BytesMut::new(self.alloc);
+        if encode(message, &mut out).is_err() {
+            return false;
+        }
+        if let Some(first) = out.as_mut_slice().first_mut() {
+            *first = version;
+        }
+        self.wire.put(out.as_slice())
+    }
+
+    // Greets, and says whether that went out.
+    fn greet(&mut self) -> bool {
+        let version = match self.twist {
+            Twist::Greets(version) => version,
+            _ => 1,
+        };
+        self.say(&Message::Hello { version: 1, xid: 0 }, version)
+    }
+
+    // Says an answer, if there is one, and whether it went out.
+    fn answer(&mut self, answer: Option<Message>) -> bool
+        requires { IfSome answer Fits }
+    {
+        let Some(message) = answer else {
+            return true;
+        };
+        if self.twist == Twist::Probes && !self.probe() {
+            return false;
+        }
+        let message = self.twisted(message);
+        match self.twist {
+            Twist::Speaks(version) => self.say(&message, version),
+            _ => self.say(&message, 1),
+        }
+    }
+
+    // Asks whether the other side is there.
+    fn probe(&mut self) -> bool {
+        let Ok(payload) = Octets::from_slice(self.alloc, b"there?") else {
+            return false;
+        };
+        self.say(&Message::EchoRequest { xid: 77, payload }, 1)
+    }
+
+    // The message as this switch says it.
+    fn twisted(&self, message: Message) -> Message
+        requires { Fits message }
+        ensures { Fits result }
+    {
+        match (message, self.twist) {
+            (
+                Message::FeaturesReply {
+                    xid,
+                    datapath: _,
+                    buffers,
+                    tables,
+                    capabilities,
+                    actions,
+                    ports,
+                },
+                Twist::Tells(datapath),
+            ) => Message::FeaturesReply {
+                xid,
+                datapath,
+                buffers,
+                tables,
+                capabilities,
+                actions,
+                ports,
+            },
+            (message, _) => message,
+        }
+    }
+
+    // Takes a message, applies what is pending, and answers the barrier; and says whether it can go on.
+    fn take(&mut self, message: Message) -> bool
+        requires { Fits message }
+    {
+        let Ok(answer) = self.switch.take(self.alloc, message) else {
+            return false;
+        };
+        if !self.answer(answer) {
+            return false;
+        }
+        for _ in 0..self.switch.pending() {
+            let Ok(error) = self.switch.apply(self.alloc, 0) else {
+                return false;
+            };
+            if !self.answer(error) {
+                return false;
+            }
+        }
+        match self.switch.reply() {
+            Ok(reply) => self.answer(Some(reply)),
+            Err(_) => true,
+        }
+    }
+
+    // Receives some bytes, and says whether there were any.
+    fn receive(&mut self, framer: &mut Framer) -> bool {
+        let mut place = [0u8; 512];
+        match self.wire.get(&mut place) {
+            Some(count) => framer.feed(&place[..count]).is_ok(),
+            None => false,
+        }
+    }
+
+    // Works until the wire is closed.
+    fn work(&mut self) {
+        let mut framer = Framer::new(self.alloc);
+        let mut taken = 0;
+        if !self.wire.open() || !self.greet() {
+            return;
+        }
+        for _ in 0..u64::MAX {
+            match framer.next(self.alloc) {
+                None => {
+                    if !self.receive(&mut framer) {
+                        return;
+                    }
+                }
+                Some(Ok(message)) => {
+                    if self.twist == Twist::Leaves(taken) || !self.take(message) {
+                        return;
+                    }
+                    taken = u64::saturating_add(taken, 1);
+                }
+                Some(Err(_)) => return,
+            }
+        }
+    }
+}
+
+impl<W: Wire + Send + 'static> Job for Fake<W> {
+    fn run(self) {
+        let mut fake = self;
+        fake.work();
+    }
+}

@@ -1,0 +1,130 @@
+//! The answer of `nkctl drive`.
+ghost use Rattle.std.specs.Prelude.{◌≡◌, IfOk, IfErr};
+ghost use Rattle.document_text.specs.Answers.{doc_of};
+ghost use Rattle.drive_journal.specs.Journals.{AreWritable};
+ghost use Rattle.outside_io.specs.Lists.{TakesAtMost};
+ghost use Rattle.program_answer.specs.Called.{change, source_of};
+ghost use Rattle.program_answer.specs.Input.{policies_of};
+ghost use Rattle.program_answer.specs.Sound.{IsSound};
+ghost use Rattle.program_answer.specs.Versions.{AreVersions};
+ghost use Rattle.drive_command.specs.Drive.{DriveStops, IsDriveAnswer, IsDrivenAs, IsToldAs, TellsDriveCut};
+
+use crate::beginning::begin;
+use document_text::Document;
+use drive_journal::{Steering, starts_halt_at_loss};
+use drive_text::drive_text;
+use drive_workers::{DriveFault, drive_over};
+use outside_io::Source;
+use outside_net::{Gate, Net, Reporter, Spawner};
+use policy_rows::Version;
+use program_answer::{Answer, AnswerError, Status, read_input};
+use std::alloc::{AllocError, Global};
+use std::sync::{Arc, Wait};
+use std::time::Clock;
+use topology_model::Site;
+use update_coordinator::Coordinator;
+use value_text::Fault;
+
+/// The report of a drive of the policies of a source's document, with a worker in a thread of its own for each switch.
+/// Once the document is accepted, the reporter of drains listens, a port is opened for each switch, and then threads are
+/// started. The port of the first switch is `first`, the others follow in the order of the document, and the reporter
+/// comes after them. It waits for the switches and for the reports. Packets and the schedule of the document are not
+/// used, and the first session that is lost halts the drive.
+pub fn drive_answer<
+    R: Wait + Clock + Clone + Drop + Send + 'static,
+    S: Source,
+    N: Net,
+    T: Spawner,
+    G: Gate + Send + Sync + 'static,
+    Q: Reporter,
+>(
+    rt: &R,
+    alloc: Global,
+    source: &mut S,
+    first: u16,
+    net: &mut N,
+    threads: &mut T,
+    gate: Arc<G>,
+    reporter: &mut Q,
+) -> Result<Answer, AnswerError>
+where
+    N::End: 'static,
+    Q::Receipt: Send + 'static,
+    ensures answer { IfOk result (λ a. IsDriveAnswer Q.Receipt.stamped (source_of S.left S.faults source.old source.new) (change N.broken net.old net.new) a.status a.text) }
+    ensures stops { IfErr result (DriveStops (source_of S.left S.faults source.old source.new) (change N.faults net.old net.new) (change T.faults threads.old threads.new) (change Q.faults reporter.old reporter.new)) }
+    ensures at_most { TakesAtMost 4194305 (S.left source.old) (S.left source.new) }
+{
+    let input = read_input(alloc, source)?;
+    drive_document(
+        rt,
+        alloc,
+        input.document,
+        input.versions,
+        first,
+        net,
+        threads,
+        gate,
+        reporter,
+    )
+}
+
+// Drives the switches of a document through all of its policies, and reports the journal.
+fn drive_document<
+    R: Wait + Clock + Clone + Drop + Send + 'static,
+    N: Net,
+    T: Spawner,
+    G: Gate + Send + Sync + 'static,
+    Q: Reporter,
+>(
+    rt: &R,
+    alloc: Global,
+    document: Document,
+    versions: Vec<Version>,
+    first: u16,
+    net: &mut N,
+    threads: &mut T,
+    gate: Arc<G>,
+    reporter: &mut Q,
+) -> Result<Answer, AnswerError>
+where
+    N::End: 'static,
+    Q::Receipt: Send + 'static,
+    requires sound { IsSound (doc_of document) }
+    requires versions { AreVersions document.topology document.settings 0 (policies_of document) versions.items }
+    ensures driven { IfOk result (IsDrivenAs Q.Receipt.stamped (change N.broken net.old net.new) (doc_of document) versions.items) }
+    ensures cut { IfErr result (TellsDriveCut (change N.faults net.old net.new) (change T.faults threads.old threads.new) (change Q.faults reporter.old reporter.new)) }
+{
+    let topology = document.topology;
+    starts_halt_at_loss();
+    let coordinator = begin(alloc, &topology, versions)?;
+    match drive_over(rt, alloc, coordinator, first, net, reporter, threads, gate) {
+        Ok((coordinator, journal)) => {
+            let answer = report(alloc, topology.switches(), &coordinator, &journal)?;
+            Ok(answer)
+        }
+        Err(DriveFault::Net) => Err(AnswerError::Fault(Fault::Net)),
+        Err(DriveFault::NoThread) => Err(AnswerError::Fault(Fault::NoThread)),
+        Err(DriveFault::Report) => Err(AnswerError::Fault(Fault::Report)),
+        Err(DriveFault::Memory) => Err(AnswerError::Memory),
+    }
+}
+
+// The report of a journal with its coordinator.
+fn report(
+    alloc: Global,
+    switches: &[Site],
+    coordinator: &Coordinator,
+    journal: &[Steering],
+) -> Result<Answer, AllocError>
+    requires { AreWritable journal.now }
+    ensures { IfOk result (IsToldAs switches.now coordinator.now journal.now) }
+{
+    let halt = coordinator.halt();
+    let status = if halt.is_some() {
+        Status::Halted
+    } else {
+        Status::Done
+    };
+    let text = drive_text(alloc, switches, journal, coordinator.phase(), halt)?;
+    Ok(Answer { status, text })
+}
