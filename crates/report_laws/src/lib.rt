@@ -1,0 +1,6 @@
+//! The lines of events in reports, as laws, each the contract of a call that does nothing.
+#![tactic(auto)]
+
+mod laws;
+
+pub use laws::lines_tell;
