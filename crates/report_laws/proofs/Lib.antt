@@ -1,3 +1,5 @@
 mod Printed
 mod Incoming
 mod Telling
+mod Wording
+mod Rereading

@@ -1,18 +1,25 @@
--- What the lines of events in reports tell.
-use Rattle.std.specs.Prelude.{◌≡◌, ◌<◌, ◌^◌, ℕ, List, [], map, length, Option}
+-- What the lines of events in reports tell, and how a schedule reads them.
+use Rattle.std.specs.Prelude.{◌≡◌, ◌<◌, ◌≤◌, ◌^◌, ℕ, true, List, [], ◌∷◌, ◌++◌, map, length, slice_get, Option, Some}
 use Rattle.std.specs.List.{AllByRecursion}
 use Rattle.nk_values.specs.Packets.{IsInRange}
-use Rattle.nk_values.specs.Tags.{IsTag}
+use Rattle.nk_values.specs.Tags.{IsTag, IsVlanId}
 use Rattle.topology_model.specs.Layouts.{Layout}
 use Rattle.topology_model.specs.Wired.{IsTopology}
+use Rattle.topology_model.specs.declared.line.Site.{Site}
 use Rattle.packet_tracer.specs.declared.flight.Flight.{Flight}
 use Rattle.update_coordinator.specs.declared.cause.Cause.{Cause}
 use Rattle.update_coordinator.specs.declared.phase.Phase.{Phase}
 use Rattle.update_laws.specs.Traffic.{Arrived}
 use Rattle.world_core.specs.declared.event.Event.{Event}
 use Rattle.world_core.specs.declared.event.Event.TheVariants as event
-use Rattle.report_text.specs.Events.{events_text}
+use Rattle.value_text.specs.Values.{line}
+use Rattle.report_text.specs.Events.{event_text, events_text}
 use Rattle.report_text.specs.Reports.{IsReportText}
+use Rattle.document_text.specs.declared.document.Event.{Event as Command}
+use Rattle.document_text.specs.declared.document.Event.TheVariants as command
+use Rattle.document_text.specs.States.{State}
+use Rattle.document_text.specs.Steps.{Next, step}
+use Rattle.document_text.specs.Texts.{words_of}
 
 -- ---- what reports tell
 
@@ -52,3 +59,30 @@ pub record IsReportOf (t : Layout) (events : List Event) (text : List ℕ) : Typ
 -- So does a report.
 abbrev pub ReportsTell : Type 0
 ReportsTell = (t : Layout) (es fs : List Event) (text : List ℕ) → IsTopology t → AllByRecursion (IsInWords t) es → AllByRecursion (IsInWords t) fs → IsReportOf t es text → IsReportOf t fs text → map shown es ≡ map shown fs
+
+-- ---- what is read again
+
+-- the switch at a place is there, and the command names it by its number
+abbrev pub Names : List Site → ℕ → (ℕ → Command) → Command → Type 0
+Names switches place of d = (x : Site) × (slice_get switches place ≡ Some x) × (d ≡ of x.sw)
+
+-- What a schedule has for the event: places of copies and of flow mods are at most 4294967295, and stamps are VLAN ids. No schedule has a packet by itself or foreign bytes.
+abbrev pub IsScheduled : List Site → Event → Command → Type 0
+IsScheduled switches event.Begin d = d ≡ command.Begin
+IsScheduled switches (event.Send place) d = Names switches place command.Send d
+IsScheduled switches (event.Take place) d = Names switches place command.Take d
+IsScheduled switches (event.Apply place k) d = (k ≤ 4294967295) × Names switches place (λ n. command.Apply n k) d
+IsScheduled switches (event.Reply place) d = Names switches place command.Reply d
+IsScheduled switches (event.Heard place) d = Names switches place command.Heard d
+IsScheduled switches (event.Hop k) d = (k ≤ 4294967295) × (d ≡ command.Hop k)
+IsScheduled switches (event.Drained stamp) d = IsVlanId stamp × (d ≡ command.Drained stamp)
+IsScheduled switches (event.Lost place) d = Names switches place command.Lost d
+IsScheduled switches (event.Rejoin place) d = Names switches place command.Rejoin d
+IsScheduled switches (event.Stuck k) d = (k ≤ 4294967295) × (d ≡ command.Stuck k)
+IsScheduled switches (event.Arrive pk tag) d = ⊥
+IsScheduled switches (event.Foreign place side got) d = ⊥
+
+-- Inside of a schedule that may have one line more, the line that reports print for an event, without the `e ` in front, is read as that event.
+abbrev pub PrintedIsRead : Type 0
+PrintedIsRead = (s : State) (n : ℕ) (e : Event) (d : Command) → IsTopology s.layout → s.inside ≡ true → length s.events < 100000 → IsScheduled s.layout.switches e d →
+    step s n (words_of (line (event_text s.layout.switches e))) ≡ Next (record s { events = s.events ++ record { line = n; event = d } ∷ [] })

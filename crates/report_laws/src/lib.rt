@@ -3,4 +3,4 @@
 
 mod laws;
 
-pub use laws::lines_tell;
+pub use laws::{lines_tell, printed_is_read};
