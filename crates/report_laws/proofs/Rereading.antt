@@ -1,5 +1,5 @@
 -- The lines of events that reports print are read by the grammar of documents.
-use Rattle.std.proofs.Common.{◌≡◌, ◌<◌, ◌≤◌, ◌^◌, inl, inr, ℕ, Bool, true, false, not, ◌&&◌, ◌||◌, ◌==◌, nat_le, cond, List, [], ◌∷◌, ◌++◌, length, codes, refl, sym, ◌∙◌, ap, subst, Option, None, Some, slice_get, Result, Ok, Err, arith}
+use Rattle.std.proofs.Common.{◌≡◌, ◌<◌, ◌≤◌, ◌^◌, inl, inr, ℕ, Bool, true, false, not, ◌&&◌, ◌||◌, ◌==◌, nat_le, cond, List, [], ◌∷◌, ◌++◌, length, codes, refl, sym, ◌∙◌, ap, subst, Option, Some, slice_get, Result, Ok, Err, arith}
 use Rattle.std.proofs.lemmas.Bool.Decides.{Decides-eqb, nat_tests}
 use Rattle.std.specs.Fmt.{decimal}
 use Rattle.std.specs.List.{list_any}
@@ -22,7 +22,7 @@ use Rattle.document_text.specs.declared.head.Head.TheVariants.{Unlisted}
 use Rattle.document_text.specs.Packets.{is_value}
 use Rattle.document_text.specs.Schedules.{formed, at_switch, event_of, event_of_one, event_of_two}
 use Rattle.document_text.specs.States.{State}
-use Rattle.document_text.specs.Steps.{Step, Next, Stops, head_of, is_too_many, event_too_many, happens, scheduled, declares, step}
+use Rattle.document_text.specs.Steps.{Next, Stops, head_of, is_too_many, happens, scheduled, declares, step}
 use Rattle.document_text.specs.Texts.{is_end, is_filled, words_of, numeral}
 use Rattle.line_laws.proofs.Cut.{every}
 use Rattle.report_laws.specs.Laws.{Names, PrintedIsRead}
