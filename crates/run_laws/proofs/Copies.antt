@@ -1,5 +1,5 @@
 -- The invariant of the world's copies, for each run from a start.
-use Rattle.std.proofs.Common.{◌≡◌, ◌≤◌, ◌<◌, ℕ, suc, inl, inr, List, length, refl, sym, ◌∙◌, ap, subst, Option, Some, slice_get, arith}
+use Rattle.std.proofs.Common.{◌≡◌, ◌≤◌, ◌<◌, ℕ, suc, inl, inr, List, ◌∙◌, ap, subst, Option, Some, slice_get, arith}
 use Rattle.nk_values.specs.Members.{IsIn}
 use Rattle.policy_rows.specs.declared.version.Version.{Version}
 use Rattle.packet_tracer.specs.declared.flight.Flight.{Flight}

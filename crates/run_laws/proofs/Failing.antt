@@ -1,22 +1,20 @@
 -- By which messages a session fails, in a run from a start.
-use Rattle.std.proofs.Common.{◌≡◌, ◌⊎◌, ◌<◌, ◌≤◌, ◌==◌, if◌then◌else◌, ℕ, inl, inr, Bool, true, false, List, [], ◌∷◌, ◌++◌, refl, sym, ◌∙◌, ap, subst, Option, None, Some, is_some, slice_get}
+use Rattle.std.proofs.Common.{◌≡◌, ◌⊎◌, if◌then◌else◌, ℕ, inl, inr, Bool, true, false, List, [], ◌∷◌, ◌++◌, refl, sym, ◌∙◌, ap, subst, Option, None, is_some}
 use Rattle.std.proofs.lemmas.Bool.{false≢true, cases_lt}
 use Rattle.std.proofs.lemmas.Bool.Decides.{Decides-eqb}
-use Rattle.nk_values.specs.declared.row.FlowMod.{FlowMod}
 use Rattle.nk_values.specs.Members.{IsIn}
 use Rattle.openflow_wire.specs.declared.message.Message.{Message}
 use Rattle.openflow_wire.specs.declared.message.Message.TheVariants as to
-use Rattle.session_core.specs.Sessions.{Standing, move_in, move_of}
+use Rattle.session_core.specs.Sessions.{move_in, move_of}
 use Rattle.session_core.specs.declared.session.SessionFault.{SessionFault}
 use Rattle.session_core.specs.declared.session.SessionFault.TheVariants.{SwitchError, WrongSwitch}
 use Rattle.session_core.specs.declared.session.SessionState.{SessionState}
 use Rattle.session_core.specs.declared.session.SessionState.TheVariants as state
-use Rattle.session_core.specs.declared.session.Move.{Move}
 use Rattle.session_core.specs.declared.session.Move.TheVariants.{Greeted, Up, Barrier, Failed}
 use Rattle.update_coordinator.specs.declared.cause.Cause.{Cause}
 use Rattle.update_coordinator.specs.declared.cause.Cause.TheVariants as cause
 use Rattle.update_laws.specs.Fleets.{wire_of}
-use Rattle.update_laws.specs.Stages.{Stage, Away, Meeting, Asking, Telling, Sending, Waiting, Answered, Resting, AreErrors, IsFullError, IsLine, IsStanding, Said, Voice, is_away, state_of}
+use Rattle.update_laws.specs.Stages.{Stage, Away, Meeting, Asking, Telling, Sending, Waiting, Answered, Resting, AreErrors, IsFullError, IsLine, Said, is_away, state_of}
 use Rattle.update_laws.specs.Updates.{Setting, Phase}
 use Rattle.update_laws.specs.Wired.{Wire}
 use Rattle.update_laws.proofs.Fleets.{end-here}
@@ -25,9 +23,9 @@ use Rattle.world_core.specs.declared.event.Event.{Event}
 use Rattle.world_core.specs.Laws.{HasRoom}
 use Rattle.world_core.specs.Worlds.{WorldValue, setting, start, numbers_of, IsKept}
 use Rattle.world_core.proofs.Beginning.{start-kept}
-use Rattle.run_laws.specs.Laws.{LeadsTo, IsFailure, IsRefused, OnlyRefused}
+use Rattle.run_laws.specs.Laws.{LeadsTo, IsFailure, OnlyRefused}
 use Rattle.run_laws.proofs.Copies.{leads-kept}
-use Rattle.run_laws.proofs.Room.{KeepsRoom, NoneIsFull, runs-room, start-room}
+use Rattle.run_laws.proofs.Room.{KeepsRoom, runs-room, start-room}
 
 fault-is : (f g : SessionFault) → Failed f ≡ Failed g → f ≡ g
 fault-is f g e = cc

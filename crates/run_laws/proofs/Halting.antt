@@ -1,5 +1,5 @@
 -- Which events halt.
-use Rattle.std.proofs.Common.{◌≡◌, ◌≢◌, ◌↔◌, ◌⊎◌, inl, inr, ℕ, zero, suc, List, [], ◌∷◌, ◌++◌, length, refl, sym, ◌∙◌, ap, subst, Option, None, Some, slice_get, slice_set}
+use Rattle.std.proofs.Common.{◌≡◌, ◌≢◌, ◌↔◌, ◌⊎◌, inl, inr, ℕ, List, [], ◌∷◌, length, refl, sym, ◌∙◌, ap, subst, Option, None, Some, slice_set}
 use Rattle.openflow_wire.specs.declared.message.Message.{Message}
 use Rattle.session_core.specs.Sessions.{move_of}
 use Rattle.session_core.specs.declared.session.SessionFault.{SessionFault}

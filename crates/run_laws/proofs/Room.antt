@@ -1,12 +1,12 @@
 -- Where switches have room for 130,000 rows no ERROR of a full table is on its way.
-use Rattle.std.proofs.Common.{◌≡◌, ◌≢◌, ◌≤◌, ℕ, inl, inr, Bool, true, false, List, [], ◌∷◌, ◌++◌, map, refl, sym, ◌∙◌, ap, subst, Option, None, Some, slice_get, slice_set}
+use Rattle.std.proofs.Common.{◌≡◌, ◌≤◌, ℕ, inl, inr, Bool, true, false, List, [], ◌∷◌, ◌++◌, map, sym, ◌∙◌, ap, subst, Option, None, Some, slice_get, slice_set}
 use native.Mathlib.Decide.{ℕ_discrete}
 use Rattle.nk_values.specs.Members.{IsIn}
 use Rattle.nk_values.proofs.MemberLaws.{in-either}
 use Rattle.openflow_wire.specs.declared.message.Message.{Message}
 use Rattle.openflow_wire.specs.declared.message.Message.TheVariants as to
 use Rattle.switch_model.specs.Switches.{answer_of}
-use Rattle.update_laws.specs.Fleets.{End, Fleet, AppliesAt}
+use Rattle.update_laws.specs.Fleets.{End, Fleet}
 use Rattle.update_laws.specs.Stages.{IsFullError}
 use Rattle.update_laws.specs.Wired.{answered, told_back}
 use Rattle.update_laws.proofs.Places.{put-set, get-map}
