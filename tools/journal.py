@@ -33,6 +33,8 @@ class Journal:
     def __init__(self, document: Document, report: Report) -> None:
         self.document, self.report = document, report
         self.events = [event.split() for event in report.events]
+        if any(words[0] in ("send", "heard") and len(words) == 3 or words[0] == "garbled" for words in self.events):
+            raise Fault("this is the report of a drive, which has no switches of a model: `ovs-ofctl ofp-print` reads its messages")
         self.barriers = barriers(self.events)
         self.sessions = {switch: Session() for switch in document.switches}
         self.phase: Phase = ("opening",)
