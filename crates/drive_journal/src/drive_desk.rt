@@ -1,9 +1,9 @@
 //! The one lock of a drive.
-ghost use Rattle.std.specs.Prelude.{◌≡◌, ◌<◌, None, IfSome, length};
+ghost use Rattle.std.specs.Prelude.{IfSome};
 ghost use Rattle.drive_journal.specs.Drives.{IsOver};
 
 use crate::drive::Drive;
-use crate::moment::{is_done, moment_of};
+use crate::moment::is_done;
 use crate::name::DriveName;
 use crate::refused::Refused;
 use crate::steered::Steered;
@@ -13,23 +13,17 @@ use std::alloc::{AllocError, Global};
 use std::sync::{Arc, Condvar, Mutex, MutexGuard, Wait};
 use std::thread;
 use std::time::{Clock, Duration};
-use worker_desk::{Desk, Given, Shut, Told};
-
-/// The worker of the switch at a place, from 0.
-#[derive(Clone, Copy, Debug, PartialEq, Eq)]
-pub struct DriveSeat {
-    pub place: usize,
-}
 
 /// A drive behind its one lock, as its workers share it. Each call locks once and asks the drive; what it answers is
 /// stated of the drive's own call of that name. A worker that is told there is nothing to do waits, with the lock given
-/// up, until a phase begins; after a second it is to receive for a moment, so that it hears what its switch sends unasked.
+/// up, until a phase begins. After a second it is to receive for a moment, so that it hears what its switch sends unasked.
+/// After each message it is to receive once more before it waits, so a switch that sends much is heard without a pause.
 #[derive(Drop)]
 pub struct DriveDesk<R, L: DriveName, E: Link, Q: Receipt> {
-    rt: R,
-    alloc: Global,
-    drive: Arc<Mutex<Option<Drive<L, E, Q>>>>,
-    bell: Arc<Condvar>,
+    pub(crate) rt: R,
+    pub(crate) alloc: Global,
+    pub(crate) drive: Arc<Mutex<Option<Drive<L, E, Q>>>>,
+    pub(crate) bell: Arc<Condvar>,
 }
 
 // How long a worker with nothing to do waits, in milliseconds.
@@ -37,76 +31,6 @@ const REST: u64 = 1000;
 
 // How long the caller waits before it asks for a report again, in milliseconds.
 const PAUSE: u64 = 10;
-
-impl<R: Wait + Clock + Drop, L: DriveName, E: Link, Q: Receipt> Desk for DriveDesk<R, L, E, Q> {
-    type Seat = DriveSeat;
-
-    type End = E;
-
-    ghost seated = { λ s. s.place < length L.start.sites };
-
-    ghost place = { λ s. s.place };
-
-    ghost place_of = { λ name. name };
-
-    ghost given = { λ s. None };
-
-    ghost told = { λ s. None };
-
-    ghost kept = { λ s. None };
-
-    fn give(&self, seat: &mut DriveSeat) -> Result<Given<E>, AllocError> {
-        let mut guard = self.drive.lock(&self.rt);
-        let given = match &mut *guard {
-            None => Ok(Given::Stop),
-            Some(drive) => drive.give(self.alloc, seat.place),
-        };
-        if is_idle(&given) && self.rest(guard) {
-            return Ok(Given::Expect { made: None });
-        }
-        given
-    }
-
-    fn tell(&self, seat: &mut DriveSeat, bytes: &[u8], end: E, k: u64) -> Told<E> {
-        let mut guard = self.drive.lock(&self.rt);
-        let before = moment_of(&guard);
-        let told = match &mut *guard {
-            None => Told::Back { end, made: None },
-            Some(drive) => drive.tell(self.alloc, seat.place, bytes, end, k),
-        };
-        let after = moment_of(&guard);
-        drop(guard);
-        if before != after {
-            self.bell.notify_all();
-        }
-        told
-    }
-
-    fn lost(&self, seat: &mut DriveSeat, end: E) -> Told<E> {
-        let told = match &mut *self.drive.lock(&self.rt) {
-            None => Told::Back { end, made: None },
-            Some(drive) => drive.lost(seat.place, end),
-        };
-        self.bell.notify_all();
-        told
-    }
-
-    fn shut(&self, seat: &mut DriveSeat) -> Shut<E> {
-        let guard = self.drive.lock(&self.rt);
-        let shut = match &*guard {
-            None => Shut::Stop,
-            Some(drive) => drive.shut(seat.place),
-        };
-        if matches!(shut, Shut::Nothing) {
-            self.rest(guard);
-        }
-        shut
-    }
-
-    fn close(&self, _seat: &mut DriveSeat) {
-        self.close_all();
-    }
-}
 
 impl<R: Wait + Clock + Drop, L: DriveName, E: Link, Q: Receipt> DriveDesk<R, L, E, Q> {
     /// Locks a drive up.
@@ -215,7 +139,7 @@ impl<R: Wait + Clock + Drop, L: DriveName, E: Link, Q: Receipt> DriveDesk<R, L, 
     }
 
     // Waits for a phase with the lock given up, and says whether none began in this time.
-    fn rest(&self, guard: MutexGuard<'_, Option<Drive<L, E, Q>>>) -> bool {
+    pub(crate) fn rest(&self, guard: MutexGuard<'_, Option<Drive<L, E, Q>>>) -> bool {
         self.rest_for(guard, REST)
     }
 
@@ -227,9 +151,4 @@ impl<R: Wait + Clock + Drop, L: DriveName, E: Link, Q: Receipt> DriveDesk<R, L, 
         drop(guard);
         rested.timed_out()
     }
-}
-
-// Whether there was nothing to do.
-fn is_idle<E>(given: &Result<Given<E>, AllocError>) -> bool {
-    matches!(given, Ok(Given::Nothing { made: None }))
 }

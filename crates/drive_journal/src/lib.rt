@@ -3,6 +3,7 @@
 #![tactic(auto)]
 
 mod calls;
+mod desk_calls;
 mod drive;
 mod drive_desk;
 mod element;
@@ -12,16 +13,18 @@ mod moment;
 mod name;
 mod parts;
 mod refused;
+mod seat;
 mod steered;
 mod steering;
 mod updates;
 
 pub use drive::Drive;
-pub use drive_desk::{DriveDesk, DriveSeat};
+pub use drive_desk::DriveDesk;
 pub use element::Element;
 pub use laws::{a_lost_session_is_last, greetings_are_noted, starts_halt_at_loss};
 pub use name::DriveName;
 pub use refused::Refused;
+pub use seat::DriveSeat;
 pub use steered::Steered;
 pub use steering::Steering;
 pub use updates::Next;

@@ -54,7 +54,7 @@ fn run_worker<R: Wait + Clock + Drop, L: DriveName, E: Link, Q: Receipt, G: Gate
     requires place { place < length L.start.sites }
     requires end { IsEndOf E.named E.received place end }
 {
-    let mut seat = DriveSeat { place };
+    let mut seat = DriveSeat::new(place);
     drop(post.work(post.desk.runtime(), &mut seat, end));
 }
 

@@ -1,0 +1,22 @@
+//! Where a worker of a drive sits.
+ghost use Rattle.std.specs.Prelude.{◌≡◌};
+
+/// The worker of the switch at a place, from 0.
+#[derive(Clone, Copy, Debug, PartialEq, Eq)]
+pub struct DriveSeat {
+    pub(crate) place: usize,
+    // Whether it told something since it last had nothing to do.
+    pub(crate) heard: bool,
+}
+
+impl DriveSeat {
+    /// A worker that told nothing yet.
+    pub fn new(place: usize) -> DriveSeat
+        ensures { result.place ≡ place }
+    {
+        DriveSeat {
+            place,
+            heard: false,
+        }
+    }
+}
