@@ -90,7 +90,7 @@ impl<L: DriveName, E: Link, Q: Receipt> Drive<L, E, Q> {
     }
 
     // Whether a message of the switch at a place is to come.
-    fn awaits(&self, place: usize) -> bool
+    pub(crate) fn awaits(&self, place: usize) -> bool
         requires { place < length L.start.sites }
         ensures { IsTrue result ↔ IsAwaited place self.now }
     {

@@ -48,12 +48,14 @@ impl<R: Wait + Clock + Drop, L: DriveName, E: Link, Q: Receipt> Desk for DriveDe
     }
 
     fn tell(&self, seat: &mut DriveSeat, bytes: &[u8], end: E, k: u64) -> Told<E> {
-        seat.heard = true;
         let mut guard = self.drive.lock(&self.rt);
         let before = moment_of(&guard);
         let told = match &mut *guard {
             None => Told::Back { end, made: None },
-            Some(drive) => drive.tell(self.alloc, seat.place, bytes, end, k),
+            Some(drive) => {
+                seat.heard = !drive.awaits(seat.place);
+                drive.tell(self.alloc, seat.place, bytes, end, k)
+            }
         };
         let after = moment_of(&guard);
         drop(guard);

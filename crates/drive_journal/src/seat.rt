@@ -5,7 +5,7 @@ ghost use Rattle.std.specs.Prelude.{◌≡◌};
 #[derive(Clone, Copy, Debug, PartialEq, Eq)]
 pub struct DriveSeat {
     pub(crate) place: usize,
-    // Whether it told something since it last had nothing to do.
+    // Whether what it told last was not asked for, and it did not look for more.
     pub(crate) heard: bool,
 }
 
