@@ -47,7 +47,7 @@ fn audited(alloc: Global, document: Document, versions: Vec<Version>) -> Result<
     Ok(answer)
 }
 
-// The report of the events that led to a world, with its audits. The call ends as halted if the updates stand still
+// The report of the events that led to a world, with its audits. The call ends as halted if the updates are halted
 // there.
 fn audits_answer(alloc: Global, world: &World, events: &[Event]) -> Result<Answer, AllocError>
     ensures { IfOk result (AreAuditsOf world.now events.now) }
@@ -60,7 +60,7 @@ fn audits_answer(alloc: Global, world: &World, events: &[Event]) -> Result<Answe
     })
 }
 
-// A report, and the audits of a world behind it.
+// A report, and the audits of a world after it.
 fn with_audits(alloc: Global, world: &World, report: &Text) -> Result<Text, AllocError>
     ensures { IfOk result (HasAudits world.now (length world.now.topology.switches) report.now) }
 {

@@ -43,7 +43,7 @@ fn assigned(pol: &Pol, packet: &Packet) -> Packet {
     }
 }
 
-/// The text of the star of some steps, each behind a guard.
+/// The text of the star of some steps, each after a guard.
 pub fn steps(alloc: Global, count: u64, guard: &str) -> Result<String, AllocError> {
     let mut text = String::from_str(alloc, "(drop")?;
     for i in 0..count {

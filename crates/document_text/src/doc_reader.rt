@@ -29,15 +29,15 @@ pub struct DocReader {
     pub(crate) spot: Spot,
     // The number of the line at the spot, or of the one inside of which it is.
     pub(crate) line: u64,
-    // Of the policy in whose text the spot is, and the place behind what it was fed.
+    // Of the policy in whose text the spot is, and the place after what it was fed.
     pub(crate) policy: PolicyReader,
     pub(crate) behind: Place,
     pub(crate) pending: BytesMut,
     // How many bytes that count were fed, at most one more than a document has, and the number of the line of the
-    // byte behind those that a document may have.
+    // byte after those that a document may have.
     pub(crate) fed: usize,
     pub(crate) row: u64,
-    // With so many bytes pending they are gone through.
+    // The number of pending bytes at which they are gone through.
     pub(crate) look: usize,
     ghost few: { fed ≤ 4194305 },
     ghost held: { length pending.items ≤ fed },

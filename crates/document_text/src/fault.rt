@@ -10,7 +10,7 @@ pub struct DocFault {
     pub column: u64,
 }
 
-/// Why no document was read: the text's first fault, or want of memory.
+/// Why no document was read: the text's first fault, or out of memory.
 #[derive(Clone, Copy, Debug, PartialEq, Eq)]
 pub enum DocumentError {
     Fault(DocFault),

@@ -52,7 +52,7 @@ impl DocReader {
     pub fn finish(self, alloc: Global) -> Result<Document, DocumentError>
         ensures reads { (text : List ℕ) → StandsFor self text → Answers (IsReading text) result }
 
-        // The other way round: want of memory aside, the answer is what the text is.
+        // The other way round: unless memory runs out, the answer is what the text is.
         ensures each { (text : List ℕ) (o : Outcome) → StandsFor self text → IsReading text o → IsAnswer o result }
     {
         let mut reader = self;
@@ -95,14 +95,14 @@ impl DocReader {
     }
 }
 
-// The first bytes of a text, at most so many.
+// The first bytes of a text, at most `most`.
 fn first(text: &[u8], most: usize) -> &[u8]
     ensures { result.now ≡ take most text.now }
 {
     &text[..most.min(text.len())]
 }
 
-// The number of the line behind these bytes, the first of which is on this line.
+// The number of the line after these bytes, the first of which is on this line.
 fn line_behind(line: u64, front: &[u8]) -> u64
     requires { line + length front.now ≤ 4194306 }
     ensures { result + 1 ≡ line + line_behind front.now }

@@ -79,7 +79,7 @@ impl DocReader {
         Ok(true)
     }
 
-    // Takes the words of a line of so many bytes. It stays pending.
+    // Takes the words of a line of `len` bytes. It stays pending.
     fn take(&mut self, alloc: Global, len: usize) -> Result<Taken, Stop>
         requires { len ≤ length self.old.pending.items }
         ensures takes { Takes (step (state_of self.old.reader) self.old.line (words_of (take len self.old.pending.items))) (state_of self.old.reader) (state_of self.new.reader) result }
@@ -153,7 +153,7 @@ impl DocReader {
         Ok(true)
     }
 
-    // Gives so many bytes to the reader of the policy.
+    // Gives `len` bytes to the reader of the policy.
     fn give(&mut self, alloc: Global, len: usize) -> Result<(), AllocError>
         requires { len ≤ length self.old.pending.items }
         ensures ok { OnOk result (Gives len self.old self.new) }
@@ -167,7 +167,7 @@ impl DocReader {
         Ok(())
     }
 
-    // Makes the policy behind whose `end` line the spot is.
+    // Makes the policy whose `end` line is in front of the spot.
     fn close(&mut self, alloc: Global) -> Result<(), AllocError>
         requires { (begin : ℕ) × (self.old.spot ≡ spot.Closing begin) }
         ensures reaches { (end : Bool) → Reaches end self.old self.new }

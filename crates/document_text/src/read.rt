@@ -26,7 +26,7 @@ use std::alloc::Global;
 pub fn read_document(alloc: Global, text: &[u8]) -> Result<Document, DocumentError>
     ensures reads { Answers (IsReading text.now) result }
 
-    // The other way round: want of memory aside, the answer is what the text is.
+    // The other way round: unless memory runs out, the answer is what the text is.
     ensures each { (o : Outcome) → IsReading text.now o → IsAnswer o result }
 {
     let mut reader = DocReader::new(alloc);

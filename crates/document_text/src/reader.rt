@@ -5,7 +5,7 @@ ghost use Rattle.document_text.specs.States.{place_of_kind, has_edge};
 use crate::told::Told;
 use topology_model::Draft;
 
-/// What the lines so far have declared. Behind the topology's lines an edge port is known.
+/// What the lines so far have declared. After the topology's lines an edge port is known.
 #[derive(Drop)]
 pub struct Reader {
     pub draft: Draft,
@@ -13,7 +13,7 @@ pub struct Reader {
     pub ghost edge: { nat_le 2 (place_of_kind told.reached) ≡ true → has_edge draft ≡ true },
 }
 
-/// What stands behind a line that was taken: another line, or a policy's text.
+/// What stands after a line that was taken: another line, or a policy's text.
 #[derive(Clone, Copy, Debug, PartialEq, Eq)]
 pub enum Taken {
     Line,

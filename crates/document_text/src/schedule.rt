@@ -19,7 +19,7 @@ use std::alloc::Global;
 // The greatest place of a flow mod or a flight.
 const LAST_INDEX: u64 = 0xffff_ffff;
 
-/// Takes `schedule`, behind which events stand.
+/// Takes `schedule`, after which events stand.
 pub fn schedule_line(reader: &mut Reader, alloc: Global, words: &[&[u8]]) -> Result<(), Stop>
     ensures { Becomes (schedule_line (state_of reader.old) (texts words.now)) (state_of reader.old) (state_of reader.new) result }
 {

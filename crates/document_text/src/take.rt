@@ -47,7 +47,7 @@ impl Reader {
         }
     }
 
-    /// Whether a line of this kind stands behind one of a later kind.
+    /// Whether a line of this kind stands after one of a later kind.
     pub fn is_late(&self, kind: Kind) -> bool
         ensures { result ≡ is_late (state_of self.now) kind }
     {
@@ -156,7 +156,7 @@ impl Reader {
         Ok(())
     }
 
-    /// The document of all lines, where the one behind the last has this number.
+    /// The document of all lines, where the one after the last has this number.
     pub fn finish(self, alloc: Global, line: u64) -> Result<Document, DocumentError>
         ensures { IsAnswer (finished (state_of self) line) result }
     {

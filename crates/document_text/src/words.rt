@@ -12,7 +12,7 @@ use netkat_parser::{GREATEST, cut, numeral as parsed};
 use nk_values::TextFault;
 use std::alloc::{AllocError, Global};
 
-/// How many bytes the first line has, with the LF that ends it, or none where there is no LF.
+/// How many bytes the first line has, with the LF that ends it, or none if there is no LF.
 pub fn line_end(text: &[u8]) -> Option<usize>
     ensures some { IfSome result (λ n. (0 < n) × (n ≤ length text.now) × ((rest : List ℕ) → first_len (text.now ++ rest) ≡ n)) }
     ensures none { IfNone result (IsPiece text.now) }
@@ -41,7 +41,7 @@ pub fn words<'a>(alloc: Global, line: &'a [u8]) -> Result<Vec<&'a [u8]>, AllocEr
     }
 }
 
-// The words with a piece behind them, if it has some byte.
+// The words with a piece after them, if it has some byte.
 fn with_word<'a>(all: Vec<&'a [u8]>, piece: &'a [u8]) -> Result<Vec<&'a [u8]>, AllocError>
     ensures { IfOk result (λ new. texts new.items ≡ texts all.entry.items ++ filter is_filled (piece.now ∷ [])) }
 {

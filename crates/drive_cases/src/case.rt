@@ -77,7 +77,7 @@ impl Case {
         }
     }
 
-    // Takes what is odd: one word, or words with a number behind them.
+    // Takes what is odd: one word, or words with a number after them.
     fn take_words(&mut self, words: &str) -> Result<(), AllocError> {
         match words {
             "short" => self.short = true,

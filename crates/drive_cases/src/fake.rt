@@ -17,7 +17,7 @@ pub enum Twist {
     Plain,
     /// It tells this datapath id.
     Tells(u64),
-    /// Its table has room for so many rows.
+    /// The number of rows that its table has room for.
     Capacity(usize),
     /// Its HELLO has this version.
     Greets(u8),
@@ -25,7 +25,7 @@ pub enum Twist {
     Speaks(u8),
     /// It sends an ECHO_REQUEST before each answer.
     Probes,
-    /// It goes once it took so many messages.
+    /// It goes once it took this number of messages.
     Leaves(u64),
 }
 

@@ -27,7 +27,7 @@ pub fn drive_in_memory<
     Ok(outcome)
 }
 
-// Starts a switch behind each port that is open.
+// Starts a switch at each port that is open.
 fn start_fakes<R: Wait + Threads + Copy + Clone + Drop + Send + Sync + 'static>(
     alloc: Global,
     case: &Case,

@@ -14,7 +14,7 @@ use topology_model::Site;
 use update_coordinator::{Cause, Phase};
 use value_text::Text;
 
-/// The events of a drive, in order, a line each, and then the phase and why the updates stand still, if they do. A
+/// The events of a drive, in order, a line each, and then the phase and why the updates are halted, if they are. A
 /// message is told as its bytes (OpenFlow 1.0.0, section 5), two hexadecimal digits each. Switches go by their numbers,
 /// which `switches` has in the order of their places.
 pub fn drive_text(

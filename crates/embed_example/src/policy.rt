@@ -25,7 +25,7 @@ pub enum PolicyError {
     Compile(CompileFault),
     /// It has a diagram, and no rows in this topology.
     Emit(EmitFault),
-    /// Want of memory.
+    /// out of memory.
     Memory,
 }
 

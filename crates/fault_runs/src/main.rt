@@ -5,10 +5,10 @@
 //! - `returns`: the same in a document that lets lost switches return;
 //! - `second`: hostile links of a second session;
 //! - `random N`: N runs over links that fail at random, whose events are a schedule with the same report;
-//! - `reports N`: the document of such runs, and then the report of each behind a line `run`, for others to judge;
+//! - `reports N`: the document of such runs, and then the report of each after a line `run`, for others to judge;
 //! - `starts`, `pairs`, `no return`: each thread of a run, each pair of ends, and the pair of a return;
 //! - `reads`, `writes`: each read of a document in pieces of 16 bytes, and each write of a trace in such pieces;
-//! - `events`: a session that is lost behind each event of an update, with two packets that come in behind it.
+//! - `events`: a session that is lost after each event of an update, with two packets that come in after it.
 //!
 //! Where a run or an update was cut off, each packet that came in and is on its way no more has to have the histories of
 //! one policy of its entry, as the definition of NetKAT gives them.
@@ -64,7 +64,7 @@ fn table<R: Wait + Clock + Threads + AllocGlobal + Copy + Clone + Drop + Send + 
     }
 }
 
-// The number behind a word.
+// The number after a word.
 fn count_in(name: &str, word: &str) -> Option<usize> {
     name.strip_prefix(word)?.parse::<usize>().ok()
 }

@@ -15,7 +15,7 @@ const HEAD: &str = "switch 1 ports 1 2\nswitch 2 ports 1 2\nlink 1:2 2:1\n";
 const REST: &str =
     "policy\npt=1; pt:=2\nend\npolicy\npt=1; pt:=2\nend\npolicy\npt=1; pt:=2\nend\npacket 1:1\npacket 1:1\npacket 1:1\npacket 1:1\npacket 1:1\npacket 1:1\npacket 1:1\npacket 1:1\npacket 1:1\npacket 1:1\n";
 
-// That document, in which so many sessions may be lost.
+// That document, with the number of sessions that may be lost.
 fn document(alloc: Global, rejoins: u32) -> Result<String, AllocError> {
     format!(in alloc; "{HEAD}rejoins {rejoins}\n{REST}")
 }
@@ -35,7 +35,7 @@ fn is_done(alloc: Global, outcome: &Outcome) -> Result<bool, AllocError> {
     Ok(ended && counted && line_has_one_policy(alloc, text)?)
 }
 
-/// Each call on a link fails, one a run, until three runs behind one another do not come so far. With returns each run is
+/// Each call on a link fails, one a run, until three runs in a row do not come so far. With returns each run is
 /// done.
 pub fn returns<
     R: Wait + Clock + Threads + AllocGlobal + Copy + Clone + Drop + Send + Sync + 'static,
@@ -148,7 +148,7 @@ pub fn no_return<
     Ok(if refused { None } else { Some(1) })
 }
 
-// Numbers that look random: the next one behind this one.
+// Numbers that look random: the next one after this one.
 fn next_number(number: u64) -> u64 {
     number
         .wrapping_mul(6_364_136_223_846_793_005)
@@ -199,7 +199,7 @@ pub fn random<
     Ok(None)
 }
 
-/// The document of such runs, and then the report of each behind a line `run`, for others to judge.
+/// The document of such runs, and then the report of each after a line `run`, for others to judge.
 pub fn reports<
     R: Wait + Clock + Threads + AllocGlobal + Copy + Clone + Drop + Send + Sync + 'static,
 >(rt: R, count: usize) -> Result<String, AllocError> {

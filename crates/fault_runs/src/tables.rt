@@ -22,7 +22,7 @@ const LINE_WIRING: Wiring = Wiring {
 
 const LINE_POLICIES: [&str; 4] = ["drop", "pt=1; pt:=2", "pt=1; pt:=2", "pt=1; pt:=2"];
 
-// No run of that document makes so many calls on links.
+// Each run of that document makes fewer calls on links.
 const MOST_CALLS: u64 = 2_000;
 
 // One packet at two switches.
@@ -85,7 +85,7 @@ pub fn line_has_one_policy(alloc: Global, report: &str) -> Result<bool, AllocErr
     have_one_policy(alloc, report, &meanings, &[])
 }
 
-/// Each call on a link fails, one a run, until three runs behind one another do not come so far. A run ends by itself: it
+/// Each call on a link fails, one a run, until three runs in a row do not come so far. A run ends by itself: it
 /// is done, or it lost a session and says which one.
 pub fn links<R: Wait + Clock + Threads + AllocGlobal + Copy + Clone + Drop + Send + Sync + 'static>(
     rt: R,
@@ -185,7 +185,7 @@ pub fn writes(alloc: Global) -> Result<Option<usize>, AllocError> {
 const SCHEDULE: &str =
     "settle\nbegin\nsettle\nbegin\nsend 1\nsend 1\nsend 1\nsend 1\ntake 1\ntake 1\ntake 1\ntake 1\napply 1 0\napply 1 0\napply 1 0\nreply 1\nheard 1\nsend 1\nsend 1\nsend 1\ntake 1\ntake 1\ntake 1\napply 1 2\narrive 2\napply 1 0\narrive 2\narrive 1\nsettle\ndrained 1\nsettle\n";
 
-/// The session is lost behind each event of an update, and two packets come in then: the phase stays what it was.
+/// The session is lost after each event of an update, and two packets come in then: the phase stays what it was.
 pub fn events(alloc: Global) -> Result<Option<usize>, AllocError> {
     let meanings = meanings(alloc, UPDATE, UPDATE_WIRING, &UPDATE_POLICIES)?;
     let whole = simulated(alloc, SCHEDULE)?;
@@ -218,7 +218,7 @@ fn arrival_of(event: &str) -> Option<usize> {
     Some(usize::from(!event.contains("ethDst=00:00:00:00:00:05")))
 }
 
-// Whether the phase stays and each packet has one policy where the session is lost behind these events, with those lines.
+// Whether the phase stays and each packet has one policy where the session is lost after these events, with those lines.
 fn stands_when_lost(
     alloc: Global,
     schedule: &str,

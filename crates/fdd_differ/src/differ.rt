@@ -9,7 +9,7 @@ use crate::names::Pair;
 use fdd_nodes::{Cell, Fdd, parting};
 use nk_values::Packet;
 
-/// A packet in range of which two diagrams make different sets of packets, or none where there is no such packet.
+/// A packet in range of which two diagrams make different sets of packets, or none if there is no such packet.
 pub fn difference(a: &Fdd, b: &Fdd) -> Option<Packet>
     requires { AreFew (tree_of a.now) (tree_of b.now) }
     ensures { MatchOption result (AreAlike (tree_of a.now) (tree_of b.now)) (Shows (tree_of a.now) (tree_of b.now)) }

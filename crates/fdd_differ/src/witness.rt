@@ -9,7 +9,7 @@ use crate::fresh::unnamed;
 use fdd_nodes::{Cell, Known, Path};
 use nk_values::{Lit, Packet, well_shaped};
 
-/// A well-shaped packet of a path, or none where there is no such packet.
+/// A well-shaped packet of a path, or none if there is no such packet.
 pub fn path_packet(path: &Path) -> Option<Packet>
     requires { IsFewOn path.now }
     ensures { MatchOption result ((p : Packet) → ¬ IsWitness path.now p) (IsWitness path.now) }
@@ -26,7 +26,7 @@ pub fn path_packet(path: &Path) -> Option<Packet>
     path_packet_in(path, Frame::Udp)
 }
 
-/// A well-shaped packet of a path that is a frame of one kind, or none where there is no such packet.
+/// A well-shaped packet of a path that is a frame of one kind, or none if there is no such packet.
 ///
 /// One candidate is enough: it has what the kind and the true tests fix, and elsewhere values that the path doesn't name.
 pub fn path_packet_in(path: &Path, frame: Frame) -> Option<Packet>

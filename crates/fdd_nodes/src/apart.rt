@@ -7,7 +7,7 @@ ghost use Rattle.fdd_nodes.specs.Trees.{tree};
 use crate::cell::{Cell, Known};
 use crate::node::Node;
 
-/// A cell within this one in which two diagrams answer apart, or none where they answer alike on all its packets.
+/// A cell within this one in which two diagrams answer apart, or none if they answer alike on all its packets.
 ///
 /// The diagrams are walked side by side, to the first two leaves that differ.
 pub fn parting(cell: &Cell, a: &Node, b: &Node) -> Option<Cell>

@@ -80,7 +80,7 @@ impl Cell {
         }
     }
 
-    /// What a copy makes of the cell: the assignments are fixed, and whatever the cell fixes besides.
+    /// What a copy makes of the cell: the assignments are fixed, and what else the cell fixes.
     pub fn after(&self, copy: &Assignments) -> Cell
         ensures made { result ≡ apply copy.now self.now }
         ensures copy { IsCopy copy.now }
@@ -90,7 +90,7 @@ impl Cell {
         }
     }
 
-    /// The number that the cell fixes at a field, or none where it leaves the field open.
+    /// The number that the cell fixes at a field, or none if it leaves the field open.
     pub fn get(&self, f: Field) -> Option<u64>
         ensures { result ≡ fixed_at self.now f }
     {

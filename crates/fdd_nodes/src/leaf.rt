@@ -150,7 +150,7 @@ impl Hash for Leaf {
     }
 }
 
-// Where a copy is to stand among rising copies, or none where it stands already.
+// Where a copy is to stand among rising copies, or none if it stands already.
 fn place_for(copies: &[Assignments], copy: &Assignments) -> Option<usize>
     requires { IsStrictlySortedBy copy_cmp copies.now }
     ensures { MatchOption result (IsIn copies.now copy.now) (IsPlace copy.now copies.now) }

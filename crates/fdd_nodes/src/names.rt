@@ -28,7 +28,7 @@ pub fn are_few(alloc: Global, a: &Fdd, b: &Fdd) -> Result<bool, AllocError>
     Ok(names.len() <= MOST_LITERALS)
 }
 
-/// Whether a test with two diagrams behind it names at most 4,000 literals: what is asked of a choice by the test.
+/// Whether a test with two diagrams below it names at most 4,000 literals: what is asked of a choice by the test.
 pub fn are_few_behind(alloc: Global, l: &Lit, yes: &Fdd, no: &Fdd) -> Result<bool, AllocError>
     ensures { IfOk result (λ few. IsTrue few ↔ IsFew (trees.Node l.now (tree_of yes.now) (tree_of no.now))) }
 {

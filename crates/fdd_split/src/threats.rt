@@ -71,7 +71,7 @@ fn threat_at(
     }
 }
 
-// The same behind a test of a field. If a further test of the field lengthens the bars, no other way leads to them, so
+// The same after a test of a field. If a further test of the field lengthens the bars, no other way leads to them, so
 // nothing is kept.
 #[cycle(threat)]
 fn threat_behind(

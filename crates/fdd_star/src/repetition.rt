@@ -27,7 +27,7 @@ use indexmap::IndexSet;
 use nk_values::{Lit, Packet};
 use std::alloc::Global;
 
-// How many places of diagrams may be gone through to narrow bodies, besides one for each four copies that were found.
+// How many places of diagrams may be gone through to narrow bodies, and one more for each four copies that were found.
 const FIRST_ALLOWANCE: usize = 1_048_576;
 
 /// What was found of the stars of a store's diagrams: where packets come to. And how many places of diagrams may still be

@@ -107,7 +107,7 @@ impl Flights {
         self.iter().any(|flight| flight.tag.id() == Some(stamp))
     }
 
-    /// The copy at a place goes, and these come behind all others.
+    /// The copy at a place goes, and these come after all others.
     pub fn replace(&mut self, place: usize, next: Vec<Flight>) -> Result<(), AllocError>
         requires { place < length self.old }
         ensures ok { OnOk result (self.new ≡ remove self.old place ++ next.items) }
@@ -118,7 +118,7 @@ impl Flights {
         Ok(())
     }
 
-    /// These come behind all others.
+    /// These come after all others.
     pub fn append(&mut self, next: Vec<Flight>) -> Result<(), AllocError>
         ensures ok { OnOk result (self.new ≡ self.old ++ next.items) }
         ensures err { OnErr result (self.new ≡ self.old) }
@@ -162,7 +162,7 @@ impl Flights {
         }
     }
 
-    // The first so many stay.
+    // The first `count` stay.
     fn truncate(&mut self, count: usize)
         ensures { self.new ≡ take count self.old }
     {

@@ -80,7 +80,7 @@ impl Queue {
         &self.copies[position].flight
     }
 
-    /// One more, behind the others.
+    /// One more, after the others.
     pub(crate) fn push(&mut self, number: u64, flight: Flight) -> Result<(), AllocError>
         ensures ok { OnOk result (self.new ≡ self.old ++ record { number = number; flight = flight } ∷ []) }
         ensures err { OnErr result (self.new ≡ self.old) }

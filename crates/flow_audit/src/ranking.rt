@@ -17,7 +17,7 @@ fn is_one_key(a: &Row, b: &Row) -> bool
     }
 }
 
-/// The place of a row whose key comes again after it, or none where each key comes once.
+/// The place of a row whose key comes again after it, or none if each key comes once.
 pub fn repeated(rows: &[Row]) -> Option<usize>
     requires { IsUp rows.now }
     ensures { MatchOption result (IsRising rows.now) (λ k. (k < length rows.now) × ((d : RowValue) → IsRepeated rows.now (slice_index_or rows.now k d))) }

@@ -58,7 +58,7 @@ fn output(table: &Table, priority: u16) -> Option<u16> {
 }
 
 // One change of a table of two rows, the one to port 2 of priority 5, and a more specific one to port 3 of priority
-// 6: the outputs of both behind it, or nothing where the change failed.
+// 6: the outputs of both after it, or nothing where the change failed.
 fn both_after(
     alloc: Global,
     command: Command,

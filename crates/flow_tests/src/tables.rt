@@ -80,7 +80,7 @@ fn met(table: &Table) -> u16 {
     }
 }
 
-// Adds rows, pattern by pattern with priority and output, to a table for so many; where the packet then goes, how
+// Adds rows, pattern by pattern with priority and output, to a table; where the packet then goes, how
 // many rows there are, and whether the last one was refused.
 fn added(
     alloc: Global,

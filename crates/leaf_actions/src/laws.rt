@@ -1,7 +1,7 @@
 // Laws of lists of copies, each the contract of a call that does nothing.
 ghost use Rattle.leaf_actions.specs.Laws.{ChainsHaveNoFirstPair, ListsExcludeFaults, ListsAreOne};
 
-/// The copies of a leaf form a chain exactly where no first pair of them stands apart.
+/// The copies of a leaf form a chain exactly if no first pair of them stands apart.
 pub fn chains_have_no_first_pair()
     ensures { ChainsHaveNoFirstPair }
 {}

@@ -20,7 +20,7 @@ pub enum Pause {
 }
 
 /// Takes what is whole of a text, at whose end nothing or anything may follow, and tells how many bytes
-/// that were, whether a comment goes on behind them, and why it stops there.
+/// that were, whether a comment goes on after them, and why it stops there.
 pub fn advance(
     reading: &mut Reading,
     alloc: Global,
@@ -47,7 +47,7 @@ pub fn advance(
     }
 }
 
-// The text behind so many bytes.
+// The text from a place on.
 fn behind(text: &[u8], at: usize) -> &[u8]
     requires { at ≤ length text.now }
     ensures { result.now ≡ drop at text.now }

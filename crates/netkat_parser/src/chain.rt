@@ -158,7 +158,7 @@ fn or(mut all: Vec<Pred>) -> Pred
     }
 }
 
-/// The summands of a policy, and the factors of the one behind them.
+/// The summands of a policy, and the factors of the one after them.
 #[derive(Drop)]
 pub struct Chain {
     pub summands: Operands,

@@ -17,7 +17,7 @@ pub struct ParseFault {
     pub column: u64,
 }
 
-/// Why no policy was read: the text's first fault, or want of memory.
+/// Why no policy was read: the text's first fault, or out of memory.
 #[derive(Clone, Copy, Debug, PartialEq, Eq)]
 pub enum ParseError {
     Fault(ParseFault),

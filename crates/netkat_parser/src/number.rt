@@ -60,7 +60,7 @@ pub fn has_form(field: Field, run: &[u8]) -> bool
     }
 }
 
-// What stands behind `0x`.
+// What stands after `0x`.
 fn behind_0x(run: &[u8]) -> Option<&[u8]>
     ensures some { IfSome result (λ digits. digits.now ≡ drop 2 run.now) }
     ensures stands { is_some result ≡ starts_with nat_eq run.now (codes "0x") }
@@ -105,7 +105,7 @@ fn joined(part: Part, sign: u8, more: u32, text: &[u8]) -> Option<u64>
     Some(256 * value + byte)
 }
 
-/// What stands before the first such byte, and behind it.
+/// What stands before the first such byte, and after it.
 pub fn cut(text: &[u8], at: u8) -> (&[u8], &[u8])
     ensures before { result.0.now ≡ before_first (λ b. b == at) text.now }
     ensures after { result.1.now ≡ after_first (λ b. b == at) text.now }

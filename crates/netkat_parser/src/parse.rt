@@ -30,7 +30,7 @@ pub fn parse_policy(alloc: Global, text: &[u8]) -> Result<Pol, ParseError>
     ensures read { IfOk result (λ pol. IsText text.now (term_of pol)) }
     ensures fault { (f : Located) → result ≡ Err (ParseError.Fault f) → HasFault text_start text.now f }
 
-    // Both the other way round: want of memory aside, what has a reading is read as it, and a
+    // Both the other way round: unless memory runs out, what has a reading is read as it, and a
     // text with a fault is refused with it.
     ensures each_read { (p : Term) → IsText text.now p → MatchResult result (λ pol. term_of pol ≡ p) (λ e. e ≡ ParseError.Memory) }
     ensures each_fault { (f : Located) → HasFault text_start text.now f → IsErrAnd result (λ e. (e ≡ ParseError.Fault f) ⊎ (e ≡ ParseError.Memory)) }
@@ -39,7 +39,7 @@ pub fn parse_policy(alloc: Global, text: &[u8]) -> Result<Pol, ParseError>
 }
 
 /// The same of a text that begins at a place of a larger one. A fault at the end of the text has
-/// the place behind its last byte.
+/// the place after its last byte.
 pub fn parse_policy_at(alloc: Global, text: &[u8], begin: Place) -> Result<Pol, ParseError>
     requires lines { begin.line + length text.now < 2 ^ 64 }
     requires columns { begin.column + length text.now < 2 ^ 64 }
@@ -53,7 +53,7 @@ pub fn parse_policy_at(alloc: Global, text: &[u8], begin: Place) -> Result<Pol, 
     reader.finish(alloc)
 }
 
-/// The place behind a text that begins at a place.
+/// The place after a text that begins at a place.
 pub fn place_behind(begin: Place, front: &[u8]) -> Place
     requires lines { begin.line + length front.now < 2 ^ 64 }
     requires columns { begin.column + length front.now < 2 ^ 64 }
@@ -66,7 +66,7 @@ pub fn place_behind(begin: Place, front: &[u8]) -> Place
     place
 }
 
-// The place of the byte behind one.
+// The place of the byte after one.
 fn next_place(place: Place, byte: u8) -> Place
     requires line { place.line + 1 < 2 ^ 64 }
     requires column { place.column + 1 < 2 ^ 64 }

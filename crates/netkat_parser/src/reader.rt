@@ -43,7 +43,7 @@ impl PolicyReader {
     }
 
     /// Reads on over these bytes. After an `Err` they are not read, and the reader stands for the text that it
-    /// stood for. A text of 2^64 bytes or more is want of memory too.
+    /// stood for. A text of 2^64 bytes or more is out of memory too.
     pub fn feed(&mut self, alloc: Global, piece: &[u8]) -> Result<(), AllocError>
         ensures ok { OnOk result ((begin : Start) (text : List ℕ) → StandsFor begin self.old text → StandsFor begin self.new (text ++ piece.now)) }
         ensures err { OnErr result ((begin : Start) (text : List ℕ) → StandsFor begin self.old text → StandsFor begin self.new text) }
@@ -90,7 +90,7 @@ impl PolicyReader {
         }
     }
 
-    // Holds these bytes too. Behind a fault they do not count.
+    // Holds these bytes too. After a fault they do not count.
     fn add(&mut self, piece: &[u8]) -> Result<(), AllocError>
         ensures ok { OnOk result ((begin : Start) (text : List ℕ) → StandsFor begin self.old text → StandsFor begin self.new (text ++ piece.now)) }
         ensures err { OnErr result ((begin : Start) (text : List ℕ) → StandsFor begin self.old text → StandsFor begin self.new text) }

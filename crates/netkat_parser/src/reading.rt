@@ -71,7 +71,7 @@ impl Reading {
         }
     }
 
-    /// Takes a sign, behind the nots that end in front of it.
+    /// Takes a sign, after the nots that end in front of it.
     pub fn pass(&mut self, alloc: Global, sign: Sign) -> Result<(), Halt>
         ensures { MovesOn (view_of self.old) sign (view_of self.new) result }
     {
@@ -172,7 +172,7 @@ impl Reading {
         Ok(true)
     }
 
-    // The sign behind a field's name.
+    // The sign after a field's name.
     fn relation(&mut self, field: Field, sign: Sign) -> Result<bool, Halt>
         ensures { Moves (at self.old (stage.Relation field)) sign (view_of self.new) result }
     {
@@ -190,7 +190,7 @@ impl Reading {
         }
     }
 
-    // The sign behind an operand.
+    // The sign after an operand.
     fn behind(&mut self, alloc: Global, pol: Pol, atom: bool, sign: Sign) -> Result<bool, Halt>
         ensures { Moves (at self.old (stage.Behind pol atom)) sign (view_of self.new) result }
     {
@@ -208,7 +208,7 @@ impl Reading {
         }
     }
 
-    // A star behind an atom.
+    // A star after an atom.
     fn star(&mut self, alloc: Global, pol: Pol) -> Result<bool, Halt>
         ensures { Moves (at self.old (stage.Behind pol true)) to_sign.Star (view_of self.new) result }
     {
@@ -246,7 +246,7 @@ impl Reading {
         }
     }
 
-    // The sign behind an operand in a bracket.
+    // The sign after an operand in a bracket.
     fn in_bracket(
         &mut self,
         alloc: Global,
@@ -273,7 +273,7 @@ impl Reading {
         }
     }
 
-    // The sign behind an operand outside brackets.
+    // The sign after an operand outside brackets.
     fn at_top(&mut self, alloc: Global, pol: Pol, atom: bool, sign: Sign) -> Result<bool, Halt>
         requires levels { self.old.levels.items ≡ [] }
         requires room { HaveRoom self.old.chain }
@@ -311,7 +311,7 @@ impl Reading {
         }
     }
 
-    /// The value behind `=` or `:=`, of these bytes.
+    /// The value after `=` or `:=`, of these bytes.
     pub fn number(&mut self, field: Field, operator: Operator, run: &[u8]) -> Result<(), Halt>
         requires stage { self.old.stage ≡ stage.Number field operator }
         requires some { run.now ≢ [] }

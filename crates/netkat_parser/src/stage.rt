@@ -9,8 +9,8 @@ pub enum Operator {
     Assign,
 }
 
-/// What comes next: an operand; `=` or `:=` behind a field's name; a value behind one of these; or what
-/// stands behind an operand that was read: a star too, if it is an atom.
+/// What comes next: an operand; `=` or `:=` after a field's name; a value after one of these; or what
+/// stands after an operand that was read: a star too, if it is an atom.
 #[derive(Drop)]
 pub enum Stage {
     Operand,

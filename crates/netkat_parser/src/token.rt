@@ -5,7 +5,7 @@ ghost use Rattle.netkat_parser.specs.Cuts.{comment_behind, is_cut, IsSignAt, IsR
 
 use crate::sign::{Sign, first_sign, is_blank, run_len, sign_len};
 
-/// How many bytes stand in front of the next sign, and whether a comment goes on behind them.
+/// How many bytes stand in front of the next sign, and whether a comment goes on after them.
 pub fn skip(in_comment: bool, text: &[u8]) -> (usize, bool)
     ensures within { result.0 ≤ length text.now }
     ensures rest { drop result.0 text.now ≡ ahead in_comment text.now }
@@ -36,7 +36,7 @@ pub fn sign_at(text: &[u8], end: bool) -> Option<(Sign, usize)>
     Some((first_sign(text), len))
 }
 
-// Whether what follows the text may change its first sign, which has so many bytes.
+// Whether what follows the text may change its first sign, which has `len` bytes.
 fn is_cut(text: &[u8], len: usize) -> bool
     requires { len ≡ sign_len text.now }
     ensures { result ≡ is_cut text.now }

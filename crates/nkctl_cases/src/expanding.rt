@@ -33,7 +33,7 @@ fn push_lines(alloc: Global, out: &mut String, count: u64, text: &str) -> Result
     Ok(())
 }
 
-// The text so many times.
+// The text, repeated.
 fn push_times(out: &mut String, count: u64, text: &str) -> Result<(), AllocError> {
     for _ in 0..count {
         out.push_str(text)?;

@@ -1,11 +1,11 @@
 //! Runs nkctl on each case of standard input, over a source and a sink in memory, and prints how each call ended and what
 //! it wrote.
 //!
-//! A case is a head line `== WORDS`, with the words of the command line, and the lines of a document behind it. What is to
-//! fail stands in the head line, behind commas: `pieces of 8` for at most 8 bytes a read and a write, `read 3 fails`,
+//! A case is a head line `== WORDS`, with the words of the command line, and the lines of a document after it. What is to
+//! fail stands in the head line, after commas: `pieces of 8` for at most 8 bytes a read and a write, `read 3 fails`,
 //! `write 2 fails`. A document line `%100 TEXT` stands for 100 lines TEXT, in each of which `{}` is the line's number from
 //! 1 and `{+}` the next one; `~100 TEXT` for TEXT 100 times in one line, which is not ended. Of a long output the number
-//! of lines is printed, and the last one; behind one that stops within a line stands `(cut)`. A line `## TITLE` is printed
+//! of lines is printed, and the last one; after one that stops within a line stands `(cut)`. A line `## TITLE` is printed
 //! as it is.
 #![tactic(auto)]
 

@@ -32,7 +32,7 @@ pub fn entries_wire_len(entries: &[FlowStats]) -> usize
     len
 }
 
-/// What stands behind the header of a request for rows: no flags.
+/// What stands after the header of a request for rows: no flags.
 #[tactic(auto, unfolding(crate::specs::Writing::request_bytes))]
 pub fn put_request(out: &mut BytesMut, pattern: &Pattern, table: u8, out_port: u16)
     requires room { 48 ≤ out.old.spare }
@@ -47,7 +47,7 @@ pub fn put_request(out: &mut BytesMut, pattern: &Pattern, table: u8, out_port: u
     put_half(out, out_port);
 }
 
-/// What stands behind the header of a reply with rows.
+/// What stands after the header of a reply with rows.
 #[tactic(auto, unfolding(crate::specs::Writing::reply_bytes))]
 pub fn put_reply(out: &mut BytesMut, more: bool, entries: &[FlowStats])
     requires room { 4 + entries_len entries.now ≤ out.old.spare }

@@ -36,7 +36,7 @@ pub fn carry_out(
     Ok(events)
 }
 
-// Carries out an order, and puts the events that were done behind the others.
+// Carries out an order, and puts the events that were done after the others.
 fn carry(
     alloc: Global,
     world: &mut World,

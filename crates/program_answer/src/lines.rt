@@ -2,7 +2,7 @@
 ghost use Rattle.std.specs.Prelude.{◌≡◌, ◌+◌, ◌<◌, ◌≤◌, ◌^◌, ℕ, List, [], ◌∷◌, ◌++◌, length};
 ghost use Rattle.program_answer.specs.Lines.{Counts, line_after};
 
-/// How many lines have ended, and whether bytes stand behind the last of these.
+/// How many lines have ended, and whether bytes stand after the last of these.
 #[derive(Drop)]
 pub struct LineCount {
     ended: u64,

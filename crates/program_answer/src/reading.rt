@@ -59,7 +59,7 @@ fn placed_fault(fault: &DocFault) -> Fault
     }
 }
 
-// Feeds the bytes of a source to its end, or to so many that more do not count, in pieces of at most 4,096. Each turn takes at
+// Feeds the bytes of a source to its end, or to a number after which more do not count, in pieces of at most 4,096. Each turn takes at
 // least one byte, or ends the reading. A read that failed is not tried again.
 fn feed_from<S: Source>(
     alloc: Global,

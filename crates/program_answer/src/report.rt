@@ -8,7 +8,7 @@ use report_text::world_report;
 use std::alloc::{AllocError, Global};
 use world_core::{Event, World};
 
-/// The report of the events that led to a world. The call ends as halted if the updates stand still there.
+/// The report of the events that led to a world. The call ends as halted if the updates are halted there.
 pub fn world_answer(alloc: Global, world: &World, events: &[Event]) -> Result<Answer, AllocError>
     ensures { IfOk result (IsWorldAnswer world.now events.now) }
 {

@@ -41,7 +41,7 @@ pub fn versions(alloc: Global, document: &Document) -> Result<Vec<Version>, Answ
     Ok(versions)
 }
 
-// The policy behind so many others with its rows.
+// The policy at a place with its rows.
 fn version(
     alloc: Global,
     compiler: &mut Compiler,

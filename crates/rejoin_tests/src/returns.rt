@@ -1,4 +1,4 @@
-//! A loss and a return behind each event of three updates.
+//! A loss and a return after each event of three updates.
 use crate::worlds::{does, row_count, run, world_of};
 use std::alloc::Global;
 use std::test::Fail;
@@ -15,7 +15,7 @@ enum Meanwhile {
     GoesOn,
 }
 
-// Another one behind each event.
+// Another one after each event.
 fn between(behind: u32) -> Meanwhile {
     match behind % 3 {
         0 => Meanwhile::Nothing,
@@ -24,7 +24,7 @@ fn between(behind: u32) -> Meanwhile {
     }
 }
 
-// The updates with a loss at a switch behind so many events, and a return.
+// The updates with a loss at a switch after some events, and a return.
 fn with_loss(alloc: Global, behind: u32, place: usize, meanwhile: Meanwhile) -> Option<World> {
     let mut world = world_of(alloc, 1).ok()?;
     let _before = run(alloc, &mut world, behind)?;

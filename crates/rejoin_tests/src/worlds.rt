@@ -46,7 +46,7 @@ fn next(world: &World) -> Option<Event> {
     Some(Event::Drained(world.coordinator().draining()?))
 }
 
-/// Does what can happen, at most so many events. Gives how many there were.
+/// Does what can happen, at most a number of events. Gives how many there were.
 pub fn run(alloc: Global, world: &mut World, most: u32) -> Option<u32> {
     for done in 0..most {
         let Some(event) = next(world) else {

@@ -70,7 +70,7 @@ fn events_of_each_kind(rt: HostRuntime) -> Result<(), Fail> {
     Ok(())
 }
 
-// Whether an update that stands still for this cause is told so.
+// Whether an update that is halted for this cause is told so.
 fn tells(alloc: Global, phase: Phase, cause: &Cause, text: &str) -> Result<bool, AllocError> {
     report(alloc, (phase, Some(cause)), &[], text)
 }

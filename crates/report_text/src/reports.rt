@@ -15,7 +15,7 @@ use update_coordinator::{Cause, Phase};
 use value_text::{Text, history_lines, put_lines, put_place, sort_lines};
 use world_core::{Arrival, Event, World};
 
-/// How a network stands: its switches, the phase of the updates and why they stand still, the copies in flight,
+/// How a network stands: its switches, the phase of the updates and why they are halted, the copies in flight,
 /// and the packets that came in.
 #[derive(Clone, Copy)]
 pub struct Standing<'a> {

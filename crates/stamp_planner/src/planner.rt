@@ -48,7 +48,7 @@ impl Planner {
         }
     }
 
-    /// Gives a stamp, which is then live: the first one behind the last that was given, going round, that is not
+    /// Gives a stamp, which is then live: the first one after the last that was given, going round, that is not
     /// live. Before any was given the search begins at the first of the range.
     pub fn next_stamp(&mut self) -> Result<u16, NoStamp>
         ensures first { IfOk result (λ stamp. IsFirstFree self.old stamp) }
@@ -91,7 +91,7 @@ impl Planner {
         None
     }
 
-    // The stamp so many places on, going round.
+    // The stamp a number of places on, going round.
     fn turned(&self, turns: u16) -> u16
         requires { turns < self.now.high + 1 - self.now.low }
         ensures value { result ≡ turned self.now turns }

@@ -71,7 +71,7 @@ impl Filling {
         Ok(())
     }
 
-    // Room for an entry of so many bytes: there is some, or the next reply is full and another begins.
+    // Room for an entry of `size` bytes: there is some, or the next reply is full and another begins.
     fn make_room(&mut self, alloc: Global, size: usize) -> Result<(), AllocError>
         requires len { self.old.len ≡ reply_len self.old.entries }
         requires few { self.old.len ≤ LONGEST }

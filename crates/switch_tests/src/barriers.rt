@@ -1,4 +1,4 @@
-// A barrier behind two flow mods.
+// A barrier after two flow mods.
 use crate::messages::waiting;
 use openflow_wire::Message;
 use std::test::Fail;

@@ -28,7 +28,7 @@ pub fn add(alloc: Global, xid: u32, priority: u16) -> Result<Message, AllocError
 }
 
 // A switch of this capacity that was given additions with the priorities 5 and 6, whose numbers are 1 and 2, and
-// behind them a barrier request with the number 3.
+// after them a barrier request with the number 3.
 pub fn waiting(alloc: Global, capacity: usize) -> Result<Switch, AllocError> {
     let mut switch = Switch::new(alloc, 7, capacity);
     let _first = switch.take(alloc, add(alloc, 1, 5)?);

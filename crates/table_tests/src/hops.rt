@@ -16,7 +16,7 @@ use std::process::Abort;
 use std::test::Fail;
 use topology_model::Topology;
 
-// A copy that has just entered at port 1 of switch 1, after so many hops.
+// A copy that has just entered at port 1 of switch 1, after some hops.
 fn entering(alloc: Global, hops: u64) -> Flight {
     let header = Header {
         eth_typ: 2048,

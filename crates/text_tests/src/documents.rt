@@ -4,7 +4,7 @@ use nk_values::{MOST_DOCUMENT_BYTES, TextFault};
 use std::alloc::{AllocError, Global};
 use std::test::Fail;
 
-// The fault of a document and its line; none has want of memory.
+// The fault of a document and its line; none has out of memory.
 fn refused(answer: Result<Document, DocumentError>) -> Option<(TextFault, u64)> {
     match answer {
         Ok(_) => None,
@@ -32,7 +32,7 @@ fn at_most_64_policies(rt: HostRuntime) -> Result<(), Fail> {
     Ok(())
 }
 
-// A document of so many bytes: a comment, and a document of four lines behind it.
+// A document of a number of bytes: a comment, and a document of four lines after it.
 fn long(alloc: Global, len: usize) -> Result<Vec<u8>, AllocError> {
     let end = b"\nswitch 1 ports 1\npolicy\nskip\nend\n";
     let mut text = Vec::new(alloc);
@@ -45,7 +45,7 @@ fn long(alloc: Global, len: usize) -> Result<Vec<u8>, AllocError> {
     Ok(text)
 }
 
-// The fault of a document that comes in pieces of so many bytes, and its line.
+// The fault of a document that comes in pieces of one size, and its line.
 fn in_pieces(
     alloc: Global,
     text: &[u8],

@@ -5,7 +5,7 @@ use nk_values::TextFault;
 use std::alloc::{AllocError, Global};
 use std::test::Fail;
 
-// The fault, the line and the column of a text, or want of memory.
+// The fault, the line and the column of a text, or out of memory.
 fn refused(answer: Result<Pol, ParseError>) -> Option<(TextFault, u64, u64)> {
     match answer {
         Err(ParseError::Fault(it)) => Some((it.fault, it.line, it.column)),

@@ -40,7 +40,7 @@ fn two_steps(alloc: Global, dst: [Lit; 3], port: Lit) -> Result<Pol, AllocError>
     Ok(Pol::Seq(Pols { items }))
 }
 
-// The port and the destination of each newest packet, two digits a history; 0 for want of memory.
+// The port and the destination of each newest packet, two digits a history; 0 for out of memory.
 fn digits(results: Result<Vec<History>, AllocError>) -> u64 {
     let Ok(histories) = results else {
         return 0;

@@ -27,7 +27,7 @@ fn built(rt: &impl Abort, alloc: Global, lines: &[TopoLine]) -> Result<Topology,
     Topology::build(alloc, lines)
 }
 
-// How many members a sum has, 0 for want of memory.
+// How many members a sum has, 0 for out of memory.
 fn members(term: Result<Pol, AllocError>) -> usize {
     match term {
         Ok(Pol::Sum(Pols { items })) => items.len(),

@@ -6,3 +6,4 @@ pub mod Layouts
 pub mod Lines
 pub mod Topologies
 pub mod Wired
+pub use Rattle.history_meaning.specs.Network

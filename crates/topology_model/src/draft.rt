@@ -115,7 +115,7 @@ impl Draft {
         self.has_port(end) && !self.is_linked(end)
     }
 
-    /// The fault of a line behind the lines so far, if it has one.
+    /// The fault of a line after the lines so far, if it has one.
     pub fn fault(&self, line: &TopoLine) -> Option<TextFault>
         ensures { result ≡ line_fault self.now line.now }
     {
@@ -243,7 +243,7 @@ ghost use Rattle.std.specs.List.{list_any};
 ghost use Rattle.std.specs.HashMap.{get, spare};
 ghost use Rattle.topology_model.specs.Ends.{entry, same_end};
 
-// Makes room for one more switch with so many ports. All stays as it is.
+// Makes room for one more switch with `count` ports. All stays as it is.
 fn make_room(
     switches: &mut Vec<Site>,
     places: &mut HashMap<u16, usize>,

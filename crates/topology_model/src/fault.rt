@@ -37,7 +37,7 @@ impl LineError {
 }
 
 /// Why lines make no topology: the first fault, with the place of its line in the list
-/// (for `NoEdge` the list's length), or want of memory.
+/// (for `NoEdge` the list's length), or out of memory.
 #[derive(Clone, Copy, Debug, PartialEq, Eq)]
 pub enum TopoError {
     Fault { fault: TextFault, place: usize },

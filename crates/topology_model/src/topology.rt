@@ -119,7 +119,7 @@ impl Topology {
         &self.edges
     }
 
-    /// Where a switch stands among the switches; `None` exactly where it is not declared.
+    /// Where a switch stands among the switches; `None` exactly if it is not declared.
     pub fn place(&self, sw: u16) -> Option<usize>
         ensures value { result ≡ place_in self.now.switches sw }
         ensures declared { IsSome result ↔ IsTrue (has_switch self.now.switches sw) }
@@ -128,7 +128,7 @@ impl Topology {
         self.draft.place(sw)
     }
 
-    /// The other end of a port's link; `None` exactly where no link has it.
+    /// The other end of a port's link; `None` exactly if no link has it.
     pub fn far_end(&self, sw: u16, pt: u16) -> Option<(u16, u16)>
         ensures value { option_map place_of result ≡ far_end (wiring self.now).links (place_of (sw, pt)) }
         ensures joined { (b : Place) → (option_map place_of result ≡ Some b) ↔ IsIn (wiring self.now).links (place_of (sw, pt), b) }

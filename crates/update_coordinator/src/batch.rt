@@ -12,7 +12,7 @@ use session_core::Move;
 use std::alloc::{AllocError, Global};
 use update_plan::{Cursor, Read, Share, Span, read_next};
 
-// Reads the next flow mod of a phase's batch at a switch, of which so many went out.
+// Reads the next flow mod of a phase's batch at a switch, of which `sent` went out.
 pub(crate) fn read_in(
     alloc: Global,
     versions: &[Rows],

@@ -14,7 +14,7 @@ use std::marker::Model;
 use update_plan::{Cursor, Span};
 
 /// Takes switches from one policy to the next, phase by phase (SIGCOMM 2012, section 5.1). It keeps the rows of all
-/// policies, and reads each flow mod off them when it is sent. Clauses see the phase, why it stands still, the rows of
+/// policies, and reads each flow mod off them when it is sent. Clauses see the phase, why it is halted, the rows of
 /// each policy, the switches, the replies of the batch, and how many sessions may still be lost without a halt.
 #[derive(Drop)]
 pub struct Coordinator {
@@ -54,8 +54,8 @@ impl Coordinator {
     ghost use Rattle.update_coordinator.specs.Phases.{entry};
     ghost use Rattle.update_coordinator.specs.Starts.{start};
 
-    /// A coordinator of the updates to these policies, one behind the other, at the switches with these numbers, of
-    /// which so many sessions may be lost without a halt.
+    /// A coordinator of the updates to these policies, one after the other, at the switches with these numbers, of
+    /// which `rejoins` sessions may be lost without a halt.
     pub fn new(
         alloc: Global,
         versions: Vec<Rows>,
@@ -102,7 +102,7 @@ impl Coordinator {
         self.phase
     }
 
-    /// Why they stand still, if they do.
+    /// Why they are halted, if they are.
     pub fn halt(&self) -> Option<&Cause>
         ensures { option_map (λ c. c.now) result ≡ self.now.halt }
     {

@@ -12,9 +12,9 @@ use std::alloc::{AllocError, Global};
 /// How many rows are there of a list that comes or goes round by round.
 #[derive(Clone, Copy, PartialEq, Eq)]
 pub(crate) enum Part {
-    /// The first ones, so many.
+    /// A number of the first ones.
     First(usize),
-    /// All but the last ones, so many.
+    /// All but a number of the last ones.
     AllBut(usize),
 }
 
@@ -127,7 +127,7 @@ fn there(band: Band, port: &PortRows, part: Part) -> &[Row]
     }
 }
 
-// The first rows, so many, or all.
+// A number of the first rows, or all.
 fn first(rows: &[Row], count: usize) -> &[Row]
     ensures { result.now ≡ take count rows.now }
 {

@@ -222,7 +222,7 @@ fn sends_in(works: bool, state: SessionState) -> bool
     works && matches!(state, SessionState::Up)
 }
 
-// Whether a switch still owes its features behind a message of it.
+// Whether a switch still owes its features after a message of it.
 fn still_asked(asked: bool, message: &Message) -> bool
     ensures { result ≡ still_asked message.now asked }
 {

@@ -9,14 +9,14 @@ use crate::planning::mod_of;
 use nk_values::{FlowMod, Rows};
 use std::alloc::{AllocError, Global};
 
-/// The next flow mod of a batch, and the cursor behind it.
+/// The next flow mod of a batch, and the cursor after it.
 #[derive(Drop)]
 pub struct Read {
     pub change: FlowMod,
     pub cursor: Cursor,
 }
 
-// The next flow mod of one side of a batch, and the place behind it.
+// The next flow mod of one side of a batch, and the place after it.
 #[derive(Drop)]
 struct SideRead {
     change: FlowMod,

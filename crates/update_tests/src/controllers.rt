@@ -53,7 +53,7 @@ fn version(
     Ok(Rows { stamp, band, ports })
 }
 
-// Two policies, one behind the other.
+// Two policies, one after the other.
 fn both(alloc: Global, first: Rows, second: Rows) -> Result<Vec<Rows>, AllocError>
     ensures { IfOk result (λ v. v.items ≡ first ∷ second ∷ []) }
 {

@@ -141,7 +141,7 @@ pub fn put_pair(out: &mut String, packet: &Packet, output: &Packet) -> Result<()
     put_packet(out, output)
 }
 
-// Puts a number and a name at the end, behind a colon.
+// Puts a number and a name at the end, after a colon.
 fn put_label(out: &mut String, number: u8, name: &str) -> Result<(), AllocError>
     ensures { OnOk result (string_bytes out.new ≡ string_bytes out.old ++ label_behind number name.now) }
 {

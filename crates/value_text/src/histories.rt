@@ -7,7 +7,7 @@ use crate::values::{put_field, put_place};
 use nk_values::{Field, History, Packet};
 use std::alloc::{AllocError, Global};
 
-/// A history, oldest packet first: for each packet `S:B`, joined by `>`, and behind each but the first the
+/// A history, oldest packet first: for each packet `S:B`, joined by `>`, and after each but the first the
 /// header fields that changed, between braces.
 pub fn history_text(alloc: Global, history: &History) -> Result<Text, AllocError>
     ensures { IfOk result (λ t. t ≡ history_text history.now) }
@@ -42,7 +42,7 @@ fn put_path(
     }
 }
 
-// Puts the packets behind one at the end, and the last one.
+// Puts the packets after one at the end, and the last one.
 fn put_steps(
     alloc: Global,
     out: &mut String,
@@ -60,7 +60,7 @@ fn put_steps(
     put_step(alloc, out, &last, newest)
 }
 
-// Puts a packet behind another at the end.
+// Puts a packet after another at the end.
 fn put_step(
     alloc: Global,
     out: &mut String,
@@ -98,7 +98,7 @@ fn put_braced(out: &mut String, packet: &Packet, fields: &[Field]) -> Result<(),
     out.push_str("}")
 }
 
-// Puts fields at the end, each behind a comma.
+// Puts fields at the end, each after a comma.
 fn put_more_fields(out: &mut String, packet: &Packet, fields: &[Field]) -> Result<(), AllocError>
     ensures { OnOk result (string_bytes out.new ≡ string_bytes out.old ++ more_fields packet.now fields.now) }
 {

@@ -34,7 +34,7 @@ fn all_lines(alloc: Global, head: &str, histories: &[History]) -> Result<Vec<Str
     Ok(lines)
 }
 
-/// The line of a history, behind these words.
+/// The line of a history, after these words.
 pub fn line_of(alloc: Global, head: &str, history: &History) -> Result<String, AllocError>
     ensures { IfOk result (λ s. string_bytes s ≡ head.now ++ history_text history.now) }
 {

@@ -127,7 +127,7 @@ pub fn put_packet(out: &mut String, packet: &Packet) -> Result<(), AllocError>
     put_fields(out, packet, &Field::HEADER)
 }
 
-/// Puts fields with their numbers at the end, each behind a blank.
+/// Puts fields with their numbers at the end, each after a blank.
 pub fn put_fields(out: &mut String, packet: &Packet, fields: &[Field]) -> Result<(), AllocError>
     ensures { OnOk result (string_bytes out.new ≡ string_bytes out.old ++ fields_text packet.now fields.now) }
 {

@@ -87,8 +87,8 @@ pub trait Desk {
         ensures given { given seat.new ≡ grown (given seat.old) (gave result) }
         ensures told { told seat.new ≡ told seat.old };
 
-    /// Tells the bytes of one message that came over this end, behind k that were told before; or, where the stream
-    /// has a fault behind these, the bytes that are held there.
+    /// Tells the bytes of one message that came over this end, after k that were told before; or, where the stream
+    /// has a fault after these, the bytes that are held there.
     fn tell(&self, seat: &mut Self::Seat, bytes: &[u8], end: Self::End, k: u64) -> Told<Self::End>
         requires seat { seated seat.old }
         requires name { place_of (Self.End.named end) ≡ place seat.old }

@@ -47,7 +47,7 @@ pub enum Next<E> {
     Told(After<E>),
 }
 
-/// What came over an end and was not told yet, behind so many messages that were.
+/// What came over an end and was not told yet, after the number of messages that were.
 #[derive(Drop)]
 pub struct Inbox {
     pub(crate) framer: Framer,

@@ -10,7 +10,7 @@ use policy_rows::{Version, band_of, stamp_of};
 use std::alloc::{AllocError, Global};
 use workload_laws::version_of;
 
-/// The policies of a number's document with their rows. Each is accepted: want of memory alone can hinder it.
+/// The policies of a number's document with their rows. Each is accepted: only a lack of memory can hinder it.
 pub fn versions(alloc: Global, document: &Document) -> Result<Vec<Version>, AllocError>
     requires { (n : ℕ) × (doc_of document.now ≡ document_of n) }
     ensures versions { IfOk result (λ vs. AreVersionsOf (doc_of document.now) vs.items) }

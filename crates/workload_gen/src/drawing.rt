@@ -64,7 +64,7 @@ fn next_event(
     sweep_events(world, counts, packets, u64::from(word) % count).found
 }
 
-// The packets that are left behind an event.
+// The packets that are left after an event.
 fn left_by<'a>(event: &Event, packets: &'a [PacketLine]) -> &'a [PacketLine]
     ensures { result.now ≡ left_by event.now packets.now }
 {

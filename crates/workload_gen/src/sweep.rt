@@ -71,7 +71,7 @@ impl Sweep {
         }
     }
 
-    // Passes the events of a switch, so many of which can happen.
+    // Passes the events of a switch, of which `count` can happen.
     fn counted(&mut self, world: &World, place: usize, count: u64)
         requires { IsCount world.now place count }
         ensures number { self.new.number ≡ self.old.number }
@@ -167,7 +167,7 @@ impl Sweep {
         self.passed = self.passed.saturating_add(1);
     }
 
-    // Passes so many flow mods of a switch.
+    // Passes a number of flow mods of a switch.
     fn pass_all(&mut self, place: usize, count: usize)
         ensures number { self.new.number ≡ self.old.number }
         ensures passed { (es : List EventValue) → IsSweep es self.old → IsSweep (es ++ applies_from place 0 count) self.new }
@@ -179,7 +179,7 @@ impl Sweep {
         self.passed = self.passed.saturating_add(count);
     }
 
-    // How many of so many further events come before the one with the number, if it is one of them.
+    // How many of a number of further events come before the one with the number, if it is one of them.
     fn reached(&self, count: u64) -> Option<u64>
         ensures some { IfSome result (λ k. (self.now.passed + k ≡ self.now.number) × (k < count)) }
         ensures none { IfNone result ((self.now.number < self.now.passed) ⊎ (self.now.passed + count ≤ self.now.number)) }

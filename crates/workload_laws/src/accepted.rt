@@ -19,7 +19,7 @@ use table_emitter::{EmitError, emit};
 use topology_model::Topology;
 
 /// A policy of a workload with its rows in a topology, with a stamp and a band. None of the reasons against a policy or
-/// its rows holds of it, whatever the topology, so want of memory alone keeps it from them.
+/// its rows holds of it, whatever the topology, so it fails only if memory runs out.
 pub fn version_of(
     alloc: Global,
     pol: &Pol,

@@ -345,7 +345,7 @@ fn receive_at<L: RunName, E: Link>(
     }
 }
 
-// Other bytes than the front were received behind k messages.
+// Other bytes than the front were received after k messages.
 fn refuse_at<L: RunName, E: Link>(
     run: &mut Run<L, E>,
     alloc: Global,
@@ -414,7 +414,7 @@ fn told_count(journal: &[Entry], side: Side, s: usize) -> usize
     count
 }
 
-// The same behind one event more.
+// The same after one event more.
 fn told_on(count: usize, event: &Event, side: Side, s: usize) -> usize
     requires { count + 1 < 2 ^ 64 }
     ensures { result ≡ told_on s side event.now count }

@@ -28,7 +28,7 @@ impl<L: RunName, E: Link> Run<L, E> {
         name % count == s && name / count == self.sessions[s] as usize
     }
 
-    /// The name of the pair over which a switch is to return next, if there are so many names.
+    /// The name of the pair over which a switch is to return next, if a name is left.
     pub fn next_name(&self, s: usize) -> Option<u32>
         requires { s < switches L.start }
         ensures some { IfSome result (λ name. name ≡ name_of (switches L.start) s (session s (events_of self.now.held.journal) + 1)) }
