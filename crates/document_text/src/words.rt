@@ -8,7 +8,7 @@ ghost use Rattle.document_text.specs.Answers.{texts, Forms};
 
 use crate::fault::Stop;
 use crate::head::is_text;
-use netkat_parser::{GREATEST, cut, numeral as parsed};
+use netkat_parser::{GREATEST, cut, numeral as parsed, run_len};
 use nk_values::TextFault;
 use std::alloc::{AllocError, Global};
 
@@ -80,12 +80,7 @@ fn piece_len(text: &[u8]) -> usize
     ensures len { result ≡ position_or_len is_blank text.now }
     ensures within { result ≤ length text.now }
 {
-    for (i, byte) in text.iter().enumerate() {
-        if is_blank(*byte) {
-            return i;
-        }
-    }
-    text.len()
+    run_len(text, |byte| !is_blank(byte))
 }
 
 // How many blanks stand at the front.
@@ -93,12 +88,7 @@ fn blank_len(text: &[u8]) -> usize
     ensures len { result ≡ prefix_len is_blank text.now }
     ensures within { result ≤ length text.now }
 {
-    for (i, byte) in text.iter().enumerate() {
-        if !is_blank(*byte) {
-            return i;
-        }
-    }
-    text.len()
+    run_len(text, is_blank)
 }
 
 fn are_blank(text: &[u8]) -> bool

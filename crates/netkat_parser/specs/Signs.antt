@@ -1,5 +1,5 @@
 -- From bytes to signs, the tokens but for values: what stands between them, marks, names, and the runs that values are read from.
-use Rattle.std.specs.Prelude.{ℕ, Bool, true, false, not, ◌==◌, ◌&&◌, ◌||◌, List, [], ◌∷◌, drop, slice_index, codes, Option, None, Some, if◌then◌else◌}
+use Rattle.std.specs.Prelude.{◌≡◌, ◌<◌, ℕ, Bool, true, false, not, ◌==◌, ◌&&◌, ◌||◌, List, [], ◌∷◌, drop, slice_index, codes, Option, None, Some, if◌then◌else◌}
 use Rattle.std.specs.List.{find, prefix_len, take_while}
 use Rattle.std.specs.Char.{is_ascii_alphabetic, is_ascii_alphanumeric}
 use Rattle.std.specs.Str.{bytes_eq}
@@ -7,6 +7,10 @@ use Rattle.nk_values.specs.declared.field.Field.{Field}
 use Rattle.nk_values.specs.Names.{name_of, all_fields}
 use Rattle.netkat_parser.specs.declared.sign.Sign.{Sign}
 use Rattle.netkat_parser.specs.declared.sign.Sign.TheVariants.{Skip, Drop, Dup, Not, Name, Equals, Becomes, Plus, Semicolon, Star, Open, Close, End, Unlisted, Strange}
+
+-- calls at bytes answer as the test does
+abbrev pub Tells : (ℕ → Bool → Type 0) → (ℕ → Bool) → Type 0
+Tells post test = (b : ℕ) (x : Bool) → b < 256 → post b x → x ≡ test b
 
 -- a blank, a tab, CR or LF
 abbrev pub is_blank : ℕ → Bool

@@ -6,6 +6,7 @@ ghost use Rattle.std.specs.Char.{is_ascii_alphanumeric};
 ghost use Rattle.nk_values.specs.Names.{name_of, all_fields};
 ghost use Rattle.netkat_parser.specs.Signs.{is_blank, word, mark, is_becomes, sign, sign_len, is_run_byte};
 
+use crate::run::run_len;
 use nk_values::Field;
 
 /// A token. `End` is the end of the text, `Unlisted` a name that is not listed, `Strange` a byte
@@ -87,25 +88,7 @@ fn name_len(text: &[u8]) -> usize
     ensures len { result ≡ prefix_len is_ascii_alphanumeric text.now }
     ensures within { result ≤ length text.now }
 {
-    for (i, byte) in text.iter().enumerate() {
-        if !byte.is_ascii_alphanumeric() {
-            return i;
-        }
-    }
-    text.len()
-}
-
-/// How many bytes of a run stand at the front.
-pub fn run_len(text: &[u8]) -> usize
-    ensures len { result ≡ prefix_len is_run_byte text.now }
-    ensures within { result ≤ length text.now }
-{
-    for (i, byte) in text.iter().enumerate() {
-        if !is_run_byte(*byte) {
-            return i;
-        }
-    }
-    text.len()
+    run_len(text, |byte| byte.is_ascii_alphanumeric())
 }
 
 fn mark(byte: u8) -> Sign

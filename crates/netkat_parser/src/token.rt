@@ -3,7 +3,8 @@ ghost use Rattle.std.specs.Prelude.{◌≡◌, ◌≤◌, false, length, drop, I
 ghost use Rattle.netkat_parser.specs.Signs.{ahead, sign_len};
 ghost use Rattle.netkat_parser.specs.Cuts.{comment_behind, is_cut, IsSignAt, IsRunAt};
 
-use crate::sign::{Sign, first_sign, is_blank, run_len, sign_len};
+use crate::run::run_len;
+use crate::sign::{Sign, first_sign, is_blank, is_run_byte, sign_len};
 
 /// How many bytes stand in front of the next sign, and whether a comment goes on after them.
 pub fn skip(in_comment: bool, text: &[u8]) -> (usize, bool)
@@ -56,7 +57,7 @@ pub fn run_at(text: &[u8], end: bool) -> Option<usize>
     ensures whole { IfSome result (λ n. IsRunAt text.now end n) }
     ensures cut { IfNone result (end ≡ false) }
 {
-    let len = run_len(text);
+    let len = run_len(text, is_run_byte);
     if !end && len == text.len() {
         return None;
     }
