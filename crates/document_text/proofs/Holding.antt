@@ -1,9 +1,11 @@
 -- What holds of the lines so far, and is kept by each line.
 use Rattle.std.proofs.Common.{◌≡◌, ◌≢◌, ℕ, ◌<◌, ◌≤◌, ◌⊎◌, inl, inr, Bool, true, false, not, ◌&&◌, ◌||◌, ◌==◌, nat_le, nat_lt, cond, List, [], ◌∷◌, ◌++◌, length, Option, Some, None, Result, Ok, Err, refl, sym, ap, subst, arith, length-append}
 use Rattle.std.proofs.lemmas.Bool.Decides.{nat_tests}
-use Rattle.std.specs.Prelude.{IfSome, codes}
+use Rattle.std.specs.Prelude.{IfSome}
 use Rattle.std.specs.Option.{option_map, option_and_then}
-use Rattle.std.specs.Str.{bytes_eq}
+use Rattle.event_words.specs.declared.word.EventWord.{EventWord}
+use Rattle.event_words.specs.declared.word.EventWord.TheVariants as word
+use Rattle.event_words.specs.Words.{word_of}
 use Rattle.nk_values.specs.declared.fault.TextFault.{TextFault}
 use Rattle.nk_values.specs.declared.fault.TextFault.TheVariants.{BadLine, Limit, NoEdge, NoPolicy, UnknownName, UnknownSwitch, ValueRange}
 use Rattle.nk_values.specs.Members.{IsIn}
@@ -339,10 +341,6 @@ event-holds s e h few late name = record {
 event-is : (x y : Event) → ◌≡◌ {A = Result Event TextFault} (Ok x) (Ok y) → x ≡ y
 event-is x y e = cc
 
-choose : (P : Event → Type 0) (b : Bool) (x y : Result Event TextFault) → ((e : Event) → x ≡ Ok e → P e) → ((e : Event) → y ≡ Ok e → P e) → (e : Event) → cond b x y ≡ Ok e → P e
-choose P true x y h k e q = h e q
-choose P false x y h k e q = k e q
-
 none-such : (P : Event → Type 0) (e : Event) → ◌≡◌ {A = Result Event TextFault} (Err BadLine) (Ok e) → P e
 none-such P e q = absurd (cc)
 
@@ -367,35 +365,41 @@ at-packet s P n h e q =
 abbrev Names : State → Event → Type 0
 Names s e = IsNamed s.layout (length s.packets) e
 
-alone-named : (s : State) (w : List ℕ) (e : Event) → event_alone w ≡ Ok e → Names s e
-alone-named s w =
-    choose (Names s) _ _ _ (plain (Names s) event.Begin tt) (choose (Names s) _ _ _ (plain (Names s) event.Settle tt) (choose (Names s) _ _ _ (plain (Names s) event.Flow tt) (none-such (Names s))))
+alone-named : (s : State) (w : EventWord) (e : Event) → event_alone w ≡ Ok e → Names s e
+alone-named s word.Begin = plain (Names s) event.Begin tt
+alone-named s word.Settle = plain (Names s) event.Settle tt
+alone-named s word.Flow = plain (Names s) event.Flow tt
+alone-named s _ = none-such (Names s)
 
-one-named : (s : State) (w : List ℕ) (n : ℕ) (e : Event) → event_of_one s w n ≡ Ok e → Names s e
-one-named s w n =
-    choose (Names s) (bytes_eq w (codes "send")) _ _ (at-switch s (Names s) n (event.Send n) (λ h. h))
-    (choose (Names s) (bytes_eq w (codes "take")) _ _ (at-switch s (Names s) n (event.Take n) (λ h. h))
-    (choose (Names s) (bytes_eq w (codes "reply")) _ _ (at-switch s (Names s) n (event.Reply n) (λ h. h))
-    (choose (Names s) (bytes_eq w (codes "heard")) _ _ (at-switch s (Names s) n (event.Heard n) (λ h. h))
-    (choose (Names s) (bytes_eq w (codes "lost")) _ _ (at-switch s (Names s) n (event.Lost n) (λ h. h))
-    (choose (Names s) (bytes_eq w (codes "rejoin")) _ _ (at-switch s (Names s) n (event.Rejoin n) (λ h. h))
-    (choose (Names s) (bytes_eq w (codes "arrive")) _ _ (at-packet s (Names s) n (λ h. h))
-    (choose (Names s) (bytes_eq w (codes "hop")) _ _ (ranged (Names s) (not (is_index n)) ValueRange (event.Hop n) tt)
-    (choose (Names s) (bytes_eq w (codes "stuck")) _ _ (ranged (Names s) (not (is_index n)) ValueRange (event.Stuck n) tt)
-    (choose (Names s) (bytes_eq w (codes "drained")) _ _ (ranged (Names s) (not (is_vlan_id n)) ValueRange (event.Drained n) tt) (none-such (Names s)))))))))))
+one-named : (s : State) (w : EventWord) (n : ℕ) (e : Event) → event_of_one s w n ≡ Ok e → Names s e
+one-named s word.Send n = at-switch s (Names s) n (event.Send n) (λ h. h)
+one-named s word.Take n = at-switch s (Names s) n (event.Take n) (λ h. h)
+one-named s word.Reply n = at-switch s (Names s) n (event.Reply n) (λ h. h)
+one-named s word.Heard n = at-switch s (Names s) n (event.Heard n) (λ h. h)
+one-named s word.Lost n = at-switch s (Names s) n (event.Lost n) (λ h. h)
+one-named s word.Rejoin n = at-switch s (Names s) n (event.Rejoin n) (λ h. h)
+one-named s word.Arrive n = at-packet s (Names s) n (λ h. h)
+one-named s word.Hop n = ranged (Names s) (not (is_index n)) ValueRange (event.Hop n) tt
+one-named s word.Stuck n = ranged (Names s) (not (is_index n)) ValueRange (event.Stuck n) tt
+one-named s word.Drained n = ranged (Names s) (not (is_vlan_id n)) ValueRange (event.Drained n) tt
+one-named s _ n = none-such (Names s)
 
-two-named : (s : State) (w : List ℕ) (sw k : ℕ) (e : Event) → event_of_two s w sw k ≡ Ok e → Names s e
-two-named s w sw k =
-    choose (Names s) _ _ _ (λ e q. at-switch s (Names s) sw (event.Apply sw k) (λ h. h) e (refused-ok (not (is_index k)) ValueRange (at_switch s sw (event.Apply sw k)) e q).1) (none-such (Names s))
+two-named : (s : State) (w : EventWord) (sw k : ℕ) (e : Event) → event_of_two s w sw k ≡ Ok e → Names s e
+two-named s word.Apply sw k e q = at-switch s (Names s) sw (event.Apply sw k) (λ h. h) e (refused-ok (not (is_index k)) ValueRange (at_switch s sw (event.Apply sw k)) e q).1
+two-named s _ sw k e q = none-such (Names s) e q
 
 event-named : (s : State) (ws : List (List ℕ)) (e : Event) → event_of s ws ≡ Ok e → Names s e
 event-named s [] e q = absurd (cc)
-event-named s (w ∷ []) e q = alone-named s w e q
-event-named s (w ∷ a ∷ []) e q = let x = formed-ok (numeral a) (event_of_one s w) e q in one-named s w x.0 e x.2
+event-named s (w ∷ []) e q = let x = formed-ok (word_of w) event_alone e q in alone-named s x.0 e x.2
+event-named s (w ∷ a ∷ []) e q =
+    let x = formed-ok (word_of w) (λ v. formed (numeral a) (event_of_one s v)) e q in
+    let y = formed-ok (numeral a) (event_of_one s x.0) e x.2 in
+    one-named s x.0 y.0 e y.2
 event-named s (w ∷ a ∷ b ∷ []) e q =
-    let x = formed-ok (numeral a) (λ m. formed (numeral b) (event_of_two s w m)) e q in
-    let y = formed-ok (numeral b) (event_of_two s w x.0) e x.2 in
-    two-named s w x.0 y.0 e y.2
+    let x = formed-ok (word_of w) (λ v. formed (numeral a) (λ m. formed (numeral b) (event_of_two s v m))) e q in
+    let y = formed-ok (numeral a) (λ m. formed (numeral b) (event_of_two s x.0 m)) e x.2 in
+    let z = formed-ok (numeral b) (event_of_two s x.0 y.0) e y.2 in
+    two-named s x.0 y.0 z.0 e z.2
 event-named s (w ∷ a ∷ b ∷ c ∷ ws) e q = absurd (cc)
 
 -- one step

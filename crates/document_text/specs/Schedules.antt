@@ -1,6 +1,8 @@
 -- The lines of a schedule.
-use Rattle.std.specs.Prelude.{ℕ, Bool, not, ◌&&◌, nat_le, List, [], ◌∷◌, length, codes, Option, None, Some, if◌then◌else◌, Result, Ok, Err}
-use Rattle.std.specs.Str.{bytes_eq}
+use Rattle.std.specs.Prelude.{ℕ, Bool, not, ◌&&◌, nat_le, List, [], ◌∷◌, length, Option, None, Some, if◌then◌else◌, Result, Ok, Err}
+use Rattle.event_words.specs.declared.word.EventWord.{EventWord}
+use Rattle.event_words.specs.declared.word.EventWord.TheVariants as word
+use Rattle.event_words.specs.Words.{word_of}
 use Rattle.nk_values.specs.declared.fault.TextFault.{TextFault}
 use Rattle.nk_values.specs.declared.fault.TextFault.TheVariants.{BadLine, UnknownSwitch, ValueRange}
 use Rattle.nk_values.specs.declared.field.Field.TheVariants.{Sw}
@@ -35,34 +37,34 @@ abbrev pub arrival : State → ℕ → Result Event TextFault
 arrival s n = refused_if (not (nat_le 1 n && nat_le n (length s.packets))) BadLine (Ok (Arrive n))
 
 -- a command alone
-abbrev pub event_alone : List ℕ → Result Event TextFault
-event_alone w =
-    if bytes_eq w (codes "begin") then Ok Begin else
-    if bytes_eq w (codes "settle") then Ok Settle else
-    if bytes_eq w (codes "flow") then Ok Flow else Err BadLine
+abbrev pub event_alone : EventWord → Result Event TextFault
+event_alone word.Begin = Ok Begin
+event_alone word.Settle = Ok Settle
+event_alone word.Flow = Ok Flow
+event_alone _ = Err BadLine
 
 -- a command with one number
-abbrev pub event_of_one : State → List ℕ → ℕ → Result Event TextFault
-event_of_one s w n =
-    if bytes_eq w (codes "send") then at_switch s n (Send n) else
-    if bytes_eq w (codes "take") then at_switch s n (Take n) else
-    if bytes_eq w (codes "reply") then at_switch s n (Reply n) else
-    if bytes_eq w (codes "heard") then at_switch s n (Heard n) else
-    if bytes_eq w (codes "lost") then at_switch s n (Lost n) else
-    if bytes_eq w (codes "rejoin") then at_switch s n (Rejoin n) else
-    if bytes_eq w (codes "arrive") then arrival s n else
-    if bytes_eq w (codes "hop") then refused_if (not (is_index n)) ValueRange (Ok (Hop n)) else
-    if bytes_eq w (codes "stuck") then refused_if (not (is_index n)) ValueRange (Ok (Stuck n)) else
-    if bytes_eq w (codes "drained") then refused_if (not (is_vlan_id n)) ValueRange (Ok (Drained n)) else Err BadLine
+abbrev pub event_of_one : State → EventWord → ℕ → Result Event TextFault
+event_of_one s word.Send n = at_switch s n (Send n)
+event_of_one s word.Take n = at_switch s n (Take n)
+event_of_one s word.Reply n = at_switch s n (Reply n)
+event_of_one s word.Heard n = at_switch s n (Heard n)
+event_of_one s word.Lost n = at_switch s n (Lost n)
+event_of_one s word.Rejoin n = at_switch s n (Rejoin n)
+event_of_one s word.Arrive n = arrival s n
+event_of_one s word.Hop n = refused_if (not (is_index n)) ValueRange (Ok (Hop n))
+event_of_one s word.Stuck n = refused_if (not (is_index n)) ValueRange (Ok (Stuck n))
+event_of_one s word.Drained n = refused_if (not (is_vlan_id n)) ValueRange (Ok (Drained n))
+event_of_one s _ n = Err BadLine
 
 -- `apply` with a switch and a place
-abbrev pub event_of_two : State → List ℕ → ℕ → ℕ → Result Event TextFault
-event_of_two s w sw k =
-    if bytes_eq w (codes "apply") then refused_if (not (is_index k)) ValueRange (at_switch s sw (Apply sw k)) else Err BadLine
+abbrev pub event_of_two : State → EventWord → ℕ → ℕ → Result Event TextFault
+event_of_two s word.Apply sw k = refused_if (not (is_index k)) ValueRange (at_switch s sw (Apply sw k))
+event_of_two s _ sw k = Err BadLine
 
 -- the event of a line
 abbrev pub event_of : State → List (List ℕ) → Result Event TextFault
-event_of s (w ∷ []) = event_alone w
-event_of s (w ∷ a ∷ []) = formed (numeral a) (event_of_one s w)
-event_of s (w ∷ a ∷ b ∷ []) = formed (numeral a) (λ m. formed (numeral b) (event_of_two s w m))
+event_of s (w ∷ []) = formed (word_of w) event_alone
+event_of s (w ∷ a ∷ []) = formed (word_of w) (λ x. formed (numeral a) (event_of_one s x))
+event_of s (w ∷ a ∷ b ∷ []) = formed (word_of w) (λ x. formed (numeral a) (λ m. formed (numeral b) (event_of_two s x m)))
 event_of s _ = Err BadLine

@@ -1,18 +1,19 @@
 // The schedule: its first line, and its events.
 ghost use Rattle.std.specs.Prelude.{◌≡◌};
 ghost use Rattle.nk_values.specs.declared.field.Field.TheVariants.{Sw};
+ghost use Rattle.event_words.specs.Words.{word_of};
 ghost use Rattle.document_text.specs.Schedules.{arrival, at_switch, is_index, event_alone, event_of_one, event_of_two, event_of};
 ghost use Rattle.document_text.specs.Lines.{schedule_line};
 ghost use Rattle.document_text.specs.Packets.{is_vlan_id};
-ghost use Rattle.document_text.specs.Answers.{texts, state_of, Becomes, Matches, Ranges, NamesSwitch};
+ghost use Rattle.document_text.specs.Answers.{texts, state_of, Becomes, Forms, Matches, Ranges, NamesSwitch};
 
 use crate::document::Event;
 use crate::fault::Stop;
-use crate::head::is_text;
 use crate::reader::Reader;
 use crate::told::Kind;
 use crate::topology::switch_of;
 use crate::words::number;
+use event_words::EventWord;
 use nk_values::{GREATEST_VLAN_ID, TextFault};
 use std::alloc::Global;
 
@@ -37,9 +38,13 @@ pub fn event_of(reader: &Reader, words: &[&[u8]]) -> Result<Event, Stop>
     ensures { Matches (λ e. e) (event_of (state_of reader.now) (texts words.now)) result }
 {
     match words {
-        [word] => event_alone(word),
-        [word, first] => event_of_one(reader, word, number(first)?),
+        [word] => event_alone(word_of(word)?),
+        [word, first] => {
+            let word = word_of(word)?;
+            event_of_one(reader, word, number(first)?)
+        }
         [word, first, second] => {
+            let word = word_of(word)?;
             let sw = number(first)?;
             let index = number(second)?;
             event_of_two(reader, word, sw, index)
@@ -48,46 +53,43 @@ pub fn event_of(reader: &Reader, words: &[&[u8]]) -> Result<Event, Stop>
     }
 }
 
-fn event_alone(word: &[u8]) -> Result<Event, Stop>
-    ensures { Matches (λ e. e) (event_alone word.now) result }
+// A word of events, which has to be there.
+fn word_of(word: &[u8]) -> Result<EventWord, Stop>
+    ensures { Forms (λ w. w) (word_of word.now) result }
 {
-    if is_text(word, "begin") {
-        Ok(Event::Begin)
-    } else if is_text(word, "settle") {
-        Ok(Event::Settle)
-    } else if is_text(word, "flow") {
-        Ok(Event::Flow)
-    } else {
-        Err(Stop::Fault(TextFault::BadLine))
+    match EventWord::of_bytes(word) {
+        Some(word) => Ok(word),
+        None => Err(Stop::Fault(TextFault::BadLine)),
+    }
+}
+
+fn event_alone(word: EventWord) -> Result<Event, Stop>
+    ensures { Matches (λ e. e) (event_alone word) result }
+{
+    match word {
+        EventWord::Begin => Ok(Event::Begin),
+        EventWord::Settle => Ok(Event::Settle),
+        EventWord::Flow => Ok(Event::Flow),
+        _ => Err(Stop::Fault(TextFault::BadLine)),
     }
 }
 
 // A command with one number.
-fn event_of_one(reader: &Reader, word: &[u8], number: u64) -> Result<Event, Stop>
-    ensures { Matches (λ e. e) (event_of_one (state_of reader.now) word.now number) result }
+fn event_of_one(reader: &Reader, word: EventWord, number: u64) -> Result<Event, Stop>
+    ensures { Matches (λ e. e) (event_of_one (state_of reader.now) word number) result }
 {
-    if is_text(word, "send") {
-        Ok(Event::Send(declared(reader, number)?))
-    } else if is_text(word, "take") {
-        Ok(Event::Take(declared(reader, number)?))
-    } else if is_text(word, "reply") {
-        Ok(Event::Reply(declared(reader, number)?))
-    } else if is_text(word, "heard") {
-        Ok(Event::Heard(declared(reader, number)?))
-    } else if is_text(word, "lost") {
-        Ok(Event::Lost(declared(reader, number)?))
-    } else if is_text(word, "rejoin") {
-        Ok(Event::Rejoin(declared(reader, number)?))
-    } else if is_text(word, "arrive") {
-        arrive(reader, number)
-    } else if is_text(word, "hop") {
-        Ok(Event::Hop(index_of(number)?))
-    } else if is_text(word, "stuck") {
-        Ok(Event::Stuck(index_of(number)?))
-    } else if is_text(word, "drained") {
-        Ok(Event::Drained(stamp_of(number)?))
-    } else {
-        Err(Stop::Fault(TextFault::BadLine))
+    match word {
+        EventWord::Send => Ok(Event::Send(declared(reader, number)?)),
+        EventWord::Take => Ok(Event::Take(declared(reader, number)?)),
+        EventWord::Reply => Ok(Event::Reply(declared(reader, number)?)),
+        EventWord::Heard => Ok(Event::Heard(declared(reader, number)?)),
+        EventWord::Lost => Ok(Event::Lost(declared(reader, number)?)),
+        EventWord::Rejoin => Ok(Event::Rejoin(declared(reader, number)?)),
+        EventWord::Arrive => arrive(reader, number),
+        EventWord::Hop => Ok(Event::Hop(index_of(number)?)),
+        EventWord::Stuck => Ok(Event::Stuck(index_of(number)?)),
+        EventWord::Drained => Ok(Event::Drained(stamp_of(number)?)),
+        _ => Err(Stop::Fault(TextFault::BadLine)),
     }
 }
 
@@ -103,10 +105,10 @@ fn arrive(reader: &Reader, number: u64) -> Result<Event, Stop>
 }
 
 // `apply` with a switch and the place of a flow mod.
-fn event_of_two(reader: &Reader, word: &[u8], sw: u64, index: u64) -> Result<Event, Stop>
-    ensures { Matches (λ e. e) (event_of_two (state_of reader.now) word.now sw index) result }
+fn event_of_two(reader: &Reader, word: EventWord, sw: u64, index: u64) -> Result<Event, Stop>
+    ensures { Matches (λ e. e) (event_of_two (state_of reader.now) word sw index) result }
 {
-    if !is_text(word, "apply") {
+    if word != EventWord::Apply {
         return Err(Stop::Fault(TextFault::BadLine));
     }
     let index = index_of(index)?;

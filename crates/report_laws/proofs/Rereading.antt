@@ -3,6 +3,10 @@ use Rattle.std.proofs.Common.{◌≡◌, ◌<◌, ◌≤◌, ◌^◌, inl, inr, 
 use Rattle.std.proofs.lemmas.Bool.Decides.{Decides-eqb, nat_tests}
 use Rattle.std.specs.Fmt.{decimal}
 use Rattle.std.specs.List.{list_any}
+use Rattle.event_words.specs.declared.word.EventWord.{EventWord}
+use Rattle.event_words.specs.declared.word.EventWord.TheVariants as word
+use Rattle.event_words.specs.Words.{text_of}
+use Rattle.event_words.proofs.Reading.{read-again}
 use Rattle.nk_values.specs.declared.fault.TextFault.{TextFault}
 use Rattle.nk_values.specs.declared.fault.TextFault.TheVariants.{Limit, UnknownSwitch, ValueRange}
 use Rattle.nk_values.specs.declared.field.Field.TheVariants.{Sw}
@@ -107,18 +111,19 @@ text-is s place x here = ap (λ (o : Option Site). number_text o) here
 
 module _ (s : State) (n : ℕ) (topology : IsTopology s.layout) (inside : s.inside ≡ true) (room : length s.events < 100000) where
   -- a command with one number
-  numbered : (w : List ℕ) (k : ℕ) (d : Command) → k ≤ 4294967295 → every in_word w ≡ true → is_filled w ≡ true → head_of w ≡ Unlisted → event_of_one s w k ≡ Ok d → Reads s n (words_of (line (w ++ 32 ∷ decimal k))) d
-  numbered w k d l word some h o =
-      ap (λ (ws : List (List ℕ)). step s n ws) (two-words w k (wide k l) word some)
-      ∙ reads s n w (decimal k ∷ []) d inside room h refl (ap (λ (m : Option ℕ). formed m (event_of_one s w)) (numeral-decimal k l) ∙ o)
+  numbered : (w : EventWord) (k : ℕ) (d : Command) → k ≤ 4294967295 → every in_word (text_of w) ≡ true → is_filled (text_of w) ≡ true → head_of (text_of w) ≡ Unlisted → event_of_one s w k ≡ Ok d → Reads s n (words_of (line (text_of w ++ 32 ∷ decimal k))) d
+  numbered w k d l plain some h o =
+      ap (λ (ws : List (List ℕ)). step s n ws) (two-words (text_of w) k (wide k l) plain some)
+      ∙ reads s n (text_of w) (decimal k ∷ []) d inside room h refl
+      (ap (λ (x : Option EventWord). formed x (λ v. formed (numeral (decimal k)) (event_of_one s v))) (read-again w) ∙ ap (λ (m : Option ℕ). formed m (event_of_one s w)) (numeral-decimal k l) ∙ o)
 
   -- a command that names a switch
-  named : (w : List ℕ) (place : ℕ) (of : ℕ → Command) (d : Command) → Names s.layout.switches place of d → every in_word w ≡ true → is_filled w ≡ true → head_of w ≡ Unlisted → ((m : ℕ) → event_of_one s w m ≡ at_switch s m (of m)) →
-      Reads s n (words_of (line (w ++ 32 ∷ number_at s.layout.switches place))) d
-  named w place of d names word some h go =
-      ap (λ (ds : List ℕ). step s n (words_of (line (w ++ 32 ∷ ds)))) (text-is s place names.0 names.1)
-      ∙ subst (λ (c : Command). Reads s n (words_of (line (w ++ 32 ∷ decimal names.0.sw))) c) (sym names.2)
-      (numbered w names.0.sw (of names.0.sw) (sw-small s place names.0 topology names.1) word some h (go names.0.sw ∙ at-switch s place names.0 (of names.0.sw) topology names.1))
+  named : (w : EventWord) (place : ℕ) (of : ℕ → Command) (d : Command) → Names s.layout.switches place of d → every in_word (text_of w) ≡ true → is_filled (text_of w) ≡ true → head_of (text_of w) ≡ Unlisted → ((m : ℕ) → event_of_one s w m ≡ at_switch s m (of m)) →
+      Reads s n (words_of (line (text_of w ++ 32 ∷ number_at s.layout.switches place))) d
+  named w place of d names plain some h go =
+      ap (λ (ds : List ℕ). step s n (words_of (line (text_of w ++ 32 ∷ ds)))) (text-is s place names.0 names.1)
+      ∙ subst (λ (c : Command). Reads s n (words_of (line (text_of w ++ 32 ∷ decimal names.0.sw))) c) (sym names.2)
+      (numbered w names.0.sw (of names.0.sw) (sw-small s place names.0 topology names.1) plain some h (go names.0.sw ∙ at-switch s place names.0 (of names.0.sw) topology names.1))
 
   applies : (place k : ℕ) (d : Command) → k ≤ 4294967295 → Names s.layout.switches place (λ m. command.Apply m k) d → Reads s n (words_of (line (codes "apply" ++ 32 ∷ (number_at s.layout.switches place ++ 32 ∷ decimal k)))) d
   applies place k d l names =
@@ -129,8 +134,9 @@ module _ (s : State) (n : ℕ) (topology : IsTopology s.layout) (inside : s.insi
       ∙ ap (λ (ws : List (List ℕ)). step s n ws) (three-words (codes "apply") sw k (wide sw low) (wide k l) refl refl)
       ∙ subst (λ (c : Command). Reads s n (codes "apply" ∷ decimal sw ∷ decimal k ∷ []) c) (sym names.2)
       (reads s n (codes "apply") (decimal sw ∷ decimal k ∷ []) (command.Apply sw k) inside room refl refl
-      (ap (λ (m : Option ℕ). formed m (λ i. formed (numeral (decimal k)) (event_of_two s (codes "apply") i))) (numeral-decimal sw low)
-      ∙ ap (λ (m : Option ℕ). formed m (event_of_two s (codes "apply") sw)) (numeral-decimal k l)
+      (ap (λ (x : Option EventWord). formed x (λ v. formed (numeral (decimal sw)) (λ i. formed (numeral (decimal k)) (event_of_two s v i)))) (read-again word.Apply)
+      ∙ ap (λ (m : Option ℕ). formed m (λ i. formed (numeral (decimal k)) (event_of_two s word.Apply i))) (numeral-decimal sw low)
+      ∙ ap (λ (m : Option ℕ). formed m (event_of_two s word.Apply sw)) (numeral-decimal k l)
       ∙ ap (λ (b : Bool). cond (not b) (Err ValueRange) (at_switch s sw (command.Apply sw k))) index
       ∙ at-switch s place names.0 (command.Apply sw k) topology names.1))
 
@@ -139,25 +145,25 @@ module _ (s : State) (n : ℕ) (topology : IsTopology s.layout) (inside : s.insi
 
 pub printed-is-read : PrintedIsRead
 printed-is-read s n event.Begin d k i l p = subst (λ (c : Command). Reads s n (codes "begin" ∷ []) c) (sym p) (reads s n (codes "begin") [] command.Begin i l refl refl refl)
-printed-is-read s n (event.Send place) d k i l p = named s n k i l (codes "send") place command.Send d p refl refl refl (λ m. refl)
-printed-is-read s n (event.Take place) d k i l p = named s n k i l (codes "take") place command.Take d p refl refl refl (λ m. refl)
+printed-is-read s n (event.Send place) d k i l p = named s n k i l word.Send place command.Send d p refl refl refl (λ m. refl)
+printed-is-read s n (event.Take place) d k i l p = named s n k i l word.Take place command.Take d p refl refl refl (λ m. refl)
 printed-is-read s n (event.Apply place m) d k i l p = applies s n k i l place m d p.0 p.1
-printed-is-read s n (event.Reply place) d k i l p = named s n k i l (codes "reply") place command.Reply d p refl refl refl (λ m. refl)
-printed-is-read s n (event.Heard place) d k i l p = named s n k i l (codes "heard") place command.Heard d p refl refl refl (λ m. refl)
+printed-is-read s n (event.Reply place) d k i l p = named s n k i l word.Reply place command.Reply d p refl refl refl (λ m. refl)
+printed-is-read s n (event.Heard place) d k i l p = named s n k i l word.Heard place command.Heard d p refl refl refl (λ m. refl)
 printed-is-read s n (event.Arrive pk tag) d k i l p = absurd p
 printed-is-read s n (event.Hop m) d k i l p =
-    subst (λ (c : Command). Reads s n (words_of (line (codes "hop" ++ 32 ∷ decimal m))) c) (sym p.1) (numbered s n k i l (codes "hop") m (command.Hop m) p.0 refl refl refl (index s n k i l m (command.Hop m) p.0))
+    subst (λ (c : Command). Reads s n (words_of (line (codes "hop" ++ 32 ∷ decimal m))) c) (sym p.1) (numbered s n k i l word.Hop m (command.Hop m) p.0 refl refl refl (index s n k i l m (command.Hop m) p.0))
 printed-is-read s n (event.Drained stamp) d k i l p =
     subst (λ (c : Command). Reads s n (words_of (line (codes "drained" ++ 32 ∷ decimal stamp))) c) (sym p.1)
-    (numbered s n k i l (codes "drained") stamp (command.Drained stamp) (id stamp p.0.1) refl refl refl (vlan stamp p.0))
+    (numbered s n k i l word.Drained stamp (command.Drained stamp) (id stamp p.0.1) refl refl refl (vlan stamp p.0))
   where
     id : (v : ℕ) → v ≤ 4094 → v ≤ 4294967295
     id v h = omega (arith, h)
 
     vlan : (v : ℕ) → (1 ≤ v) × (v ≤ 4094) → cond (not (nat_le 1 v && nat_le v 4094)) (Err ValueRange) (Ok (command.Drained v)) ≡ Ok (command.Drained v)
     vlan v h = ap (λ (b : Bool). cond (not (b && nat_le v 4094)) (Err ValueRange) (Ok (command.Drained v))) (within 1 v h.0) ∙ ap (λ (b : Bool). cond (not b) (Err ValueRange) (Ok (command.Drained v))) (within v 4094 h.1)
-printed-is-read s n (event.Lost place) d k i l p = named s n k i l (codes "lost") place command.Lost d p refl refl refl (λ m. refl)
-printed-is-read s n (event.Rejoin place) d k i l p = named s n k i l (codes "rejoin") place command.Rejoin d p refl refl refl (λ m. refl)
+printed-is-read s n (event.Lost place) d k i l p = named s n k i l word.Lost place command.Lost d p refl refl refl (λ m. refl)
+printed-is-read s n (event.Rejoin place) d k i l p = named s n k i l word.Rejoin place command.Rejoin d p refl refl refl (λ m. refl)
 printed-is-read s n (event.Stuck m) d k i l p =
-    subst (λ (c : Command). Reads s n (words_of (line (codes "stuck" ++ 32 ∷ decimal m))) c) (sym p.1) (numbered s n k i l (codes "stuck") m (command.Stuck m) p.0 refl refl refl (index s n k i l m (command.Stuck m) p.0))
+    subst (λ (c : Command). Reads s n (words_of (line (codes "stuck" ++ 32 ∷ decimal m))) c) (sym p.1) (numbered s n k i l word.Stuck m (command.Stuck m) p.0 refl refl refl (index s n k i l m (command.Stuck m) p.0))
 printed-is-read s n (event.Foreign place side got) d k i l p = absurd p

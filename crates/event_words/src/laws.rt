@@ -1,0 +1,7 @@
+// The law of the words, the contract of a call that does nothing.
+ghost use Rattle.event_words.specs.Words.{AreReadAgain};
+
+/// Exactly the words as they are written are read, each as the one that it is.
+pub fn words_are_read_again()
+    ensures { AreReadAgain }
+{}
