@@ -6,8 +6,9 @@ ghost use Rattle.drive_text.specs.Drives.{drive_text, message_text, steering_lin
 
 use bytes::BytesMut;
 use drive_journal::Steering;
+use event_words::{EventWord, EventWord};
 use openflow_wire::{Message, encode};
-use report_text::{fault_number, put_at, put_bytes, put_state};
+use report_text::{fault_number, put_bytes, put_named, put_numbered, put_state};
 use std::alloc::{AllocError, Global};
 use std::fmt::Write;
 use topology_model::Site;
@@ -75,19 +76,19 @@ fn put_event(
     ensures { OnOk result (string_bytes out.new ≡ string_bytes out.old ++ steering_text switches.now event.now) }
 {
     match event {
-        Steering::Begin => out.push_str("begin"),
+        Steering::Begin => out.push_str(EventWord::Begin.text()),
         Steering::Send(place, message) => {
-            put_at(out, "send ", switches, *place)?;
+            put_named(out, EventWord::Send, switches, *place)?;
             put_message(alloc, out, message)
         }
         Steering::Heard(place, message) => {
-            put_at(out, "heard ", switches, *place)?;
+            put_named(out, EventWord::Heard, switches, *place)?;
             put_message(alloc, out, message)
         }
-        Steering::Drained(stamp) => write!(out, "drained {stamp}"),
-        Steering::Lost(place) => put_at(out, "lost ", switches, *place),
+        Steering::Drained(stamp) => put_numbered(out, EventWord::Drained, usize::from(*stamp)),
+        Steering::Lost(place) => put_named(out, EventWord::Lost, switches, *place),
         Steering::Garbled(place, fault) => {
-            put_at(out, "garbled ", switches, *place)?;
+            put_named(out, EventWord::Garbled, switches, *place)?;
             let number = fault_number(*fault);
             write!(out, " {number}")
         }

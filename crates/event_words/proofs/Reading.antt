@@ -4,7 +4,7 @@ use Rattle.std.proofs.lemmas.Slice.Eq.{bytes_eq-Decides}
 use Rattle.std.specs.List.{find}
 use Rattle.std.specs.Str.{bytes_eq}
 use Rattle.event_words.specs.declared.word.EventWord.{EventWord}
-use Rattle.event_words.specs.declared.word.EventWord.TheVariants.{Begin, Send, Take, Apply, Reply, Heard, Arrive, Hop, Drained, Lost, Rejoin, Stuck, Foreign, Settle, Flow}
+use Rattle.event_words.specs.declared.word.EventWord.TheVariants.{Begin, Send, Take, Apply, Reply, Heard, Arrive, Hop, Drained, Lost, Rejoin, Stuck, Foreign, Garbled, Settle, Flow}
 use Rattle.event_words.specs.Words.{text_of, all_words, word_of, AreReadAgain}
 
 pub read-again : (w : EventWord) → word_of (text_of w) ≡ Some w
@@ -21,6 +21,7 @@ read-again Lost = refl
 read-again Rejoin = refl
 read-again Stuck = refl
 read-again Foreign = refl
+read-again Garbled = refl
 read-again Settle = refl
 read-again Flow = refl
 

@@ -3,7 +3,7 @@ use Rattle.std.specs.Prelude.{◌≡◌, ◌↔◌, ℕ, List, [], ◌∷◌, co
 use Rattle.std.specs.List.{find}
 use Rattle.std.specs.Str.{bytes_eq}
 use Rattle.event_words.specs.declared.word.EventWord.{EventWord}
-use Rattle.event_words.specs.declared.word.EventWord.TheVariants.{Begin, Send, Take, Apply, Reply, Heard, Arrive, Hop, Drained, Lost, Rejoin, Stuck, Foreign, Settle, Flow}
+use Rattle.event_words.specs.declared.word.EventWord.TheVariants.{Begin, Send, Take, Apply, Reply, Heard, Arrive, Hop, Drained, Lost, Rejoin, Stuck, Foreign, Garbled, Settle, Flow}
 
 -- a word as it is written
 abbrev pub text_of : EventWord → List ℕ
@@ -20,11 +20,12 @@ text_of Lost = codes "lost"
 text_of Rejoin = codes "rejoin"
 text_of Stuck = codes "stuck"
 text_of Foreign = codes "foreign"
+text_of Garbled = codes "garbled"
 text_of Settle = codes "settle"
 text_of Flow = codes "flow"
 
 abbrev pub all_words : List EventWord
-all_words = Begin ∷ Send ∷ Take ∷ Apply ∷ Reply ∷ Heard ∷ Arrive ∷ Hop ∷ Drained ∷ Lost ∷ Rejoin ∷ Stuck ∷ Foreign ∷ Settle ∷ Flow ∷ []
+all_words = Begin ∷ Send ∷ Take ∷ Apply ∷ Reply ∷ Heard ∷ Arrive ∷ Hop ∷ Drained ∷ Lost ∷ Rejoin ∷ Stuck ∷ Foreign ∷ Garbled ∷ Settle ∷ Flow ∷ []
 
 -- the word that bytes are, if they are one
 abbrev pub word_of : List ℕ → Option EventWord

@@ -2,8 +2,8 @@
 ghost use Rattle.std.specs.Prelude.{◌≡◌};
 ghost use Rattle.event_words.specs.Words.{text_of, word_of};
 
-/// The word that names an event. `Settle` and `Flow` stand for many events, and only schedules have them; only reports
-/// have `Foreign`.
+/// The word that names an event. `Settle` and `Flow` stand for many events, and only schedules have them. Only reports of
+/// the world have `Foreign`, and only those of outside switches `Garbled`.
 #[derive(Clone, Copy, Debug, PartialEq, Eq)]
 pub enum EventWord {
     Begin,
@@ -19,13 +19,14 @@ pub enum EventWord {
     Rejoin,
     Stuck,
     Foreign,
+    Garbled,
     Settle,
     Flow,
 }
 
 impl EventWord {
     /// All words.
-    pub const ALL: [EventWord; 15] = [
+    pub const ALL: [EventWord; 16] = [
         EventWord::Begin,
         EventWord::Send,
         EventWord::Take,
@@ -39,6 +40,7 @@ impl EventWord {
         EventWord::Rejoin,
         EventWord::Stuck,
         EventWord::Foreign,
+        EventWord::Garbled,
         EventWord::Settle,
         EventWord::Flow,
     ];
@@ -61,6 +63,7 @@ impl EventWord {
             EventWord::Rejoin => "rejoin",
             EventWord::Stuck => "stuck",
             EventWord::Foreign => "foreign",
+            EventWord::Garbled => "garbled",
             EventWord::Settle => "settle",
             EventWord::Flow => "flow",
         }
