@@ -6,9 +6,9 @@ use Rattle.nk_values.specs.Members.{IsIn}
 use Rattle.openflow_wire.specs.declared.message.Message.{Message}
 use Rattle.openflow_wire.specs.declared.message.Message.TheVariants as to
 use Rattle.openflow_wire.specs.RowChanges.{mod_of}
-use Rattle.barrier_tracker.specs.declared.tracker.Awaited.{Awaited}
-use Rattle.barrier_tracker.specs.declared.tracker.Awaited.TheVariants as replies
-use Rattle.barrier_tracker.specs.Replies.{unowed}
+use Rattle.update_coordinator.specs.Awaited.{Awaited}
+use Rattle.update_coordinator.specs.Awaited.TheVariants as replies
+use Rattle.update_coordinator.specs.Replies.{unowed}
 use Rattle.update_coordinator.specs.Controls.{Greet}
 use Rattle.update_coordinator.specs.Hearing.{is_due}
 use Rattle.update_laws.specs.Lines.{Changing}
