@@ -117,7 +117,7 @@ failure-full : (w : WorldValue) (place : ℕ) (why : Cause) → IsKept w → (x 
 unfolding IsKept
 failure-full w place why k x =
     let h = end-here (setting w) w.fleet k.fleet place x.end_ x.here in
-    line-full (setting w) k.fleet.phase (is_some w.fleet.control.halt) (wire_of w.fleet.control x.session.site h.reply x.end_) (running w.fleet.control.halt x.session.running)
+    line-full (setting w) w.fleet.control.phase (is_some w.fleet.control.halt) (wire_of w.fleet.control x.session.site h.reply x.end_) (running w.fleet.control.halt x.session.running)
     (k.fleet.lines place x.session.site h.reply x.end_ x.session.here h.reply_at x.here) x.session.there x.message x.rest x.front x.fault x.fails
 
 leads-room : HasRoom → (events : List Event) (w : WorldValue) → LeadsTo events w → KeepsRoom w

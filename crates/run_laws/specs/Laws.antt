@@ -16,7 +16,7 @@ use Rattle.update_coordinator.specs.declared.cause.Cause.TheVariants as cause
 use Rattle.update_coordinator.specs.declared.cause.Side.{Side}
 use Rattle.update_laws.specs.Updates.{Live}
 use Rattle.update_laws.specs.Settings.{AreVersions, version_at}
-use Rattle.update_laws.specs.Fleets.{End, phase_from}
+use Rattle.update_laws.specs.Fleets.{End}
 use Rattle.update_laws.specs.Traffic.{Arrived, IsCovered}
 use Rattle.world_core.specs.declared.event.Event.{Event}
 use Rattle.world_core.specs.declared.event.Event.TheVariants as event
@@ -41,7 +41,7 @@ pub record LeadsTo (events : List Event) (w : WorldValue) : Type 0 where
 pub record IsCopyOf (w : WorldValue) (number : ℕ) (a : Arrived) (f : Flight) : Type 0 where
   pub policy : Version
   pub there : version_at w.versions number ≡ Some policy
-  pub live : Live (phase_from w.fleet.control.phase) number
+  pub live : Live w.fleet.control.phase number
   pub stamp : f.tag ≡ Some policy.rows.stamp
   pub begins : oldest f.history ≡ a.packet
 

@@ -1,6 +1,6 @@
 -- A switch with nothing left of its batch has the rows that the phase gives it.
-use Rattle.std.proofs.Common.{◌≡◌, ◌⊎◌, inl, inr, ℕ, zero, suc, ◌-◌, ◌≤◌, Bool, true, false, not, List, [], ◌∷◌, ◌++◌, length, map, refl, sym, ◌∙◌, ap, subst, Option, is_some, nat_lt, arith}
-use Rattle.std.proofs.lemmas.Bool.Decides.{nat_tests}
+use Rattle.std.proofs.Common.{◌≡◌, ◌⊎◌, inl, inr, ℕ, zero, suc, pred, ◌-◌, ◌≤◌, ◌==◌, Bool, true, false, not, List, [], ◌∷◌, ◌++◌, length, map, refl, sym, ◌∙◌, ap, subst, Option, is_some, nat_lt, if◌then◌else◌, arith}
+use Rattle.std.proofs.lemmas.Bool.Decides.{nat_tests, Decides-eqb}
 use Rattle.nk_values.specs.declared.row.Row.{Row}
 use Rattle.nk_values.specs.declared.row.FlowMod.{FlowMod}
 use Rattle.nk_values.specs.Members.{IsIn, SameMembers}
@@ -15,7 +15,7 @@ use Rattle.update_coordinator.specs.declared.cause.Cause.{Cause}
 use Rattle.update_coordinator.specs.Batches.{planned}
 use Rattle.update_coordinator.specs.Controls.{orders_of}
 use Rattle.update_laws.specs.Lines.{Changing}
-use Rattle.update_laws.specs.Updates.{Setting, IsSetting, Phase, Opening, Idle, Install, Flip, Drain, Clean, spot, inner, outer, begun, outer_begun, FlipBase, DrainBase, Base, batch, adds, flip_next, upper_of}
+use Rattle.update_laws.specs.Updates.{Setting, IsSetting, Phase, Opening, Idle, Install, Flip, Drain, Clean, spot, inner, outer, begun, outer_begun, FlipBase, DrainBase, Base, batch, adds, flip_next, Within, upper_of}
 use Rattle.update_laws.specs.Settings.{odd, setting_of, AreVersions}
 use Rattle.update_laws.specs.Fleets.{wire_of}
 use Rattle.update_laws.specs.Stages.{Stage, Away, Meeting, Asking, Telling, Sending, Waiting, Answered, Resting, IsAt, state_of, to_come, Left, IsLine, IsFullError, job}
@@ -25,7 +25,7 @@ use Rattle.update_laws.proofs.Cuts.{take-whole, take-none}
 use Rattle.update_laws.proofs.Fleets.{end-here}
 use Rattle.update_laws.proofs.Made.{made}
 use Rattle.update_laws.proofs.Overlays.{in-take}
-use Rattle.update_laws.proofs.Phases.{Same, moves}
+use Rattle.update_laws.proofs.Phases.{Same, moves, none-first}
 use Rattle.world_core.specs.Worlds.{setting, IsKept}
 use Rattle.table_audit.specs.Laws.{IsError, TablesFollow}
 use Rattle.table_audit.proofs.Parts.{first, all_but, have, Piece, piece-of, of-piece}
@@ -119,8 +119,8 @@ Over c ph sw rows = Changing (adds c ph) (Base c ph sw) (batch c ph sw) (λ r. �
 still-rows : (P : Row → Type 0) (rows : List Row) → Changing true P [] (λ r. ⊥) rows → Same P (λ r. IsIn rows r)
 still-rows P rows t = record { front = λ r m. t.old r m; back = λ r m. elim (t.only r m) [ inl x ↦ x | inr x ↦ absurd x ] }
 
-given : (t : Layout) (vs : List Version) (limit capacity : ℕ) → IsTopology t → AreVersions t vs → (ph : Phase) (sw : ℕ) (rows : List Row) → Over (setting_of t vs limit capacity) ph sw rows → Same (λ r. IsIn (gives vs ph sw) r) (λ r. IsIn rows r)
-given t vs limit capacity k a ph sw rows over = by_phase ph over
+given : (t : Layout) (vs : List Version) (limit capacity : ℕ) → IsTopology t → AreVersions t vs → (ph : Phase) → Within (setting_of t vs limit capacity) ph → (sw : ℕ) (rows : List Row) → Over (setting_of t vs limit capacity) ph sw rows → Same (λ r. IsIn (gives vs ph sw) r) (λ r. IsIn rows r)
+given t vs limit capacity k a ph within sw rows over = by_phase ph within over
   where
     c : Setting
     c = setting_of t vs limit capacity
@@ -160,23 +160,29 @@ given t vs limit capacity k a ph sw rows over = by_phase ph over
         none-outer : (r : Row) → IsIn (outer c 0 sw) r → ⊥
         none-outer r m = let x = from-flat_map (λ b. c.rows_at 0 (spot sw b)) (c.edge sw) r m in subst (λ (rs : List Row). IsIn rs r) (q.none (spot sw x.0)) x.2
 
-    flip-over : (o n : ℕ) (b : Bool) → nat_lt (suc n) (c.rounds o) ≡ b → (p : ℕ) → p ≡ o → Same (Base c (flip_next b p n) sw) (λ r. IsIn rows r) → Same (λ r. IsIn (have vs (all_but (suc n)) o sw ++ have vs (first (suc n)) (suc o) sw) r) (λ r. IsIn rows r)
-    flip-over o n true e p same h = joined (begun-flip o (suc n)) (subst (λ (z : ℕ). Same (Base c (Flip z (suc n)) sw) (λ r. IsIn rows r)) same h)
-    flip-over o n false e zero same h =
+    flip-ended : (o n : ℕ) (b : Bool) → (suc o == 1) ≡ b → nat_lt (suc n) (c.rounds o) ≡ false → Same (Base c (if b then Idle 1 else Drain (suc o)) sw) (λ r. IsIn rows r) →
+        Same (λ r. IsIn (have vs (all_but (suc n)) o sw ++ have vs (first (suc n)) (suc o) sw) r) (λ r. IsIn rows r)
+    flip-ended o n true f e h =
+        let none : 0 ≡ o = let one : suc o ≡ 1 = (Decides-eqb (suc o) 1).0 f in omega (arith, one) in
         joined (ended-flip o (all_but (suc n)) (first (suc n)) (last-round o n (no-more n (c.rounds o) e)))
-        (subst (λ (z : ℕ). Same (λ r. (IsIn (inner c z sw) r ⊎ IsIn (inner c (suc z) sw) r) ⊎ DrainBase (c.high (suc z)) c z sw r) (λ r. IsIn rows r)) same (joined first-idle h))
-    flip-over o n false e (suc p) same h =
-        joined (ended-flip o (all_but (suc n)) (first (suc n)) (last-round o n (no-more n (c.rounds o) e)))
-        (subst (λ (z : ℕ). Same (Base c (Drain z) sw) (λ r. IsIn rows r)) same h)
+        (subst (λ (z : ℕ). Same (λ r. (IsIn (inner c z sw) r ⊎ IsIn (inner c (suc z) sw) r) ⊎ DrainBase (c.high (suc z)) c z sw r) (λ r. IsIn rows r)) none (joined first-idle h))
+    flip-ended o n false f e h = joined (ended-flip o (all_but (suc n)) (first (suc n)) (last-round o n (no-more n (c.rounds o) e))) h
 
-    by_phase : (p : Phase) → Over c p sw rows → Same (λ r. IsIn (gives vs p sw) r) (λ r. IsIn rows r)
-    by_phase Opening h = record { front = λ r m. absurd m; back = λ r m. elim (h.only r m) [ inl x ↦ x | inr x ↦ x ] }
-    by_phase (Idle v) h = joined (one v) (still-rows (Base c (Idle v) sw) rows h)
-    by_phase (Install o) h = joined (begun-flip o 0) (moves c q (Install o) sw rows refl h)
-    by_phase (Flip o n) h = flip-over o n (nat_lt (suc n) (c.rounds o)) refl o refl (moves c q (Flip o n) sw rows refl h)
-    by_phase (Drain o) h =
-        joined (ended-flip o (first 0) (all_but 0) (record { gone = λ e pt m. refl; come = λ e pt m. omega arith })) (still-rows (Base c (Drain o) sw) rows h)
-    by_phase (Clean o) h = joined (one (suc o)) (moves c q (Clean o) sw rows refl h)
+    flip-over : (o n : ℕ) (b : Bool) → nat_lt (suc n) (c.rounds o) ≡ b → Same (Base c (flip_next b (suc o) (suc n)) sw) (λ r. IsIn rows r) → Same (λ r. IsIn (have vs (all_but (suc n)) o sw ++ have vs (first (suc n)) (suc o) sw) r) (λ r. IsIn rows r)
+    flip-over o n true e h = joined (begun-flip o (suc n)) h
+    flip-over o n false e h = flip-ended o n (suc o == 1) refl e h
+
+    by_phase : (p : Phase) → Within c p → Over c p sw rows → Same (λ r. IsIn (gives vs p sw) r) (λ r. IsIn rows r)
+    by_phase Opening w h = record { front = λ r m. absurd m; back = λ r m. elim (h.only r m) [ inl x ↦ x | inr x ↦ x ] }
+    by_phase (Idle v) w h = joined (one v) (still-rows (Base c (Idle v) sw) rows h)
+    by_phase (Install i) w h = joined (begun-flip (pred i) 0) (moves c q (Install i) w sw rows refl h)
+    by_phase (Flip zero n) w h = none-first c w.0
+    by_phase (Flip (suc o) zero) w h = absurd (omega (arith, w.1))
+    by_phase (Flip (suc o) (suc n)) w h = flip-over o n (nat_lt (suc n) (c.rounds o)) refl (moves c q (Flip (suc o) (suc n)) w sw rows refl h)
+    by_phase (Drain i) w h =
+        joined (ended-flip (pred i) (first 0) (all_but 0) (record { gone = λ e pt m. refl; come = λ e pt m. omega arith })) (still-rows (Base c (Drain i) sw) rows h)
+    by_phase (Clean zero) w h = none-first c w
+    by_phase (Clean (suc o)) w h = joined (one (suc o)) (moves c q (Clean (suc o)) w sw rows refl h)
 
 -- ---- nothing is left
 
@@ -232,8 +238,8 @@ pub tables-follow : TablesFollow
 unfolding IsKept
 tables-follow w place s e k running at here done =
     let h = end-here (setting w) w.fleet k.fleet place e here in
-    let l = subst (λ (o : Option Cause). IsLine (setting w) k.fleet.phase (is_some o) (wire_of w.fleet.control s h.reply e)) running (k.fleet.lines place s h.reply e at h.reply_at here) in
-    let over = over-line (setting w) k.fleet.phase (wire_of w.fleet.control s h.reply e) l done.up done.unsent done.there done.pending done.errors in
-    let same = given w.topology w.versions w.limit w.capacity k.topology k.versions k.fleet.phase e.switch.sw e.switch.table.rows over in
-    subst (λ (rs : List Row). SameMembers rs e.switch.table.rows) (sym ((λ i. planned (k.rows i) (k.fleet.is i) e.switch.sw) ∙ planned-is w.versions k.fleet.phase e.switch.sw))
+    let l = subst (λ (o : Option Cause). IsLine (setting w) w.fleet.control.phase (is_some o) (wire_of w.fleet.control s h.reply e)) running (k.fleet.lines place s h.reply e at h.reply_at here) in
+    let over = over-line (setting w) w.fleet.control.phase (wire_of w.fleet.control s h.reply e) l done.up done.unsent done.there done.pending done.errors in
+    let same = given w.topology w.versions w.limit w.capacity k.topology k.versions w.fleet.control.phase k.fleet.within e.switch.sw e.switch.table.rows over in
+    subst (λ (rs : List Row). SameMembers rs e.switch.table.rows) (sym ((λ i. planned (k.rows i) w.fleet.control.phase e.switch.sw) ∙ planned-is (setting w) w.versions w.fleet.control.phase k.fleet.within e.switch.sw))
     (record { front = same.front; back = same.back })

@@ -30,15 +30,15 @@ pub rows-writable : (w : WorldValue) → IsKept w → (place : ℕ) (e : End) �
 unfolding IsKept
 rows-writable w k place e here r m =
     let l = line-at w k place e here in
-    let b = belongs (setting w) (set w k) k.fleet.phase e.switch.sw _ e.switch.table.rows l.2.table.changing r m in
+    let b = belongs (setting w) (set w k) w.fleet.control.phase e.switch.sw _ e.switch.table.rows l.2.table.changing r m in
     writable-rows w.topology w.versions k.versions b.version (spot e.switch.sw b.pt) r b.held
 
 -- no two rows that are planned for a switch have one key
 pub planned-distinct : (w : WorldValue) → IsKept w → (sw : ℕ) → Distinct (planned w.fleet.control.versions w.fleet.control.phase sw)
 unfolding IsKept
 planned-distinct w k sw =
-    subst (λ (rs : List Row). Distinct rs) (sym ((λ i. planned (k.rows i) (k.fleet.is i) sw) ∙ planned-is w.versions k.fleet.phase sw))
-    (gives-distinct w.topology w.versions w.limit w.capacity k.topology k.versions k.fleet.phase sw)
+    subst (λ (rs : List Row). Distinct rs) (sym ((λ i. planned (k.rows i) w.fleet.control.phase sw) ∙ planned-is (setting w) w.versions w.fleet.control.phase k.fleet.within sw))
+    (gives-distinct w.topology w.versions w.limit w.capacity k.topology k.versions w.fleet.control.phase sw)
 
 -- the switch at a place, as it is lent, and its number
 pub record Stands (w : WorldValue) (place : ℕ) (lent : SwitchValue) : Type 0 where

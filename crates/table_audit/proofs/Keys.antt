@@ -1,5 +1,5 @@
 -- The rows that a phase gives a switch have keys of their own.
-use Rattle.std.proofs.Common.{◌≡◌, ◌≢◌, ◌⊎◌, inl, inr, ℕ, zero, suc, ◌+◌, ◌-◌, ◌==◌, Bool, true, false, List, [], ◌∷◌, ◌++◌, length, map, take, refl, sym, ◌∙◌, ap, subst, if◌then◌else◌, Option, Some, slice_get, arith}
+use Rattle.std.proofs.Common.{◌≡◌, ◌≢◌, ◌⊎◌, inl, inr, ℕ, zero, suc, pred, ◌-◌, ◌≤◌, ◌==◌, Bool, true, false, List, [], ◌∷◌, ◌++◌, length, map, take, refl, sym, ◌∙◌, ap, subst, if◌then◌else◌, Option, Some, slice_get, arith}
 use Rattle.std.specs.List.{flat_map, filter}
 use Rattle.std.proofs.lemmas.Bool.Decides.{Decides-eqb}
 use Rattle.nk_values.specs.declared.pattern.Pattern.{Pattern}
@@ -20,9 +20,8 @@ use Rattle.topology_model.specs.Wired.{IsSound, IsTopology}
 use Rattle.policy_rows.specs.declared.version.Version.{Version}
 use Rattle.policy_rows.specs.Means.{Ranked, kind_at}
 use Rattle.update_coordinator.specs.Batches.{planned, version_at as rows_at_version}
-use Rattle.update_laws.specs.Updates.{Setting, IsSetting, spot, Phase, Opening, Idle, Install, Flip, Drain, Clean}
+use Rattle.update_laws.specs.Updates.{Setting, IsSetting, spot, Phase, Opening, Idle, Install, Flip, Drain, Clean, Within}
 use Rattle.update_laws.specs.Settings.{ports_in, version_at, rows_in, odd, band_by, setting_of, AreVersions}
-use Rattle.update_laws.specs.Fleets.{phase_of}
 use Rattle.update_laws.proofs.Made.{made}
 use Rattle.update_laws.proofs.Origins.{Belongs, PortAt, top_at, means, no-tie}
 use Rattle.update_laws.proofs.Overlays.{ranked-between, in-take}
@@ -160,10 +159,10 @@ both-apart t vs limit capacity k a old new o sw =
 abbrev pub gives : List Version → Phase → ℕ → List Row
 gives vs Opening sw = []
 gives vs (Idle v) sw = have vs (all_but 0) v sw
-gives vs (Install o) sw = have vs (all_but 0) o sw ++ have vs (first 0) (suc o) sw
-gives vs (Flip o k) sw = have vs (all_but (suc k)) o sw ++ have vs (first (suc k)) (suc o) sw
-gives vs (Drain o) sw = have vs (first 0) o sw ++ have vs (all_but 0) (suc o) sw
-gives vs (Clean o) sw = have vs (all_but 0) (suc o) sw
+gives vs (Install i) sw = have vs (all_but 0) (pred i) sw ++ have vs (first 0) (suc (pred i)) sw
+gives vs (Flip i k) sw = have vs (all_but k) (pred i) sw ++ have vs (first k) (suc (pred i)) sw
+gives vs (Drain i) sw = have vs (first 0) (pred i) sw ++ have vs (all_but 0) (suc (pred i)) sw
+gives vs (Clean i) sw = have vs (all_but 0) (suc (pred i)) sw
 
 version-is : (vs : List Version) (v : ℕ) → rows_at_version (map (λ (x : Version). x.rows) vs) v ≡ rows_in (version_at vs v)
 version-is vs zero = refl
@@ -180,26 +179,28 @@ part-is vs part u v sw e = ap (λ (n : ℕ). part_of part (rows_at_version (map 
 two-are : (a b c d : List Row) → a ≡ c → b ≡ d → a ++ b ≡ c ++ d
 two-are a b c d e f = λ i. e i ++ f i
 
-pub planned-is : (vs : List Version) (ph : Phase) (sw : ℕ) → planned (map (λ (x : Version). x.rows) vs) (phase_of ph) sw ≡ gives vs ph sw
-planned-is vs Opening sw = refl
-planned-is vs (Idle v) sw = part-is vs (all_but 0) v v sw refl
-planned-is vs (Install o) sw = two-are _ _ _ _ (part-is vs (all_but 0) (o + 1 - 1) o sw (omega arith)) (part-is vs (first 0) (o + 1) (suc o) sw (omega arith))
-planned-is vs (Flip o k) sw =
-    two-are _ _ _ _ (ap (λ (n : ℕ). part_of (all_but n) (rows_at_version (map (λ (x : Version). x.rows) vs) (o + 1 - 1)) sw) more ∙ part-is vs (all_but (suc k)) (o + 1 - 1) o sw (omega arith))
-    (ap (λ (n : ℕ). part_of (first n) (rows_at_version (map (λ (x : Version). x.rows) vs) (o + 1)) sw) more ∙ part-is vs (first (suc k)) (o + 1) (suc o) sw (omega arith))
-  where
-    more : k + 1 ≡ suc k
-    more = omega arith
-planned-is vs (Drain o) sw = two-are _ _ _ _ (part-is vs (first 0) (o + 1 - 1) o sw (omega arith)) (part-is vs (all_but 0) (o + 1) (suc o) sw (omega arith))
-planned-is vs (Clean o) sw = part-is vs (all_but 0) (o + 1) (suc o) sw (omega arith)
+-- these are the coordinator's
+old-is : (i : ℕ) → 1 ≤ i → i - 1 ≡ pred i
+old-is i l = omega arith
+
+new-is : (i : ℕ) → 1 ≤ i → i ≡ suc (pred i)
+new-is i l = omega (arith, l)
+
+pub planned-is : (c : Setting) (vs : List Version) (ph : Phase) → Within c ph → (sw : ℕ) → planned (map (λ (x : Version). x.rows) vs) ph sw ≡ gives vs ph sw
+planned-is c vs Opening n sw = refl
+planned-is c vs (Idle v) n sw = part-is vs (all_but 0) v v sw refl
+planned-is c vs (Install i) n sw = two-are _ _ _ _ (part-is vs (all_but 0) (i - 1) (pred i) sw (old-is i n.some)) (part-is vs (first 0) i (suc (pred i)) sw (new-is i n.some))
+planned-is c vs (Flip i k) n sw = two-are _ _ _ _ (part-is vs (all_but k) (i - 1) (pred i) sw (old-is i n.0.some)) (part-is vs (first k) i (suc (pred i)) sw (new-is i n.0.some))
+planned-is c vs (Drain i) n sw = two-are _ _ _ _ (part-is vs (first 0) (i - 1) (pred i) sw (old-is i n.some)) (part-is vs (all_but 0) i (suc (pred i)) sw (new-is i n.some))
+planned-is c vs (Clean i) n sw = part-is vs (all_but 0) i (suc (pred i)) sw (new-is i n.some)
 
 gives-apart : (t : Layout) (vs : List Version) (limit capacity : ℕ) → IsTopology t → AreVersions t vs → (ph : Phase) (sw : ℕ) → Pairs Apart (gives vs ph sw)
 gives-apart t vs limit capacity k a Opening sw = tt
 gives-apart t vs limit capacity k a (Idle v) sw = part-apart t vs limit capacity k a (all_but 0) v sw
-gives-apart t vs limit capacity k a (Install o) sw = both-apart t vs limit capacity k a (all_but 0) (first 0) o sw
-gives-apart t vs limit capacity k a (Flip o n) sw = both-apart t vs limit capacity k a (all_but (suc n)) (first (suc n)) o sw
-gives-apart t vs limit capacity k a (Drain o) sw = both-apart t vs limit capacity k a (first 0) (all_but 0) o sw
-gives-apart t vs limit capacity k a (Clean o) sw = part-apart t vs limit capacity k a (all_but 0) (suc o) sw
+gives-apart t vs limit capacity k a (Install i) sw = both-apart t vs limit capacity k a (all_but 0) (first 0) (pred i) sw
+gives-apart t vs limit capacity k a (Flip i n) sw = both-apart t vs limit capacity k a (all_but n) (first n) (pred i) sw
+gives-apart t vs limit capacity k a (Drain i) sw = both-apart t vs limit capacity k a (first 0) (all_but 0) (pred i) sw
+gives-apart t vs limit capacity k a (Clean i) sw = part-apart t vs limit capacity k a (all_but 0) (suc (pred i)) sw
 
 pub gives-distinct : (t : Layout) (vs : List Version) (limit capacity : ℕ) → IsTopology t → AreVersions t vs → (ph : Phase) (sw : ℕ) → Distinct (gives vs ph sw)
 gives-distinct t vs limit capacity k a ph sw = as-distinct (gives vs ph sw) (gives-apart t vs limit capacity k a ph sw)

@@ -17,11 +17,9 @@ use Rattle.policy_rows.specs.Means.{standing, sent_packet}
 use Rattle.packet_tracer.specs.declared.flight.Flight.{Flight}
 use Rattle.packet_tracer.specs.Hops.{all_flights, moved}
 use Rattle.packet_tracer.proofs.Stepping.{flights-next}
-use Rattle.update_laws.specs.Updates.{Phase}
 use Rattle.update_laws.specs.Settings.{policy_in}
-use Rattle.update_laws.specs.Traffic.{IsFlight, IsTraffic}
+use Rattle.update_laws.specs.Traffic.{IsFlight}
 use Rattle.update_laws.proofs.Entering.{Answered, Comes, Lost, Taken, comes, flight-answered}
-use Rattle.update_laws.proofs.Moving.{fleet-phase}
 use Rattle.update_laws.proofs.Places.{get-some}
 use Rattle.update_laws.proofs.Wiring.{at-in, removed-in}
 use Rattle.world_core.specs.Steps.{Arrives, Hops, first_copy}
@@ -78,10 +76,6 @@ gone-on s w l k u f g sent a near m =
 abbrev pub AreNear : ℕ → List Flight → Type 0
 AreNear s fs = (f : Flight) → IsIn fs f → IsNear s f
 
--- the traffic in the phase that the switches are in
-in-its-phase : (w : WorldValue) (k : Keeps w) → IsTraffic w.topology (setting w) k.fleet.phase w.flights w.arrivals
-in-its-phase w k = subst (λ (ph : Phase). IsTraffic w.topology (setting w) ph w.flights w.arrivals) (fleet-phase (setting w) w.fleet k.fleet) k.traffic
-
 -- a copy takes a hop
 pub hop-near : (s k : ℕ) (w v : WorldValue) → Hops k w v → IsLine s w → IsKept w → AreNear s w.flights → AreNear s v.flights
 unfolding IsKept
@@ -93,11 +87,11 @@ hop-near s k w v h l q near = subst (λ (x : WorldValue). AreNear s x.flights) (
       | inr x ↦
           let f = h.may.flight in
           let among = at-in k w.flights f h.may.there in
-          let i = ((in-its-phase w q).each f.arrival h.arrival h.of).flying f among refl in
+          let i = (q.traffic.each f.arrival h.arrival h.of).flying f among refl in
           let line = line-at w q h.place h.end_ h.here in
           gone-on s w l q i.older f g h.handled.sent
-          (flight-answered w.topology (setting w) refl (set w q) q.fleet.phase q.fleet.within h.end_.switch.sw _ h.end_.switch.table.rows line.2.table.changing f i.older h.handled.sent
-          (subst (λ (n : ℕ). IsFlight (setting w) q.fleet.phase n f) i.number i) h.stands h.handled.handled)
+          (flight-answered w.topology (setting w) refl (set w q) w.fleet.control.phase q.fleet.within h.end_.switch.sw _ h.end_.switch.table.rows line.2.table.changing f i.older h.handled.sent
+          (subst (λ (n : ℕ). IsFlight (setting w) w.fleet.control.phase n f) i.number i) h.stands h.handled.handled)
           (near f among).near (subst (λ (fs : List Flight). IsIn fs g) h.handled.goes_on x)
     ]
 
@@ -112,7 +106,7 @@ arrive-near s pk tag w v h l q here near = subst (λ (x : WorldValue). AreNear s
     f : Flight
     f = first_copy pk tag (length w.arrivals)
 
-    from : (g : Flight) → Comes w.topology (setting w) q.fleet.phase pk tag h.handled.sent → IsIn (all_flights w.topology f h.handled.sent) g → IsNear s g
+    from : (g : Flight) → Comes w.topology (setting w) w.fleet.control.phase pk tag h.handled.sent → IsIn (all_flights w.topology f h.handled.sent) g → IsNear s g
     from g (Lost n names none e) m = absurd (subst (λ (xs : List Sent). IsIn (all_flights w.topology f xs) g) e m)
     from g (Taken u names none a) m = gone-on s w l q u f g h.handled.sent a (omega (arith, here)) m
 
@@ -122,7 +116,7 @@ arrive-near s pk tag w v h l q here near = subst (λ (x : WorldValue). AreNear s
       | inr x ↦
           let line = line-at w q h.place h.end_ h.here in
           from g
-          (comes w.topology (setting w) refl (set w q) q.fleet.phase q.fleet.within h.end_.switch.sw _ h.end_.switch.table.rows line.2.table.changing pk tag h.handled.sent
+          (comes w.topology (setting w) refl (set w q) w.fleet.control.phase q.fleet.within h.end_.switch.sw _ h.end_.switch.table.rows line.2.table.changing pk tag h.handled.sent
           (small tag h.tagged) h.shaped h.edge h.stands h.handled.handled)
           (subst (λ (fs : List Flight). IsIn fs g) h.handled.goes_on x)
     ]

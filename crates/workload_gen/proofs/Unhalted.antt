@@ -173,11 +173,11 @@ hears-on c place f g h i mute = ap (λ (z : Fleet). z.control.halt) h.now ∙ mo
     l : Wire
     l = wire_of f.control h.heard.site there.reply h.old
 
-    line : IsLine c i.phase false l
-    line = subst (λ (b : Bool). IsLine c i.phase b l) (ap (λ (o : Option Cause). is_some o) h.heard.running) (i.lines place h.heard.site there.reply h.old h.heard.here there.reply_at h.here)
+    line : IsLine c f.control.phase false l
+    line = subst (λ (b : Bool). IsLine c f.control.phase b l) (ap (λ (o : Option Cause). is_some o) h.heard.running) (i.lines place h.heard.site there.reply h.old h.heard.here there.reply_at h.here)
 
-    heard : HeardLine c i.phase h.message h.rest l
-    heard = hear-line c i.phase h.message h.rest l h.front line
+    heard : HeardLine c f.control.phase h.message h.rest l
+    heard = hear-line c f.control.phase h.message h.rest l h.front line
 
     quiet : ¬ (IsError h.message)
     quiet = mute place h.old h.here h.message (subst (λ (ms : List Message). IsIn ms h.message) (sym h.front) (inl refl))
@@ -224,7 +224,7 @@ full-of : (v : WorldValue) → IsKept v → (place : ℕ) (e : End) → slice_ge
 unfolding IsKept
 full-of v k place e here m i r =
     let l = line-at v k place e here in
-    full-error (setting v) k.fleet.phase (is_some v.fleet.control.halt) (wire_of v.fleet.control l.0 l.1 e) l.2 m i r
+    full-error (setting v) v.fleet.control.phase (is_some v.fleet.control.halt) (wire_of v.fleet.control l.0 l.1 e) l.2 m i r
 
 -- a switch has taken a message
 takes-mute : (w v : WorldValue) (s : ℕ) (h : InFleet (TakesAt s) w v) → IsFree w → IsKept v → AreMute h.fleet.ends

@@ -1,6 +1,5 @@
 -- Each event keeps what every world keeps.
-use Rattle.std.proofs.Common.{◌≡◌, ◌≢◌, ℕ, zero, suc, ◌-◌, ◌≤◌, inl, inr, List, [], ◌∷◌, ◌++◌, refl, sym, ◌∙◌, ap, subst, Option, None, Some, option_map, slice_get, slice_set, is_some, arith}
-use Rattle.std.specs.List.{remove}
+use Rattle.std.proofs.Common.{◌≡◌, ◌≢◌, ℕ, zero, suc, ◌-◌, ◌≤◌, inl, inr, List, [], ◌∷◌, refl, sym, ◌∙◌, ap, subst, Option, None, Some, option_map, slice_get, is_some, arith}
 use Rattle.nk_values.specs.declared.packet.Packet.{Packet}
 use Rattle.nk_values.specs.declared.rows.Rows.{Rows}
 use Rattle.nk_values.specs.Members.{IsIn}
@@ -10,19 +9,16 @@ use Rattle.packet_tracer.specs.declared.flight.Flight.{Flight}
 use Rattle.barrier_tracker.specs.declared.tracker.Awaited.{Awaited}
 use Rattle.update_coordinator.specs.declared.cause.Cause.{Cause}
 use Rattle.update_coordinator.specs.declared.cause.Cause.TheVariants as cause
-use Rattle.update_coordinator.specs.declared.phase.Entry.{Entry}
 use Rattle.update_coordinator.specs.Controls.{Control, Site, halted}
-use Rattle.update_coordinator.specs.Phases as coordinator
-use Rattle.update_laws.specs.Updates.{IsSetting, Phase, Drain, Clean, entry}
+use Rattle.update_laws.specs.Updates.{IsSetting, Phase, Drain, Clean}
 use Rattle.update_laws.specs.Settings.{stamp_in}
-use Rattle.update_laws.specs.Fleets.{End, Fleet, FleetEvent, Begin, Send, Take, Apply, Answer, Hear, Drained, Lose, Return, Halt, FleetStep, LosesAt, ReturnsAt, SendsAt, TakesAt, AppliesAt, RepliesAt, HearsAt, Begins, Drains, phase_from, wire_of}
+use Rattle.update_laws.specs.Fleets.{End, Fleet, FleetEvent, Begin, Send, Take, Apply, Answer, Hear, Drained, Lose, Return, Halt, FleetStep, LosesAt, ReturnsAt, SendsAt, TakesAt, AppliesAt, RepliesAt, HearsAt, Begins, Drains, wire_of}
 use Rattle.update_laws.specs.Stages.{IsLine}
-use Rattle.update_laws.specs.Traffic.{IsTraffic, AreApart}
-use Rattle.update_laws.proofs.Entering.{entry-of}
+use Rattle.update_laws.specs.Traffic.{IsTraffic}
 use Rattle.update_laws.proofs.Fleets.{end-here}
 use Rattle.update_laws.proofs.Landing.{acknowledged-traffic, begun-traffic, drained-traffic, drained-first}
 use Rattle.update_laws.proofs.Made.{made}
-use Rattle.update_laws.proofs.Moving.{fleet-phase, heard-phase, begins-at, drains-at, step-versions}
+use Rattle.update_laws.proofs.Moving.{heard-phase, begins-at, drains-at, step-versions}
 use Rattle.update_laws.proofs.Numbers.{step-numbers}
 use Rattle.update_laws.proofs.Parting.{hop-apart, arrive-apart}
 use Rattle.update_laws.proofs.Places.{get-map}
@@ -41,7 +37,7 @@ abbrev In_phase : WorldValue → Phase → Type 0
 In_phase w ph = IsTraffic w.topology (setting w) ph w.flights w.arrivals
 
 -- an event of the coordinator and the switches alone
-fleet-keeps : (w : WorldValue) (e : FleetEvent) (g : Fleet) → IsKept w → FleetStep w.fleet e g → (Keeps w → In_phase w (phase_from g.control.phase)) → IsKept (record w { fleet = g })
+fleet-keeps : (w : WorldValue) (e : FleetEvent) (g : Fleet) → IsKept w → FleetStep w.fleet e g → (Keeps w → In_phase w g.control.phase) → IsKept (record w { fleet = g })
 unfolding IsKept
 fleet-keeps w e g k s traffic = record {
   topology = k.topology;
@@ -56,8 +52,8 @@ fleet-keeps w e g k s traffic = record {
 }
 
 -- the phase stays
-same-phase : (w : WorldValue) (g : Fleet) → g.control.phase ≡ w.fleet.control.phase → Keeps w → In_phase w (phase_from g.control.phase)
-same-phase w g e k = subst (λ (ph : Phase). In_phase w ph) (sym (ap phase_from e)) k.traffic
+same-phase : (w : WorldValue) (g : Fleet) → g.control.phase ≡ w.fleet.control.phase → Keeps w → In_phase w g.control.phase
+same-phase w g e k = subst (λ (ph : Phase). In_phase w ph) (sym e) k.traffic
 
 pub set : (w : WorldValue) → Keeps w → IsSetting (setting w)
 set w k = made w.topology w.versions w.limit w.capacity k.topology k.versions
@@ -65,16 +61,16 @@ set w k = made w.topology w.versions w.limit w.capacity k.topology k.versions
 sent-phase : (s : ℕ) (f g : Fleet) → SendsAt s f g → g.control.phase ≡ f.control.phase
 sent-phase s f g h = ap (λ (x : Fleet). x.control.phase) h.now ∙ ap (λ (x : Control). x.phase) h.sent.now
 
-heard-traffic : (s : ℕ) (w : WorldValue) (g : Fleet) → HearsAt s w.fleet g → Keeps w → In_phase w (phase_from g.control.phase)
+heard-traffic : (s : ℕ) (w : WorldValue) (g : Fleet) → HearsAt s w.fleet g → Keeps w → In_phase w g.control.phase
 heard-traffic s w g h k = elim (heard-phase (setting w) (set w k) s w.fleet g h k.fleet) [
   | inl e ↦ subst (λ (ph : Phase). In_phase w ph) (sym e) k.traffic
-  | inr e ↦ subst (λ (ph : Phase). In_phase w ph) (sym e) (acknowledged-traffic w.topology (setting w) (phase_from w.fleet.control.phase) w.flights w.arrivals k.traffic)
+  | inr e ↦ subst (λ (ph : Phase). In_phase w ph) (sym e) (acknowledged-traffic w.topology (setting w) w.fleet.control.phase w.flights w.arrivals k.traffic)
 ]
 
-begun-keeps : (w : WorldValue) (g : Fleet) → Begins w.fleet g → Keeps w → In_phase w (phase_from g.control.phase)
+begun-keeps : (w : WorldValue) (g : Fleet) → Begins w.fleet g → Keeps w → In_phase w g.control.phase
 begun-keeps w g h k =
     let b = begins-at w.fleet.control h.asked in
-    subst (λ (ph : Phase). In_phase w ph) (sym (ap (λ (x : Fleet). phase_from x.control.phase) h.now ∙ b.next))
+    subst (λ (ph : Phase). In_phase w ph) (sym (ap (λ (x : Fleet). x.control.phase) h.now ∙ b.next))
     (begun-traffic w.topology (setting w) b.policy w.flights w.arrivals (subst (λ (ph : Phase). In_phase w ph) b.here k.traffic))
 
 -- the stamp of the policy behind k others
@@ -91,36 +87,30 @@ stamp-of w q k stamp e =
     get-mapped-some f None n h = absurd (cc)
     get-mapped-some f (Some r) n h = (r, refl, some-is (f r) n h)
 
-drained-keeps : (stamp : ℕ) (w : WorldValue) (g : Fleet) → Drains stamp w.fleet g → ((f : Flight) → IsIn w.flights f → f.tag ≢ Some stamp) → Keeps w → In_phase w (phase_from g.control.phase)
+drained-keeps : (stamp : ℕ) (w : WorldValue) (g : Fleet) → Drains stamp w.fleet g → ((f : Flight) → IsIn w.flights f → f.tag ≢ Some stamp) → Keeps w → In_phase w g.control.phase
 drained-keeps stamp w g h none k =
     let d = drains-at w.fleet.control stamp h.asked in
-    subst (λ (ph : Phase). In_phase w ph) (sym (ap (λ (x : Fleet). phase_from x.control.phase) h.now ∙ d.next))
-    (by_policy d.policy d.stamp_at (subst (λ (ph : Phase). In_phase w ph) d.here k.traffic))
+    subst (λ (ph : Phase). In_phase w ph) (sym (ap (λ (x : Fleet). x.control.phase) h.now ∙ d.next))
+    (by_policy d.policy d.stamp_at (subst (λ (ph : Phase). In_phase w ph) d.phase k.traffic))
   where
-    by_policy : (i : ℕ) → Has_stamp w (i - 2) stamp → In_phase w (Drain (i - 1)) → In_phase w (Clean (i - 1))
-    by_policy zero e t = drained-first w.topology (setting w) w.flights w.arrivals t
-    by_policy (suc zero) e t = drained-first w.topology (setting w) w.flights w.arrivals t
+    by_policy : (i : ℕ) → Has_stamp w (i - 2) stamp → In_phase w (Drain i) → In_phase w (Clean i)
+    by_policy zero e t = drained-first w.topology (setting w) 0 (omega arith) w.flights w.arrivals t
+    by_policy (suc zero) e t = drained-first w.topology (setting w) 1 (omega arith) w.flights w.arrivals t
     by_policy (suc (suc m)) e t =
         let one : suc (suc m) - 1 ≡ suc m = omega arith in
         let two : suc (suc m) - 2 ≡ m = omega arith in
-        subst (λ (n : ℕ). In_phase w (Clean n)) (sym one)
-        (drained-traffic w.topology (setting w) (suc m) w.flights w.arrivals
-        (λ f x d. none f x (d ∙ ap (λ (n : ℕ). Some n) (stamp-of w k m stamp (subst (λ (n : ℕ). Has_stamp w n stamp) two e))))
-        (subst (λ (n : ℕ). In_phase w (Drain n)) one t))
+        drained-traffic w.topology (setting w) (suc (suc m)) w.flights w.arrivals
+        (λ f x d. none f x (d ∙ ap (λ (n : ℕ). Some ((setting w).stamp n)) one ∙ ap (λ (n : ℕ). Some n) (stamp-of w k m stamp (subst (λ (n : ℕ). Has_stamp w n stamp) two e)))) t
 
 -- a halt keeps the phase
 halt-keeps : (why : Cause) (w : WorldValue) → IsKept w → IsKept (standing_still why w)
 halt-keeps why w k = fleet-keeps w Halt (record w.fleet { control = halted why w.fleet.control }) k (record { cause = why; now = refl }) (same-phase w (record w.fleet { control = halted why w.fleet.control }) refl)
 
 -- the line of a switch
-pub line-at : (w : WorldValue) (k : Keeps w) (place : ℕ) (e : End) → slice_get w.fleet.ends place ≡ Some e → (s : Site) × (r : Awaited) × IsLine (setting w) k.fleet.phase (is_some w.fleet.control.halt) (wire_of w.fleet.control s r e)
+pub line-at : (w : WorldValue) (k : Keeps w) (place : ℕ) (e : End) → slice_get w.fleet.ends place ≡ Some e → (s : Site) × (r : Awaited) × IsLine (setting w) w.fleet.control.phase (is_some w.fleet.control.halt) (wire_of w.fleet.control s r e)
 line-at w k place e here =
     let h = end-here (setting w) w.fleet k.fleet place e here in
     (h.site, h.reply, k.fleet.lines place h.site h.reply e h.site_at h.reply_at here)
-
--- the traffic in the phase that the fleet is in
-in-its-phase : (w : WorldValue) (k : Keeps w) → In_phase w k.fleet.phase
-in-its-phase w k = subst (λ (ph : Phase). In_phase w ph) (fleet-phase (setting w) w.fleet k.fleet) k.traffic
 
 small : (tag : Option ℕ) → IsTag tag → (n : ℕ) → tag ≡ Some n → n ≤ 4094
 small tag t n e = (subst IsTag e t).1
@@ -135,23 +125,15 @@ arrive-keeps pk tag w v h k = subst (λ (x : WorldValue). IsKept x) (sym h.now) 
   rows = k.rows;
   distinct = k.distinct;
   fleet = k.fleet;
-  traffic = subst (λ (ph : Phase). After ph (coordinator.entry w.fleet.control.phase)) (sym (fleet-phase (setting w) w.fleet k.fleet))
-      (subst (λ (n : Entry). After k.fleet.phase n) (sym (ap coordinator.entry k.fleet.is ∙ entry-of k.fleet.phase)) there);
-  apart = subst (λ (n : Entry). AreApart (w.flights ++ h.next) (w.arrivals ++ record { packet = pk; tag = tag; entry = n; finished = h.finished } ∷ []))
-      (sym (ap coordinator.entry k.fleet.is ∙ entry-of k.fleet.phase))
-      (let l = line-at w k h.place h.end_ h.here in
-      arrive-apart w.topology (setting w) refl (set w k) k.fleet.phase k.fleet.within h.end_.switch.sw _ h.end_.switch.table.rows l.2.table.changing pk tag h.finished h.next w.flights w.arrivals
-      (small tag h.tagged) h.shaped h.edge h.stands h.handled k.traffic.known k.apart);
+  traffic =
+      let l = line-at w k h.place h.end_ h.here in
+      arrive-traffic w.topology (setting w) refl k.topology.sound (set w k) k.limit w.fleet.control.phase k.fleet.within h.end_.switch.sw _ h.end_.switch.table.rows l.2.table.changing pk tag h.finished h.next w.flights w.arrivals
+      (small tag h.tagged) h.shaped h.edge h.stands h.handled k.traffic;
+  apart =
+      let l = line-at w k h.place h.end_ h.here in
+      arrive-apart w.topology (setting w) refl (set w k) w.fleet.control.phase k.fleet.within h.end_.switch.sw _ h.end_.switch.table.rows l.2.table.changing pk tag h.finished h.next w.flights w.arrivals
+      (small tag h.tagged) h.shaped h.edge h.stands h.handled k.traffic.known k.apart;
 })
-  where
-    After : Phase → Entry → Type 0
-    After ph n = IsTraffic w.topology (setting w) ph (w.flights ++ h.next) (w.arrivals ++ record { packet = pk; tag = tag; entry = n; finished = h.finished } ∷ [])
-
-    there : After k.fleet.phase (entry k.fleet.phase)
-    there =
-        let l = line-at w k h.place h.end_ h.here in
-        arrive-traffic w.topology (setting w) refl k.topology.sound (set w k) k.limit k.fleet.phase k.fleet.within h.end_.switch.sw _ h.end_.switch.table.rows l.2.table.changing pk tag h.finished h.next w.flights w.arrivals
-        (small tag h.tagged) h.shaped h.edge h.stands h.handled (in-its-phase w k)
 
 hop-keeps : (k : ℕ) (w v : WorldValue) → Hops k w v → IsKept w → IsKept v
 unfolding IsKept
@@ -165,19 +147,17 @@ hop-keeps n w v h k = subst (λ (x : WorldValue). IsKept x) (sym h.now) (record 
   fleet = k.fleet;
   traffic =
       let l = line-at w k h.place h.end_ h.here in
-      subst (λ (ph : Phase). IsTraffic w.topology (setting w) ph (remove w.flights n ++ h.next) (slice_set w.arrivals h.may.flight.arrival (record h.arrival { finished = h.arrival.finished ++ h.finished })))
-      (sym (fleet-phase (setting w) w.fleet k.fleet))
-      (hop-traffic w.topology (setting w) refl k.topology.sound (set w k) k.fleet.phase k.fleet.within h.end_.switch.sw _ h.end_.switch.table.rows l.2.table.changing n h.may.flight h.arrival h.finished h.next w.flights w.arrivals
-      h.may.there h.may.limit h.stands h.handled h.of (in-its-phase w k));
+      hop-traffic w.topology (setting w) refl k.topology.sound (set w k) w.fleet.control.phase k.fleet.within h.end_.switch.sw _ h.end_.switch.table.rows l.2.table.changing n h.may.flight h.arrival h.finished h.next w.flights w.arrivals
+      h.may.there h.may.limit h.stands h.handled h.of k.traffic;
   apart =
       let l = line-at w k h.place h.end_ h.here in
-      hop-apart w.topology (setting w) refl (set w k) k.fleet.phase k.fleet.within h.end_.switch.sw _ h.end_.switch.table.rows l.2.table.changing n h.may.flight h.arrival h.finished h.next w.flights w.arrivals
-      h.may.there h.stands h.handled h.of (in-its-phase w k) k.apart;
+      hop-apart w.topology (setting w) refl (set w k) w.fleet.control.phase k.fleet.within h.end_.switch.sw _ h.end_.switch.table.rows l.2.table.changing n h.may.flight h.arrival h.finished h.next w.flights w.arrivals
+      h.may.there h.stands h.handled h.of k.traffic k.apart;
 })
 
 -- ---- any event
 
-in-fleet : (Does : Fleet → Fleet → Type 0) (e : FleetEvent) (w v : WorldValue) (h : InFleet Does w v) → IsKept w → FleetStep w.fleet e h.fleet → (Keeps w → In_phase w (phase_from h.fleet.control.phase)) → IsKept v
+in-fleet : (Does : Fleet → Fleet → Type 0) (e : FleetEvent) (w v : WorldValue) (h : InFleet Does w v) → IsKept w → FleetStep w.fleet e h.fleet → (Keeps w → In_phase w h.fleet.control.phase) → IsKept v
 in-fleet Does e w v h k s t = subst (λ (x : WorldValue). IsKept x) (sym h.now) (fleet-keeps w e h.fleet k s t)
 
 -- the session with a switch is lost, for a time or at last

@@ -11,7 +11,7 @@ use Rattle.packet_tracer.specs.declared.flight.Flight.{Flight}
 use Rattle.update_coordinator.specs.Starts as starts
 use Rattle.update_laws.specs.Updates.{Setting}
 use Rattle.update_laws.specs.Settings.{AreVersions, setting_of}
-use Rattle.update_laws.specs.Fleets.{End, Fleet, IsFleet, phase_from}
+use Rattle.update_laws.specs.Fleets.{End, Fleet, IsFleet}
 use Rattle.update_laws.specs.Traffic.{Arrived, IsTraffic, AreApart}
 use Rattle.world_core.specs.declared.settings.Settings.{Settings}
 use Rattle.world_core.specs.Ends.{new_end}
@@ -72,7 +72,7 @@ pub record Keeps (w : WorldValue) : Type 0 where
   pub rows : w.fleet.control.versions ≡ rows_of w.versions
   pub distinct : AreDistinct w.fleet.ends
   pub fleet : IsFleet (setting w) w.fleet
-  pub traffic : IsTraffic w.topology (setting w) (phase_from w.fleet.control.phase) w.flights w.arrivals
+  pub traffic : IsTraffic w.topology (setting w) w.fleet.control.phase w.flights w.arrivals
   pub apart : AreApart w.flights w.arrivals
 
 -- shut to all proofs but those of its own laws
