@@ -126,9 +126,10 @@ stuck-halts k w v why s =
 
 strange-halts : (place : ℕ) (side : Side) (got : List ℕ) (w v : WorldValue) (why : Cause) → Receives place side got w v → (halt_of v ≡ Some why) ↔ IsStrange place side got w why
 strange-halts place side got w v why s =
-    let after : halt_of v ≡ Some (foreign_cause side got s.end_) = ap halt_of s.now in (
-      (λ h. record { session = s.session; end_ = s.end_; here = s.here; other = s.other; is = some-is why (foreign_cause side got s.end_) (sym h ∙ after) }),
-      (λ x. after ∙ ap (λ (e : End). Some (foreign_cause side got e)) (some-is s.end_ x.end_ (sym s.here ∙ x.here)) ∙ ap (λ (y : Cause). Some y) (sym x.is)),
+    let stands = s.may.1 in
+    let after : halt_of v ≡ Some (foreign_cause side got stands.end_) = ap halt_of s.now in (
+      (λ h. record { session = s.may.0; end_ = stands.end_; here = stands.here; other = stands.is; is = some-is why (foreign_cause side got stands.end_) (sym h ∙ after) }),
+      (λ x. after ∙ ap (λ (e : End). Some (foreign_cause side got e)) (some-is stands.end_ x.end_ (sym stands.here ∙ x.here)) ∙ ap (λ (y : Cause). Some y) (sym x.is)),
     )
 
 -- ---- any event

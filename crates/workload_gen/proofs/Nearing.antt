@@ -7,9 +7,7 @@ use Rattle.nk_values.specs.Members.{IsIn}
 use Rattle.nk_values.specs.Tags.{IsTag}
 use Rattle.nk_values.specs.Trails.{Trail}
 use Rattle.nk_values.proofs.MemberLaws.{in-either}
-use Rattle.nk_syntax.specs.Terms.{Term}
 use Rattle.nk_syntax.specs.Views.{term_of}
-use Rattle.history_meaning.specs.Plain.{HasResult}
 use Rattle.topology_model.specs.Layouts.{Layout}
 use Rattle.topology_model.specs.Lines.{layout_of}
 use Rattle.policy_rows.specs.declared.version.Version.{Version}
@@ -25,9 +23,10 @@ use Rattle.update_laws.proofs.Wiring.{at-in, removed-in}
 use Rattle.world_core.specs.Steps.{Arrives, Hops, first_copy}
 use Rattle.world_core.specs.Worlds.{WorldValue, setting, Keeps, IsKept}
 use Rattle.world_core.proofs.Kept.{set, line-at}
+use Rattle.workload_laws.proofs.Sent.{IsSentOn, sent-on}
 use Rattle.workload_laws.specs.Workload.{exit, workload}
 use Rattle.workload_gen.specs.Documents.{topology_lines}
-use Rattle.workload_gen.proofs.Results.{IsSentOn, sent-on, line-links, distance, nearer}
+use Rattle.workload_gen.proofs.Results.{line-links, distance, nearer}
 
 -- a copy on a line of s switches, so near to its destination that it has hops left
 pub record IsNear (s : ℕ) (f : Flight) : Type 0 where
@@ -55,7 +54,7 @@ gone-on s w l k u f g sent a near m =
     let plain = ((set w k).versions u a.there).plain in
     let r = flights-next w.topology (c.policy (suc u)) (c.stamp (suc u)) a.rows f k.topology.sound plain.bare a.answers g (subst (λ (xs : List Sent). IsIn (all_flights w.topology f xs) g) a.sends m) in
     let q : Packet = sent_packet f.history.newest.sw r.0 in
-    let o : IsSentOn s f.history.newest q = sent-on s p.0 f.history.newest q (subst (λ (t : Term). HasResult t f.history.newest q) p.1 (a.answers.results r.0 r.1)) in
+    let o : IsSentOn s f.history.newest q = sent-on s p.0 _ f.history.newest q p.1 (a.answers.results r.0 r.1) in
     let link : IsIn (layout_of (topology_lines s)).links (standing q, r.2.end) = subst (λ (t : Layout). IsIn t.links (standing q, r.2.end)) l.topology r.2.link in
     let d = f.history.newest.header.eth_dst in
     let port : (standing q).pt ≡ exit (standing q).sw d = ap (λ (x : Packet). x.pt) o.is in
@@ -117,6 +116,6 @@ arrive-near s pk tag w v h l q here near = subst (λ (x : WorldValue). AreNear s
           let line = line-at w q h.place h.end_ h.here in
           from g
           (comes w.topology (setting w) refl (set w q) w.fleet.control.phase q.fleet.within h.end_.switch.sw _ h.end_.switch.table.rows line.2.table.changing pk tag h.handled.sent
-          (small tag h.tagged) h.shaped h.edge h.stands h.handled.handled)
+          (small tag h.may.1) h.may.0 h.may.2 h.stands h.handled.handled)
           (subst (λ (fs : List Flight). IsIn fs g) h.handled.goes_on x)
     ]

@@ -6,7 +6,7 @@ use Rattle.nk_values.specs.Members.{IsIn}
 use Rattle.nk_values.specs.Tags.{IsTag}
 use Rattle.policy_rows.specs.declared.version.Version.{Version}
 use Rattle.packet_tracer.specs.declared.flight.Flight.{Flight}
-use Rattle.barrier_tracker.specs.declared.tracker.Awaited.{Awaited}
+use Rattle.update_coordinator.specs.Awaited.{Awaited}
 use Rattle.update_coordinator.specs.declared.cause.Cause.{Cause}
 use Rattle.update_coordinator.specs.declared.cause.Cause.TheVariants as cause
 use Rattle.update_coordinator.specs.Controls.{Control, Site, halted}
@@ -128,11 +128,11 @@ arrive-keeps pk tag w v h k = subst (λ (x : WorldValue). IsKept x) (sym h.now) 
   traffic =
       let l = line-at w k h.place h.end_ h.here in
       arrive-traffic w.topology (setting w) refl k.topology.sound (set w k) k.limit w.fleet.control.phase k.fleet.within h.end_.switch.sw _ h.end_.switch.table.rows l.2.table.changing pk tag h.finished h.next w.flights w.arrivals
-      (small tag h.tagged) h.shaped h.edge h.stands h.handled k.traffic;
+      (small tag h.may.1) h.may.0 h.may.2 h.stands h.handled k.traffic;
   apart =
       let l = line-at w k h.place h.end_ h.here in
       arrive-apart w.topology (setting w) refl (set w k) w.fleet.control.phase k.fleet.within h.end_.switch.sw _ h.end_.switch.table.rows l.2.table.changing pk tag h.finished h.next w.flights w.arrivals
-      (small tag h.tagged) h.shaped h.edge h.stands h.handled k.traffic.known k.apart;
+      (small tag h.may.1) h.may.0 h.may.2 h.stands h.handled k.traffic.known k.apart;
 })
 
 hop-keeps : (k : ℕ) (w v : WorldValue) → Hops k w v → IsKept w → IsKept v
@@ -181,7 +181,7 @@ step-keeps w (event.Drained stamp) v h k = in-fleet (Drains stamp) (Drained stam
 step-keeps w (event.Lost s) v h k = lost-keeps s w v h k
 step-keeps w (event.Rejoin s) v h k = in-fleet (ReturnsAt s 0) (Return s 0) w v h k h.step (same-phase w h.fleet (ap (λ (x : Fleet). x.control.phase) h.step.now ∙ ap (λ (x : Control). x.phase) h.step.back.now))
 step-keeps w (event.Stuck n) v h k = subst (λ (x : WorldValue). IsKept x) (sym h.now) (halt-keeps (cause.Undrained h.stuck.flight.history) w k)
-step-keeps w (event.Foreign s side got) v h k = subst (λ (x : WorldValue). IsKept x) (sym h.now) (halt-keeps (foreign_cause side got h.end_) w k)
+step-keeps w (event.Foreign s side got) v h k = subst (λ (x : WorldValue). IsKept x) (sym h.now) (halt-keeps (foreign_cause side got h.may.1.end_) w k)
 
 pub run-keeps : (w : WorldValue) (es : List Event) (v : WorldValue) → Runs w es v → IsKept w → IsKept v
 run-keeps w [] v r k = subst (λ (x : WorldValue). IsKept x) r k
