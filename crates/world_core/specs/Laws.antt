@@ -3,14 +3,19 @@ use Rattle.std.specs.Prelude.{◌≡◌, ◌≢◌, ◌⊎◌, ◌≤◌, ℕ, s
 use Rattle.nk_values.specs.declared.rows.Rows.{Rows}
 use Rattle.nk_values.specs.Members.{IsIn}
 use Rattle.nk_values.specs.Patterns.{Incoming}
+use Rattle.topology_model.specs.Layouts.{Layout}
+use Rattle.topology_model.specs.Wired.{IsTopology}
+use Rattle.policy_rows.specs.declared.version.Version.{Version}
 use Rattle.packet_tracer.specs.declared.flight.Flight.{Flight}
 use Rattle.packet_tracer.specs.Hops.{NoTie}
 use Rattle.update_coordinator.specs.declared.phase.Phase.TheVariants as phase
 use Rattle.update_laws.specs.Fleets.{End, AppliesAt, IsFleet}
+use Rattle.update_laws.specs.Settings.{AreVersions}
 use Rattle.update_laws.specs.Traffic.{Arrived, IsGood, IsLanded}
+use Rattle.world_core.specs.declared.settings.Settings.{Settings}
 use Rattle.world_core.specs.declared.event.Event.{Event}
 use Rattle.world_core.specs.declared.event.Event.TheVariants as event
-use Rattle.world_core.specs.Worlds.{WorldValue, setting, IsKept}
+use Rattle.world_core.specs.Worlds.{WorldValue, setting, start, IsKept}
 use Rattle.world_core.specs.Settling.{Follows}
 use Rattle.world_core.specs.Steps.{InFleet, IsEnabled, Step, Runs}
 
@@ -21,6 +26,10 @@ AreGood w = (n : ℕ) (a : Arrived) → slice_get w.arrivals n ≡ Some a → Is
 -- it is so after every list of events
 abbrev pub EveryRunIsGood : WorldValue → Type 0
 EveryRunIsGood w = (events : List Event) (v : WorldValue) → Runs w events v → AreGood v
+
+-- A world that starts with rows for its policies keeps what every world keeps.
+abbrev pub StartIsKept : Type 0
+StartIsKept = (t : Layout) (versions : List Version) (settings : Settings) → IsTopology t → AreVersions t versions → 1 ≤ settings.hops → IsKept (start t versions settings)
 
 -- Once no copy of it is in flight, its finished histories are, each exactly once, its complete ones under that policy.
 abbrev pub PacketsLand : Type 0
