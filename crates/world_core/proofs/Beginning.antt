@@ -5,7 +5,7 @@ use Rattle.std.proofs.lemmas.List.{length-map}
 use Rattle.nk_syntax.specs.declared.pol.Pol.{Pol}
 use Rattle.nk_values.specs.declared.rows.Rows.{Rows}
 use Rattle.nk_values.specs.Members.{IsIn}
-use Rattle.history_meaning.specs.Network.{Place}
+use Rattle.topology_model.specs.Network.{Place}
 use Rattle.topology_model.specs.Layouts.{Layout, edges_of}
 use Rattle.topology_model.specs.Wired.{IsTopology}
 use Rattle.topology_model.proofs.Ranges.{edge_declared}

@@ -1,10 +1,10 @@
 -- Where no session was lost, no switch is away.
 use Rattle.std.proofs.Common.{◌≡◌, inl, inr, ℕ, Bool, true, false, List, length, refl, sym, ◌∙◌, ap, subst, Some, slice_get, slice_set}
 use native.Mathlib.Decide.{ℕ_discrete}
-use Rattle.session_core.specs.Sessions.{moved}
-use Rattle.session_core.specs.declared.session.Move.{Move}
-use Rattle.session_core.specs.declared.session.Move.TheVariants as moves
-use Rattle.barrier_tracker.specs.Replies.{OthersHeard, heard_at}
+use Rattle.update_coordinator.specs.Sessions.{moved}
+use Rattle.update_coordinator.specs.Move.{Move}
+use Rattle.update_coordinator.specs.Move.TheVariants as moves
+use Rattle.update_coordinator.specs.Replies.{OthersHeard, heard_at}
 use Rattle.update_coordinator.specs.declared.phase.Phase.{Phase}
 use Rattle.update_coordinator.specs.Controls.{Control, Site, Order, Greet, Ask, Change, Fence, begun_site, in_phase, returned}
 use Rattle.update_coordinator.specs.Batches.{rounds_of}
