@@ -130,8 +130,9 @@ one-stop sites packets w ls line other k s t = by (parts s.before s.here s.behin
 -- ---- the laws
 
 pub one-simulation : OneReport
-one-simulation d versions halts stands text other k p q =
+one-simulation d versions halts stands text other p q =
     let first = start_of d versions in
+    let k = p.outcome.kept in
     let same = carried-same d.layout.switches d.packets first first d.schedule p.events p.world q.events q.world k (itself first k) p.outcome.done q.outcome.done in
     let control : p.world.fleet.control ≡ q.world.fleet.control = same.worlds.fleet.control in
     let now = subst (λ (z : WorldValue). IsWorldReport z q.events other) same.worlds.now q.text_is in
@@ -142,7 +143,7 @@ one-simulation d versions halts stands text other k p q =
     )
 
 pub one-line : OneStop
-one-line d versions line other k s t = one-stop d.layout.switches d.packets (start_of d versions) d.schedule line other k s t
+one-line d versions line other s t = one-stop d.layout.switches d.packets (start_of d versions) d.schedule line other s.kept s.stops t.stops
 
 pub not-both : NotBoth
-not-both d versions halts text line k p s = no-stop d.layout.switches d.packets (start_of d versions) d.schedule p.events p.world line k p.outcome.done s
+not-both d versions halts text line p s = no-stop d.layout.switches d.packets (start_of d versions) d.schedule p.events p.world line s.kept p.outcome.done s.stops

@@ -9,7 +9,7 @@ use Rattle.policy_rows.specs.declared.version.Version.{Version}
 use Rattle.value_text.specs.declared.fault.Fault.{Fault}
 use Rattle.world_core.specs.declared.event.Event.{Event}
 use Rattle.world_core.specs.Laws.{EveryRunIsGood}
-use Rattle.world_core.specs.Worlds.{WorldValue, start}
+use Rattle.world_core.specs.Worlds.{WorldValue, IsKept, start}
 use Rattle.program_answer.specs.declared.answer.Answer.{Answer}
 use Rattle.program_answer.specs.declared.answer.AnswerError.{AnswerError}
 use Rattle.program_answer.specs.declared.answer.AnswerError.TheVariants as error
@@ -26,6 +26,7 @@ use Rattle.plain_commands.proofs.Scheduling.{carried-runs}
 -- the world that the call made is the document's
 pub record Starts (d : Document) (versions : List Version) (w : WorldValue) (packets : List PacketLine) (schedule : List ScheduleLine) : Type 0 where
   pub world : w ≡ start_of (doc_of d) versions
+  pub kept : IsKept w
   pub runs : EveryRunIsGood w
   pub packets_are : packets ≡ d.packets.items
   pub schedule_is : schedule ≡ d.schedule.items
@@ -35,20 +36,22 @@ came d versions w packets schedule events world s r =
     let there = subst (λ (ls : List ScheduleLine). CarriedOut w.topology.switches d.packets.items w ls events world) s.schedule_is (subst (λ (ps : List PacketLine). CarriedOut w.topology.switches ps w schedule events world) s.packets_are r) in
     let done = subst (λ (x : WorldValue). CarriedOut x.topology.switches d.packets.items x d.schedule.items events world) s.world there in
     record {
+      kept = subst IsKept s.world s.kept;
       done = done;
       runs = carried-runs d.topology.switches d.packets.items (start_of (doc_of d) versions) d.schedule.items events world done;
       good = s.runs events world (carried-runs w.topology.switches packets w schedule events world r);
     }
 
-pub starts : (d : Document) (versions : List Version) (w : WorldValue) (hops capacity rejoins : ℕ) (packets : List PacketLine) (schedule : List ScheduleLine) → w ≡ start d.topology versions (record { hops = hops; capacity = capacity; rejoins = rejoins }) → hops ≡ d.settings.hops → capacity ≡ d.settings.capacity → rejoins ≡ d.settings.rejoins → EveryRunIsGood w →
+pub starts : (d : Document) (versions : List Version) (w : WorldValue) (hops capacity rejoins : ℕ) (packets : List PacketLine) (schedule : List ScheduleLine) → w ≡ start d.topology versions (record { hops = hops; capacity = capacity; rejoins = rejoins }) → hops ≡ d.settings.hops → capacity ≡ d.settings.capacity → rejoins ≡ d.settings.rejoins → IsKept w → EveryRunIsGood w →
     packets ≡ d.packets.items → schedule ≡ d.schedule.items → Starts d versions w packets schedule
-starts d versions w hops capacity rejoins packets schedule a b c e r p l = record { world = a ∙ (λ i. start d.topology versions (record { hops = b i; capacity = c i; rejoins = e i })); runs = r; packets_are = p; schedule_is = l }
+starts d versions w hops capacity rejoins packets schedule a b c e k r p l = record { world = a ∙ (λ i. start d.topology versions (record { hops = b i; capacity = c i; rejoins = e i })); runs = r; packets_are = p; schedule_is = l }
 
 pub stopped : (d : Document) (versions : List Version) (w : WorldValue) (packets : List PacketLine) (schedule : List ScheduleLine) (x : AnswerError) → Starts d versions w packets schedule → TellsStop w.topology.switches packets w schedule x → TellsStopIn d versions x
 stopped d versions w packets schedule error.Memory s h = tt
 stopped d versions w packets schedule (error.Fault f) s h =
-    subst (λ (y : WorldValue). TellsStop y.topology.switches d.packets.items y d.schedule.items (error.Fault f)) s.world
-    (subst (λ (ls : List ScheduleLine). TellsStop w.topology.switches d.packets.items w ls (error.Fault f)) s.schedule_is (subst (λ (ps : List PacketLine). TellsStop w.topology.switches ps w schedule (error.Fault f)) s.packets_are h))
+    let there = subst (λ (y : WorldValue). TellsStop y.topology.switches d.packets.items y d.schedule.items (error.Fault f)) s.world
+    (subst (λ (ls : List ScheduleLine). TellsStop w.topology.switches d.packets.items w ls (error.Fault f)) s.schedule_is (subst (λ (ps : List PacketLine). TellsStop w.topology.switches ps w schedule (error.Fault f)) s.packets_are h)) in
+    (there.0, there.1, record { kept = subst IsKept s.world s.kept; stops = there.2 })
 
 -- ---- of a source
 

@@ -17,8 +17,9 @@ use Rattle.program_answer.specs.Statuses.{report_status}
 use Rattle.program_answer.specs.Worlds.{start_of}
 use Rattle.plain_commands.specs.Schedules.{CarriedOut, StopsAt}
 
--- The whole schedule is carried out with these events and comes to this world, in which each packet that came in is handled by one policy.
+-- The whole schedule is carried out with these events and comes to this world, in which each packet that came in is handled by one policy. It begins in a world that keeps what all do.
 pub record IsOutcomeOf (d : Doc) (versions : List Version) (events : List Event) (world : WorldValue) : Type 0 where
+  pub kept : IsKept (start_of d versions)
   pub done : CarriedOut d.layout.switches d.packets (start_of d versions) d.schedule events world
   pub runs : Runs (start_of d versions) events world
   pub good : AreGood world
@@ -31,9 +32,10 @@ pub record IsSimulationOf (halts : Bool) (d : Doc) (versions : List Version) (te
   pub ends : is_some world.fleet.control.halt ≡ halts
   pub text_is : IsWorldReport world events text
 
--- the first line of the schedule whose event cannot happen
-abbrev pub StopsIn : Doc → List Version → ℕ → Type 0
-StopsIn d versions line = StopsAt d.layout.switches d.packets (start_of d versions) d.schedule line
+-- the first line of the schedule whose event cannot happen, in a world that keeps what all do
+pub record StopsIn (d : Doc) (versions : List Version) (line : ℕ) : Type 0 where
+  pub kept : IsKept (start_of d versions)
+  pub stops : StopsAt d.layout.switches d.packets (start_of d versions) d.schedule line
 
 -- ---- of a source
 
@@ -67,12 +69,12 @@ pub record IsSimulateAnswer (source : SourceSeen) (status : Status) (text : List
 
 -- It has one report, and one way to end.
 abbrev pub OneReport : Type 0
-OneReport = (d : Doc) (versions : List Version) (halts stands : Bool) (text other : List ℕ) → IsKept (start_of d versions) → IsSimulationOf halts d versions text → IsSimulationOf stands d versions other → (halts ≡ stands) × (text ≡ other)
+OneReport = (d : Doc) (versions : List Version) (halts stands : Bool) (text other : List ℕ) → IsSimulationOf halts d versions text → IsSimulationOf stands d versions other → (halts ≡ stands) × (text ≡ other)
 
 -- It stops at one line.
 abbrev pub OneStop : Type 0
-OneStop = (d : Doc) (versions : List Version) (line other : ℕ) → IsKept (start_of d versions) → StopsIn d versions line → StopsIn d versions other → line ≡ other
+OneStop = (d : Doc) (versions : List Version) (line other : ℕ) → StopsIn d versions line → StopsIn d versions other → line ≡ other
 
 -- And where it stops it has no report.
 abbrev pub NotBoth : Type 0
-NotBoth = (d : Doc) (versions : List Version) (halts : Bool) (text : List ℕ) (line : ℕ) → IsKept (start_of d versions) → IsSimulationOf halts d versions text → StopsIn d versions line → ⊥
+NotBoth = (d : Doc) (versions : List Version) (halts : Bool) (text : List ℕ) (line : ℕ) → IsSimulationOf halts d versions text → StopsIn d versions line → ⊥

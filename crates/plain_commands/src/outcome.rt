@@ -47,6 +47,7 @@ pub fn schedule_outcome(
         rejoins: settings.rejoins as usize,
     };
     let mut world = World::start(alloc, versions, topology, settings)?;
+    world.kept();
     let events = carry_out(alloc, &mut world, &packets, &schedule)?;
     Ok(Outcome { world, events })
 }
