@@ -10,3 +10,5 @@ pub mod Schedules
 pub mod States
 pub mod Steps
 pub mod Texts
+pub use Rattle.nk_syntax.specs.Terms
+pub use Rattle.topology_model.specs.declared.line.Site

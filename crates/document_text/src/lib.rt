@@ -24,3 +24,4 @@ pub use document::{Document, Event, PacketLine, ScheduleLine, Settings};
 pub use fault::{DocFault, DocumentError};
 pub use laws::{one_outcome, says_its_parts, within};
 pub use read::read_document;
+pub use topology_model::{Site, Topology};

@@ -3,7 +3,7 @@ use Rattle.std.proofs.Common.{◌≡◌, ℕ, List, is_some, refl, ◌∙◌}
 use Rattle.document_text.specs.Documents.{Doc}
 use Rattle.policy_rows.specs.declared.version.Version.{Version}
 use Rattle.update_coordinator.specs.Controls.{Control}
-use Rattle.value_text.specs.declared.fault.Fault.TheVariants as fault
+use Rattle.program_answer.specs.Fault.TheVariants as fault
 use Rattle.drive_journal.specs.declared.steering.Steering.{Steering}
 use Rattle.drive_workers.specs.Driven.{IsDriven}
 use Rattle.program_answer.specs.declared.answer.Answer.{Answer}

@@ -2,10 +2,10 @@
 use Rattle.std.specs.Prelude.{◌≡◌, ℕ, Bool, List, is_some}
 use Rattle.document_text.specs.Documents.{Doc}
 use Rattle.policy_rows.specs.declared.version.Version.{Version}
-use Rattle.topology_model.specs.declared.line.Site.{Site}
+use Rattle.document_text.specs.Site.{Site}
 use Rattle.update_coordinator.specs.Controls.{Control}
-use Rattle.value_text.specs.declared.fault.Fault.{Fault}
-use Rattle.value_text.specs.declared.fault.Fault.TheVariants as fault
+use Rattle.program_answer.specs.Fault.{Fault}
+use Rattle.program_answer.specs.Fault.TheVariants as fault
 use Rattle.drive_journal.specs.declared.steering.Steering.{Steering}
 use Rattle.drive_workers.specs.Driven.{IsDriven}
 use Rattle.drive_text.specs.Drives.{drive_text}

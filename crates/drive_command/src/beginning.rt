@@ -4,10 +4,10 @@ ghost use Rattle.update_coordinator.specs.Starts.{start};
 ghost use Rattle.update_laws.specs.Settings.{AreVersions};
 ghost use Rattle.world_core.specs.Worlds.{numbers_of, rows_of};
 
+use document_text::{Site, Topology};
 use nk_values::Rows;
 use policy_rows::Version;
 use std::alloc::{AllocError, Global};
-use topology_model::{Site, Topology};
 use update_coordinator::Coordinator;
 
 /// The coordinator of these policies at the switches of a topology. The first loss halts it.

@@ -10,20 +10,18 @@ ghost use Rattle.program_answer.specs.Versions.{AreVersions};
 ghost use Rattle.drive_command.specs.Drive.{DriveStops, IsDriveAnswer, IsDrivenAs, IsToldAs, TellsDriveCut};
 
 use crate::beginning::begin;
-use document_text::Document;
+use document_text::{Document, Site};
 use drive_journal::{Steering, starts_halt_at_loss};
 use drive_text::drive_text;
 use drive_workers::{DriveFault, drive_over};
 use outside_io::Source;
 use outside_net::{Gate, Net, Reporter, Spawner};
 use policy_rows::Version;
-use program_answer::{Answer, AnswerError, Status, read_input};
+use program_answer::{Answer, AnswerError, Fault, Status, read_input};
 use std::alloc::{AllocError, Global};
 use std::sync::{Arc, Wait};
 use std::time::Clock;
-use topology_model::Site;
 use update_coordinator::Coordinator;
-use value_text::Fault;
 
 /// The report of a drive of the policies of a source's document, with a worker in a thread of its own for each switch.
 /// Once the document is accepted, the reporter of drains listens, a port is opened for each switch, and then threads are

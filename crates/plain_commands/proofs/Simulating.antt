@@ -6,7 +6,7 @@ use Rattle.document_text.specs.declared.document.ScheduleLine.{ScheduleLine}
 use Rattle.document_text.specs.Answers.{doc_of}
 use Rattle.outside_io.specs.Lists.{TakesFirst}
 use Rattle.policy_rows.specs.declared.version.Version.{Version}
-use Rattle.value_text.specs.declared.fault.Fault.{Fault}
+use Rattle.report_text.specs.Fault.{Fault}
 use Rattle.world_core.specs.declared.event.Event.{Event}
 use Rattle.world_core.specs.Laws.{EveryRunIsGood}
 use Rattle.world_core.specs.Worlds.{WorldValue, IsKept, start}

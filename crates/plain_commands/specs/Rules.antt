@@ -2,7 +2,7 @@
 use Rattle.std.specs.Prelude.{◌≡◌, ℕ, List}
 use Rattle.document_text.specs.Documents.{Doc}
 use Rattle.policy_rows.specs.declared.version.Version.{Version}
-use Rattle.value_text.specs.Rules.{rules_text}
+use Rattle.report_text.specs.Rules.{rules_text}
 use Rattle.program_answer.specs.declared.status.Status.{Status}
 use Rattle.program_answer.specs.declared.status.Status.TheVariants.{Done}
 use Rattle.program_answer.specs.Answers.{Reads}

@@ -7,8 +7,8 @@ use Rattle.world_core.specs.Laws.{AreGood}
 use Rattle.world_core.specs.Steps.{Runs}
 use Rattle.world_core.specs.Worlds.{WorldValue, IsKept}
 use Rattle.report_text.specs.Reports.{IsWorldReport}
-use Rattle.value_text.specs.declared.fault.Fault.{Fault}
-use Rattle.value_text.specs.declared.fault.Fault.TheVariants as fault
+use Rattle.report_text.specs.Fault.{Fault}
+use Rattle.report_text.specs.Fault.TheVariants as fault
 use Rattle.program_answer.specs.declared.status.Status.{Status}
 use Rattle.program_answer.specs.Answers.{Reads}
 use Rattle.program_answer.specs.Called.{SourceSeen}

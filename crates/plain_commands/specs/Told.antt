@@ -6,7 +6,7 @@ use Rattle.document_text.specs.declared.document.PacketLine.{PacketLine}
 use Rattle.document_text.specs.declared.document.ScheduleLine.{ScheduleLine}
 use Rattle.document_text.specs.Answers.{doc_of}
 use Rattle.policy_rows.specs.declared.version.Version.{Version}
-use Rattle.value_text.specs.declared.fault.Fault.TheVariants as fault
+use Rattle.report_text.specs.Fault.TheVariants as fault
 use Rattle.world_core.specs.Worlds.{WorldValue}
 use Rattle.program_answer.specs.declared.answer.Answer.{Answer}
 use Rattle.program_answer.specs.declared.answer.AnswerError.{AnswerError}

@@ -1,13 +1,13 @@
 -- What `nkctl trace` answers: the walks of a document's packets under its policies.
 use Rattle.std.specs.Prelude.{◌≡◌, ℕ, List, [], ◌∷◌}
-use Rattle.nk_syntax.specs.Terms.{Term}
+use Rattle.document_text.specs.Terms.{Term}
 use Rattle.topology_model.specs.Layouts.{wiring}
 use Rattle.document_text.specs.declared.document.PacketLine.{PacketLine}
 use Rattle.document_text.specs.Documents.{Doc}
 use Rattle.packet_tracer.specs.declared.flight.Walk.{Walk}
 use Rattle.packet_tracer.specs.Walks.{IsWalk}
 use Rattle.policy_rows.specs.declared.version.Version.{Version}
-use Rattle.value_text.specs.Traces.{IsTraceText}
+use Rattle.report_text.specs.Traces.{IsTraceText}
 use Rattle.program_answer.specs.declared.status.Status.{Status}
 use Rattle.program_answer.specs.declared.status.Status.TheVariants.{Done}
 use Rattle.program_answer.specs.Answers.{Reads}

@@ -8,8 +8,8 @@ ghost use Rattle.plain_commands.specs.Rules.{IsRulesAnswer};
 
 use outside_io::Source;
 use program_answer::{Answer, AnswerError, Input, Status, read_input};
+use report_text::rules_text;
 use std::alloc::Global;
-use value_text::rules_text;
 
 /// The rows of all policies of a source's document.
 pub fn rules_answer<S: Source>(alloc: Global, source: &mut S) -> Result<Answer, AnswerError>

@@ -7,9 +7,9 @@ ghost use Rattle.plain_commands.specs.Told.{TellsStop};
 
 use document_text::{Event as Order, PacketLine, ScheduleLine};
 use program_answer::AnswerError;
+use report_text::Fault;
 use std::alloc::{AllocError, Global};
 use topology_model::Topology;
-use value_text::Fault;
 use world_core::{Event, StepFault, World};
 
 /// Carries out a schedule line by line, and gives the events that were done; or the first line whose event cannot

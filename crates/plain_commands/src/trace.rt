@@ -1,6 +1,6 @@
 //! `nkctl trace`: the complete hop histories that each policy gives each packet (POPL 2014, sections 2 and 3).
 ghost use Rattle.std.specs.Prelude.{◌<◌, IfOk, IfErr, map};
-ghost use Rattle.nk_syntax.specs.Terms.{Term};
+ghost use Rattle.document_text.specs.Terms.{Term};
 ghost use Rattle.document_text.specs.Answers.{doc_of};
 ghost use Rattle.outside_io.specs.Lists.{TakesAtMost};
 ghost use Rattle.policy_rows.specs.Means.{RowsMean};
@@ -17,8 +17,8 @@ use outside_io::Source;
 use packet_tracer::{Walk, walk};
 use policy_rows::Version;
 use program_answer::{Answer, AnswerError, Input, Status, read_input};
+use report_text::trace_text;
 use std::alloc::{AllocError, Global};
-use value_text::trace_text;
 
 /// The walks of all packets of a source's document under each of its policies.
 pub fn trace_answer<S: Source>(alloc: Global, source: &mut S) -> Result<Answer, AnswerError>

@@ -8,7 +8,7 @@ use Rattle.nk_syntax.specs.Views.{term_of}
 use Rattle.topology_model.specs.Layouts.{Layout}
 use Rattle.document_text.specs.declared.document.Settings.{Settings}
 use Rattle.policy_rows.specs.declared.version.Version.{Version}
-use Rattle.value_text.specs.declared.fault.Fault.{Fault}
+use Rattle.report_text.specs.Fault.{Fault}
 use Rattle.program_answer.specs.declared.answer.AnswerError.{AnswerError}
 use Rattle.program_answer.specs.declared.answer.AnswerError.TheVariants as error
 use Rattle.program_answer.specs.Versions.{IsVersion, AreVersions, IsPolicyFault, IsFirstPolicyFault}

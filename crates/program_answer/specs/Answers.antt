@@ -2,8 +2,8 @@
 use Rattle.std.specs.Prelude.{ℕ, List, IfSome}
 use Rattle.std.specs.Io.KnownBytes.{IsAtEnd}
 use Rattle.outside_io.specs.Lists.{TakesFirst}
-use Rattle.value_text.specs.declared.fault.Fault.{Fault}
-use Rattle.value_text.specs.declared.fault.Fault.TheVariants as fault
+use Rattle.report_text.specs.Fault.{Fault}
+use Rattle.report_text.specs.Fault.TheVariants as fault
 use Rattle.program_answer.specs.declared.answer.AnswerError.{AnswerError}
 use Rattle.program_answer.specs.declared.answer.AnswerError.TheVariants as error
 use Rattle.program_answer.specs.Called.{SourceSeen, HasRisen, IsSame}

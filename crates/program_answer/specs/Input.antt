@@ -12,8 +12,8 @@ use Rattle.document_text.specs.Documents.{Doc}
 use Rattle.document_text.specs.Feeding.{StandsFor}
 use Rattle.document_text.specs.Grammar.{IsDocument, HasDocFault}
 use Rattle.policy_rows.specs.declared.version.Version.{Version}
-use Rattle.value_text.specs.declared.fault.Fault.{Fault}
-use Rattle.value_text.specs.declared.fault.Fault.TheVariants.{Line}
+use Rattle.report_text.specs.Fault.{Fault}
+use Rattle.report_text.specs.Fault.TheVariants.{Line}
 use Rattle.program_answer.specs.declared.answer.AnswerError.{AnswerError}
 use Rattle.program_answer.specs.declared.answer.AnswerError.TheVariants as error
 use Rattle.program_answer.specs.Lines.{Counts, line_after}

@@ -7,3 +7,4 @@ pub mod Statuses
 pub mod Versions
 pub mod Worlds
 pub mod Writing
+pub use Rattle.report_text.specs.Fault

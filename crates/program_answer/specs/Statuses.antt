@@ -2,8 +2,8 @@
 use Rattle.std.specs.Prelude.{ℕ, Bool, true, false}
 use Rattle.program_answer.specs.declared.status.Status.{Status}
 use Rattle.program_answer.specs.declared.status.Status.TheVariants.{Done, Refused, Usage, Halted, ReadFault, WriteFault, NetFault, NoThread, Memory, ReportFault}
-use Rattle.value_text.specs.declared.fault.Fault.{Fault}
-use Rattle.value_text.specs.declared.fault.Fault.TheVariants as fault
+use Rattle.report_text.specs.Fault.{Fault}
+use Rattle.report_text.specs.Fault.TheVariants as fault
 
 abbrev pub number_of : Status → ℕ
 number_of Done = 0

@@ -5,15 +5,15 @@ use Rattle.nk_syntax.specs.Terms.{Term}
 use Rattle.nk_syntax.specs.Views.{term_of}
 use Rattle.topology_model.specs.Layouts.{Layout}
 use Rattle.document_text.specs.declared.document.Settings.{Settings}
-use Rattle.fdd_nodes.specs.Trees.{Tree}
+use Rattle.fdd_compile.specs.Trees.{Tree}
 use Rattle.fdd_compile.specs.Compiles.{CompiledOf, IsFaultOf}
 use Rattle.policy_rows.specs.declared.version.Version.{Version}
 use Rattle.policy_rows.specs.Limits.{AreWithinLimits, AreWritable}
 use Rattle.policy_rows.specs.Means.{RowsMean}
 use Rattle.policy_rows.specs.Numbers.{stamp_at, band_at}
 use Rattle.table_emitter.specs.Emission.{IsEmitted, IsEmitFault}
-use Rattle.value_text.specs.declared.fault.Fault.{Fault}
-use Rattle.value_text.specs.declared.fault.Fault.TheVariants as fault
+use Rattle.report_text.specs.Fault.{Fault}
+use Rattle.report_text.specs.Fault.TheVariants as fault
 
 -- the stamp of the policy behind k others
 abbrev pub stamp_in : Settings → ℕ → ℕ

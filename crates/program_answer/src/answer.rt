@@ -1,7 +1,7 @@
 //! What a command comes to, before anything is written.
 use crate::status::Status;
+use report_text::{Fault, Text};
 use std::alloc::{AllocError, AllocFailed};
-use value_text::{Fault, Text};
 
 /// A report, and how the call ends once it is written: `Done` or `Halted`.
 #[derive(Debug, Drop)]

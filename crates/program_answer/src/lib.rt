@@ -15,5 +15,6 @@ pub use answer::{Answer, AnswerError};
 pub use input::{Input, read_input};
 pub use reading::{ReadDocument, read_source};
 pub use report::world_answer;
+pub use report_text::Fault;
 pub use status::Status;
 pub use writing::say;

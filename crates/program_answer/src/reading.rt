@@ -14,8 +14,8 @@ use crate::lines::LineCount;
 use document_text::{DocFault, DocReader, Document, DocumentError};
 use nk_values::MOST_DOCUMENT_BYTES;
 use outside_io::{Failed, Source};
+use report_text::Fault;
 use std::alloc::Global;
-use value_text::Fault;
 
 /// The most bytes of a source that are read: one more than a document may have.
 pub const READ_LIMIT: usize = MOST_DOCUMENT_BYTES + 1;

@@ -12,10 +12,10 @@ use document_text::{Document, Settings};
 use fdd_compile::{CompileError, Compiler};
 use nk_syntax::Pol;
 use policy_rows::{Version, band_of, stamp_of};
+use report_text::Fault;
 use std::alloc::Global;
 use table_emitter::{EmitError, emit};
 use topology_model::Topology;
-use value_text::Fault;
 
 /// Each policy of a document with its rows, or the fault of the first policy that has one.
 pub fn versions(alloc: Global, document: &Document) -> Result<Vec<Version>, AnswerError>

@@ -1,7 +1,7 @@
 //! The one writing of a call.
 ghost use Rattle.std.specs.Prelude.{◌≡◌, ◌⊎◌};
 ghost use Rattle.std.specs.Result.{ForOk};
-ghost use Rattle.value_text.specs.Faults.{HasValues, fault_text};
+ghost use Rattle.report_text.specs.Faults.{HasValues, fault_text};
 ghost use Rattle.program_answer.specs.Called.{sink_of};
 ghost use Rattle.program_answer.specs.Statuses.{IsReport, status_of};
 ghost use Rattle.program_answer.specs.Writing.{Says, SaysAnswer, IsUnsaid};
@@ -9,8 +9,8 @@ ghost use Rattle.program_answer.specs.Writing.{Says, SaysAnswer, IsUnsaid};
 use crate::answer::{Answer, AnswerError};
 use crate::status::Status;
 use outside_io::{Sink, write_all};
+use report_text::{Fault, fault_text, fixed_line};
 use std::alloc::Global;
-use value_text::{Fault, fault_text, fixed_line};
 
 /// Writes an answer, or the line of the fault that stands in its place, and tells how the call ended. Out of memory,
 /// nothing is written; the lines of faults of the outside and of words take none.

@@ -9,7 +9,7 @@ use Rattle.topology_model.specs.Layouts.{Layout}
 use Rattle.topology_model.specs.Wired.{IsTopology}
 use Rattle.policy_rows.specs.declared.version.Version.{Version}
 use Rattle.openflow_wire.specs.declared.message.Message.{Message}
-use Rattle.session_core.specs.declared.session.SessionState.TheVariants as state
+use Rattle.update_coordinator.specs.SessionState.TheVariants as state
 use Rattle.switch_model.specs.declared.pending.Pending.{Pending}
 use Rattle.update_coordinator.specs.declared.cause.Cause.{Cause}
 use Rattle.update_coordinator.specs.Batches.{planned}

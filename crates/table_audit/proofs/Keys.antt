@@ -13,7 +13,7 @@ use Rattle.nk_values.specs.Members.{IsIn, Pairs, EachOnce}
 use Rattle.nk_values.specs.Tables.{SameKey, Distinct}
 use Rattle.nk_values.proofs.MemberLaws.{in-map, from-map}
 use Rattle.nk_values.proofs.PairLaws.{pairs-append, pairs-map, pairs-weaker, pairs-flat_map}
-use Rattle.history_meaning.specs.Network.{Place}
+use Rattle.topology_model.specs.Network.{Place}
 use Rattle.topology_model.specs.declared.line.Site.{Site}
 use Rattle.topology_model.specs.Layouts.{Layout, place_of, places_at}
 use Rattle.topology_model.specs.Wired.{IsSound, IsTopology}

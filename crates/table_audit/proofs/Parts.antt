@@ -12,7 +12,7 @@ use Rattle.nk_values.specs.Fitting.{IsWritable}
 use Rattle.nk_values.specs.Members.{IsIn}
 use Rattle.nk_values.proofs.MemberLaws.{in-left, in-flat_map, from-flat_map}
 use Rattle.nk_syntax.specs.Views.{term_of}
-use Rattle.history_meaning.specs.Network.{Place}
+use Rattle.topology_model.specs.Network.{Place}
 use Rattle.topology_model.specs.Layouts.{Layout, same_place, places_at}
 use Rattle.topology_model.specs.Wired.{IsTopology}
 use Rattle.policy_rows.specs.declared.version.Version.{Version}

@@ -3,7 +3,7 @@ use Rattle.std.specs.Prelude.{◌≡◌, ℕ, [], slice_get, None, Some}
 use Rattle.nk_values.specs.Members.{IsIn, SameMembers}
 use Rattle.openflow_wire.specs.declared.message.Message.{Message}
 use Rattle.openflow_wire.specs.declared.message.Message.TheVariants as to
-use Rattle.session_core.specs.declared.session.SessionState.TheVariants as state
+use Rattle.update_coordinator.specs.SessionState.TheVariants as state
 use Rattle.update_coordinator.specs.Batches.{planned}
 use Rattle.update_coordinator.specs.Controls.{Control, Site, unsent_at}
 use Rattle.update_laws.specs.Fleets.{End}

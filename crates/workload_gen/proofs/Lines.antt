@@ -6,7 +6,7 @@ use Rattle.nk_values.specs.declared.field.Field.TheVariants.{Sw, Pt, EthTyp, IpP
 use Rattle.nk_values.specs.Members.{IsIn}
 use Rattle.nk_values.specs.Packets.{IsInRange, IsWellShaped}
 use Rattle.nk_values.proofs.MemberLaws.{in-left, in-flat_map}
-use Rattle.history_meaning.specs.Network.{Place}
+use Rattle.topology_model.specs.Network.{Place}
 use Rattle.topology_model.specs.declared.line.Site.{Site}
 use Rattle.topology_model.specs.Layouts.{Layout, edges_of, has_port, is_linked, far_end}
 use Rattle.topology_model.specs.Lines.{layout_of, sites_in}

@@ -6,16 +6,16 @@ use Rattle.nk_values.specs.Members.{IsIn}
 use Rattle.nk_values.proofs.MemberLaws.{in-either, in-left, in-right}
 use Rattle.openflow_wire.specs.declared.message.Message.{Message}
 use Rattle.openflow_wire.specs.declared.message.Message.TheVariants as to
-use Rattle.session_core.specs.declared.session.Move.{Move}
-use Rattle.session_core.specs.declared.session.Move.TheVariants as moves
-use Rattle.session_core.specs.declared.session.SessionState.{SessionState}
-use Rattle.session_core.specs.declared.session.SessionState.TheVariants as state
-use Rattle.session_core.specs.declared.session.SessionFault.{SessionFault}
-use Rattle.session_core.specs.declared.session.SessionFault.TheVariants.{Incompatible, WrongSwitch, SwitchError}
-use Rattle.session_core.specs.Sessions.{move_of, move_in, anywhere}
+use Rattle.update_coordinator.specs.Move.{Move}
+use Rattle.update_coordinator.specs.Move.TheVariants as moves
+use Rattle.update_coordinator.specs.SessionState.{SessionState}
+use Rattle.update_coordinator.specs.SessionState.TheVariants as state
+use Rattle.update_coordinator.specs.SessionFault.{SessionFault}
+use Rattle.update_coordinator.specs.SessionFault.TheVariants.{Incompatible, WrongSwitch, SwitchError}
+use Rattle.update_coordinator.specs.Sessions.{move_of, move_in, anywhere}
 use Rattle.switch_model.specs.Switches.{answer_of, taken}
-use Rattle.barrier_tracker.specs.Replies.{Awaits}
-use Rattle.barrier_tracker.specs.declared.tracker.Awaited.{Awaited}
+use Rattle.update_coordinator.specs.Replies.{Awaits}
+use Rattle.update_coordinator.specs.Awaited.{Awaited}
 use Rattle.update_coordinator.specs.declared.cause.Cause.{Cause}
 use Rattle.update_coordinator.specs.Controls.{Control}
 use Rattle.update_coordinator.specs.Hearing.{IsMoved}

@@ -3,8 +3,8 @@ ghost use Rattle.std.specs.Prelude.{◌≡◌, ◌≤◌};
 ghost use Rattle.workload_gen.specs.Documents.{number_by};
 ghost use Rattle.workload_gen.specs.Words.{behind, next_word};
 
-use rand_core::utils::NextWord;
 use rand_pcg::Lcg64Xsh32;
+use rand_pcg::rand_core::utils::NextWord;
 
 /// Draws the next word.
 #[tactic(auto, unfolding(crate::specs::Words::next_word))]

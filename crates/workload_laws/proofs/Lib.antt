@@ -6,3 +6,4 @@ mod Faults
 mod Named
 mod Ports
 pub mod Workloads
+pub mod Sent

@@ -1,7 +1,7 @@
 use Rattle.std.proofs.Common.{◌+◌, List, map, get_or, take, sym, subst, arith}
 use Rattle.std.specs.declared.alloc.Global.{Global}
 use Rattle.std.specs.declared.vec.Vec.{Vec}
-use Rattle.nk_syntax.specs.Terms.{Dup}
+use Rattle.document_text.specs.Terms.{Dup}
 use Rattle.document_text.specs.Answers.{doc_of}
 use Rattle.packet_tracer.specs.declared.flight.Walk.{Walk}
 use Rattle.policy_rows.specs.declared.version.Version.{Version}

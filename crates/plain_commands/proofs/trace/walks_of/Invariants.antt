@@ -1,5 +1,5 @@
 use Rattle.std.proofs.Common.{take}
-use Rattle.nk_syntax.specs.Terms.{Term}
+use Rattle.document_text.specs.Terms.{Term}
 use Rattle.document_text.specs.Answers.{doc_of}
 use Rattle.policy_rows.specs.Means.{RowsMean}
 use Rattle.plain_commands.specs.Trace.{AreWalksOf}
