@@ -2,7 +2,7 @@
 use Rattle.std.proofs.Common.{◌≡◌, Bool, true, false, IsTrue, ◌↔◌, IsSomeAnd, ℕ, zero, suc, ◌+◌, ◌-◌, ◌^◌, ◌<◌, ◌≤◌, ◌⊎◌, inl, inr, min, List, [], ◌∷◌, ◌++◌, length, refl, sym, ◌∙◌, ap, subst, Option, None, Some, slice_get, append_assoc, arith}
 use Rattle.std.proofs.lemmas.List.{length-append}
 use Rattle.std.proofs.lemmas.Option.{slice_get_past}
-use Rattle.switch_model.specs.Switches.{SwitchValue}
+use Rattle.update_laws.specs.Switches.{SwitchValue}
 use Rattle.update_laws.specs.Fleets.{End}
 use Rattle.update_laws.proofs.Places.{get-within}
 use Rattle.update_laws.proofs.Wiring.{some-is}

@@ -13,7 +13,7 @@ use Rattle.update_coordinator.specs.SessionState.TheVariants as state
 use Rattle.update_coordinator.specs.SessionFault.{SessionFault}
 use Rattle.update_coordinator.specs.SessionFault.TheVariants.{Incompatible, WrongSwitch, SwitchError}
 use Rattle.update_coordinator.specs.Sessions.{move_of, move_in, anywhere}
-use Rattle.switch_model.specs.Switches.{answer_of, taken}
+use Rattle.update_laws.specs.Switches.{answer_of, taken}
 use Rattle.update_coordinator.specs.Replies.{Awaits}
 use Rattle.update_coordinator.specs.Awaited.{Awaited}
 use Rattle.update_coordinator.specs.declared.cause.Cause.{Cause}
