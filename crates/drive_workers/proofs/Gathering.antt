@@ -2,7 +2,7 @@
 use Rattle.std.proofs.Common.{◌≡◌, ◌⊎◌, inl, inr, ℕ, ◌≤◌, ◌<◌, List, [], ◌∷◌, ◌++◌, sym, subst, arith}
 use Rattle.nk_values.specs.Members.{IsIn}
 use Rattle.outside_io.specs.Causes.{Rose}
-use Rattle.outside_net.specs.Told.{Breaks}
+use Rattle.outside_net.specs.Told.{Breaks, next_count}
 
 -- an end that had failed is left, or the count rose
 abbrev pub AreCounted : {E : Type 0} → (E → ℕ) → List E → List E → ℕ → ℕ → Type 0
@@ -21,12 +21,15 @@ in-split (z ∷ xs) y x (inr i) = later (in-split xs y x i)
 rose-on : (before mid now : ℕ) → Rose before mid → mid ≤ now → Rose before now
 rose-on before mid now r l = omega (arith, r, l)
 
+rose-by-one : (mid now : ℕ) → now ≡ next_count mid → Rose mid now
+rose-by-one mid now e = omega (arith, e)
+
 rose-from : (before mid now : ℕ) → before ≤ mid → Rose mid now → Rose before now
 rose-from before mid now l r = grind (arith)
 
 counted-case : {E : Type 0} (faults : E → ℕ) (rest : List E) (end e : E) (before mid now : ℕ) → before ≤ mid → Breaks (faults end) mid now → 0 < faults e → IsIn rest e ⊎ (end ≡ e) → IsIn rest e ⊎ Rose before now
 counted-case faults rest end e before mid now l b f (inl i) = inl i
-counted-case faults rest end e before mid now l b f (inr is) = inr (rose-from before mid now l (b.broken (subst (λ x. 0 < faults x) (sym is) f)))
+counted-case faults rest end e before mid now l b f (inr is) = inr (rose-from before mid now l (rose-by-one mid now (b.broken (subst (λ x. 0 < faults x) (sym is) f))))
 
 counted-next : {E : Type 0} (faults : E → ℕ) (left rest : List E) (end e : E) (before mid now : ℕ) → before ≤ mid → left ≡ rest ++ end ∷ [] → Breaks (faults end) mid now → 0 < faults e → IsIn left e ⊎ Rose before mid → IsIn rest e ⊎ Rose before now
 counted-next faults left rest end e before mid now l is b f (inl i) = counted-case faults rest end e before mid now l b f (in-split rest end e (subst (λ xs. IsIn xs e) is i))

@@ -1,21 +1,19 @@
 -- Ends that are given back, one by one.
 use Rattle.std.proofs.Common.{◌≡◌, ◌⊎◌, inl, inr, ℕ, ◌≤◌, ◌<◌, List, [], ◌∷◌, ◌++◌, length, Option, None, Some, append_assoc, append-nil, refl, sym, ap, ◌∙◌, subst, arith}
+use Rattle.std.specs.Prelude.{map, reverse}
+use Rattle.std.proofs.lemmas.List.{map-append, reverse-append}
+use Rattle.std.proofs.lemmas.Grind.{reverse_onto}
 use Rattle.nk_values.specs.Members.{IsIn}
 use Rattle.outside_io.specs.Causes.{Rose}
-use Rattle.outside_net.specs.Told.{Gathers, Breaks}
+use Rattle.outside_net.specs.Told.{Gathers, Breaks, next_count}
 use Rattle.program_answer.specs.Called.{Change}
-use Rattle.thread_commands.specs.Run.{AreGathered, AreToldSince, ToldSince}
+use Rattle.thread_commands.specs.Run.{AreGathered, AreStreams, AreToldSince, ToldSince}
 
--- what this end received is among these streams
-abbrev pub HasStream : {E : Type 0} → (E → Option (List ℕ)) → List (List ℕ) → E → Type 0
-HasStream received streams e = (stream : List ℕ) × (received e ≡ Some stream) × IsIn streams stream
-
--- of all ends but those that are left
-abbrev pub HaveStreamsBut : {E : Type 0} → (E → Option (List ℕ)) → List E → List E → List (List ℕ) → Type 0
-HaveStreamsBut {E} received all left streams = (e : E) → IsIn all e → IsIn left e ⊎ HasStream received streams e
-
-abbrev pub AreTold : {E : Type 0} → (E → Option (List ℕ)) → List E → List E → Change (Option (List (List ℕ))) → Type 0
-AreTold {E} received all left gathered = AreToldSince gathered (HaveStreamsBut received all left)
+-- Ends of a list were given back, the last first, until these are left; and what they received was told.
+pub record AreTold {E : Type 0} (received : E → Option (List ℕ)) (all left : List E) (gathered : Change (Option (List (List ℕ)))) : Type 0 where
+  pub gone : List E
+  pub parts : all ≡ left ++ gone
+  pub told : AreToldSince gathered (AreStreams received gone)
 
 -- an end that had failed is left, or the count rose
 abbrev pub AreCounted : {E : Type 0} → (E → ℕ) → List E → List E → ℕ → ℕ → Type 0
@@ -43,12 +41,15 @@ in-last (z ∷ xs) x = inr (in-last xs x)
 rose-on : (before mid now : ℕ) → Rose before mid → mid ≤ now → Rose before now
 rose-on before mid now r l = omega (arith, r, l)
 
+pub rose-by-one : (mid now : ℕ) → now ≡ next_count mid → Rose mid now
+rose-by-one mid now e = omega (arith, e)
+
 rose-from : (before mid now : ℕ) → before ≤ mid → Rose mid now → Rose before now
 rose-from before mid now l r = grind (arith)
 
 counted-case : {E : Type 0} (faults : E → ℕ) (rest : List E) (end e : E) (before mid now : ℕ) → before ≤ mid → Breaks (faults end) mid now → 0 < faults e → IsIn rest e ⊎ (end ≡ e) → IsIn rest e ⊎ Rose before now
 counted-case faults rest end e before mid now l b f (inl i) = inl i
-counted-case faults rest end e before mid now l b f (inr is) = inr (rose-from before mid now l (b.broken (subst (λ x. 0 < faults x) (sym is) f)))
+counted-case faults rest end e before mid now l b f (inr is) = inr (rose-from before mid now l (rose-by-one mid now (b.broken (subst (λ x. 0 < faults x) (sym is) f))))
 
 counted-next : {E : Type 0} (faults : E → ℕ) (left rest : List E) (end e : E) (before mid now : ℕ) → before ≤ mid → left ≡ rest ++ end ∷ [] → Breaks (faults end) mid now → 0 < faults e → IsIn left e ⊎ Rose before mid → IsIn rest e ⊎ Rose before now
 counted-next faults left rest end e before mid now l is b f (inl i) = counted-case faults rest end e before mid now l b f (in-split rest end e (subst (λ xs. IsIn xs e) is i))
@@ -57,51 +58,78 @@ counted-next faults left rest end e before mid now l is b f (inr r) = inr (rose-
 pub counted-more : {E : Type 0} (faults : E → ℕ) (all left rest : List E) (end : E) (before mid now : ℕ) → AreCounted faults all left before mid → before ≤ mid → left ≡ rest ++ end ∷ [] → Breaks (faults end) mid now → AreCounted faults all rest before now
 counted-more faults all left rest end before mid now h l is b = λ e i f. counted-next faults left rest end e before mid now l is b f (h e i f)
 
-told-case : {E : Type 0} (received : E → Option (List ℕ)) (rest : List E) (end e : E) (streams : List (List ℕ)) (bytes : List ℕ) → received end ≡ Some bytes → IsIn rest e ⊎ (end ≡ e) → IsIn rest e ⊎ HasStream received (streams ++ bytes ∷ []) e
-told-case received rest end e streams bytes at (inl i) = inl i
-told-case received rest end e streams bytes at (inr is) = inr (bytes, subst (λ x. received x ≡ Some bytes) is at, in-last streams bytes)
+-- ---- streams
 
-told-next : {E : Type 0} (received : E → Option (List ℕ)) (left rest : List E) (end e : E) (streams : List (List ℕ)) (bytes : List ℕ) → left ≡ rest ++ end ∷ [] → received end ≡ Some bytes → IsIn left e ⊎ HasStream received streams e → IsIn rest e ⊎ HasStream received (streams ++ bytes ∷ []) e
-told-next received left rest end e streams bytes is at (inl i) = told-case received rest end e streams bytes at (in-split rest end e (subst (λ xs. IsIn xs e) is i))
-told-next received left rest end e streams bytes is at (inr h) = inr (h.0, h.1, in-front streams (bytes ∷ []) h.0 h.2)
+streams-more : {E : Type 0} (received : E → Option (List ℕ)) (gone : List E) (end : E) (streams : List (List ℕ)) (bytes : List ℕ) → received end ≡ Some bytes → AreStreams received gone streams → AreStreams received (end ∷ gone) (streams ++ bytes ∷ [])
+streams-more received gone end streams bytes at h =
+    map-append Some streams (bytes ∷ []) ∙ ap (λ xs. xs ++ Some bytes ∷ []) h ∙ ap (λ x. map received (reverse gone) ++ x ∷ []) (sym at)
+    ∙ sym (map-append received (reverse gone) (end ∷ [])) ∙ sym (ap (map received) (reverse_onto gone end []))
 
-told-none : {E : Type 0} (received : E → Option (List ℕ)) (all left : List E) (first now : Option (List (List ℕ))) → now ≡ None → AreTold received all left (record { before = first; after = now })
-told-none received all left first now is = subst (λ x. AreTold received all left (record { before = first; after = x })) (sym is) tt
+told-none : (first now : Option (List (List ℕ))) (AreSuch : List (List ℕ) → Type 0) → now ≡ None → AreToldSince (record { before = first; after = now }) AreSuch
+told-none first now AreSuch is = subst (λ x. AreToldSince (record { before = first; after = x }) AreSuch) (sym is) tt
 
-told-grown : {E : Type 0} (received : E → Option (List ℕ)) (all left rest : List E) (end : E) (first : Option (List (List ℕ))) (streams : List (List ℕ)) (bytes : List ℕ) (now : Option (List (List ℕ)))
-    → ToldSince first streams (HaveStreamsBut received all left) → left ≡ rest ++ end ∷ [] → received end ≡ Some bytes
-    → (now ≡ Some (streams ++ bytes ∷ [])) ⊎ (now ≡ None) → AreTold received all rest (record { before = first; after = now })
-told-grown received all left rest end first streams bytes now h is at (inl e) = subst (λ x. AreTold received all rest (record { before = first; after = x })) (sym e) (record {
+told-grown : {E : Type 0} (received : E → Option (List ℕ)) (gone : List E) (end : E) (first : Option (List (List ℕ))) (streams : List (List ℕ)) (bytes : List ℕ) (now : Option (List (List ℕ)))
+    → ToldSince first streams (AreStreams received gone) → received end ≡ Some bytes
+    → (now ≡ Some (streams ++ bytes ∷ [])) ⊎ (now ≡ None) → AreToldSince (record { before = first; after = now }) (AreStreams received (end ∷ gone))
+told-grown received gone end first streams bytes now h at (inl e) = subst (λ x. AreToldSince (record { before = first; after = x }) (AreStreams received (end ∷ gone))) (sym e) (record {
   earlier = h.earlier;
   since = h.since ++ bytes ∷ [];
   known = h.known;
   told = ap (λ xs. xs ++ bytes ∷ []) h.told ∙ append_assoc h.earlier h.since (bytes ∷ []);
-  such = λ y i. told-next received left rest end y h.since bytes is at (h.such y i);
+  such = streams-more received gone end h.since bytes at h.such;
 })
-told-grown received all left rest end first streams bytes now h is at (inr e) = told-none received all rest first now e
+told-grown received gone end first streams bytes now h at (inr e) = told-none first now (AreStreams received (end ∷ gone)) e
 
-told-by : {E : Type 0} (received : E → Option (List ℕ)) (all left rest : List E) (end : E) (first before now : Option (List (List ℕ))) (stream : Option (List ℕ))
-    → AreTold received all left (record { before = first; after = before }) → left ≡ rest ++ end ∷ [] → received end ≡ stream → Gathers before now stream → AreTold received all rest (record { before = first; after = now })
-told-by received all left rest end first None now None h is at g = told-none received all rest first now g
-told-by received all left rest end first None now (Some bytes) h is at g = told-none received all rest first now g
-told-by received all left rest end first (Some streams) now None h is at g = told-none received all rest first now g
-told-by received all left rest end first (Some streams) now (Some bytes) h is at g = told-grown received all left rest end first streams bytes now h is at g
+told-by : {E : Type 0} (received : E → Option (List ℕ)) (gone : List E) (end : E) (first before now : Option (List (List ℕ))) (stream : Option (List ℕ))
+    → AreToldSince (record { before = first; after = before }) (AreStreams received gone) → received end ≡ stream → Gathers before now stream → AreToldSince (record { before = first; after = now }) (AreStreams received (end ∷ gone))
+told-by received gone end first None now None h at g = told-none first now (AreStreams received (end ∷ gone)) g
+told-by received gone end first None now (Some bytes) h at g = told-none first now (AreStreams received (end ∷ gone)) g
+told-by received gone end first (Some streams) now None h at g = told-none first now (AreStreams received (end ∷ gone)) g
+told-by received gone end first (Some streams) now (Some bytes) h at g = told-grown received gone end first streams bytes now h at g
 
 pub told-more : {E : Type 0} (received : E → Option (List ℕ)) (all left rest : List E) (end : E) (first before now : Option (List (List ℕ)))
     → AreTold received all left (record { before = first; after = before }) → left ≡ rest ++ end ∷ [] → Gathers before now (received end) → AreTold received all rest (record { before = first; after = now })
-told-more received all left rest end first before now h is g = told-by received all left rest end first before now (received end) h is refl g
+told-more received all left rest end first before now h is g = record {
+  gone = end ∷ h.gone;
+  parts = h.parts ∙ ap (λ xs. xs ++ h.gone) is ∙ append_assoc rest (end ∷ []) h.gone;
+  told = told-by received h.gone end first before now (received end) h.told refl g;
+}
+
+none-told : {E : Type 0} (received : E → Option (List ℕ)) (g : Option (List (List ℕ))) → AreToldSince (record { before = g; after = g }) (AreStreams received [])
+none-told received None = tt
+none-told received (Some streams) = record { earlier = streams; since = []; known = refl; told = sym (append-nil streams); such = refl }
 
 pub told-start : {E : Type 0} (received : E → Option (List ℕ)) (all : List E) (g : Option (List (List ℕ))) → AreTold received all all (record { before = g; after = g })
-told-start received all None = tt
-told-start received all (Some streams) = record { earlier = streams; since = []; known = refl; told = sym (append-nil streams); such = λ e i. inl i }
-
-told-all : {E : Type 0} (received : E → Option (List ℕ)) (left : List E) (streams : List (List ℕ)) (e : E) → left ≡ [] → IsIn left e ⊎ HasStream received streams e → HasStream received streams e
-told-all received left streams e none (inl i) = absurd (subst (λ xs. IsIn xs e) none i)
-told-all received left streams e none (inr h) = h
+told-start received all g = record { gone = []; parts = sym (append-nil all); told = none-told received g }
 
 pub told-end : {E : Type 0} (received : E → Option (List ℕ)) (all left : List E) (first now : Option (List (List ℕ))) → left ≡ [] → AreTold received all left (record { before = first; after = now }) → AreGathered received all (record { before = first; after = now })
-told-end received all left first None none h = tt
-told-end received all left first (Some streams) none h = record { earlier = h.earlier; since = h.since; known = h.known; told = h.told; such = λ e i. told-all received left h.since e none (h.such e i) }
+told-end received all left first now none h =
+    subst (λ xs. AreToldSince (record { before = first; after = now }) (AreStreams received xs)) (sym (h.parts ∙ ap (λ xs. xs ++ h.gone) none)) h.told
+
+-- ---- the first of them
+
+-- what this end received is the first of these streams
+pub record IsFirst {E : Type 0} (received : E → Option (List ℕ)) (end : E) (streams : List (List ℕ)) : Type 0 where
+  pub stream : List ℕ
+  pub more : List (List ℕ)
+  pub first : streams ≡ stream ∷ more
+  pub of : received end ≡ Some stream
+
+none-some : {X : Type 0} (x : X) (xs : List X) (P : Type 0) → [] ≡ x ∷ xs → P
+none-some x xs P e = absurd (cc)
+
+head-is : {X : Type 0} (a b : X) (as' bs : List X) → a ∷ as' ≡ b ∷ bs → a ≡ b
+head-is a b as' bs e = cc
+
+first-by : {E : Type 0} (received : E → Option (List ℕ)) (end : E) (rest : List (Option (List ℕ))) (streams : List (List ℕ)) → map Some streams ≡ received end ∷ rest → IsFirst received end streams
+first-by received end rest [] e = none-some _ _ _ e
+first-by received end rest (s ∷ ss) e = record { stream = s; more = ss; first = refl; of = sym (head-is (Some s) (received end) (map Some ss) rest e) }
+
+-- the last end was given back first
+pub first-is : {E : Type 0} (received : E → Option (List ℕ)) (ends front : List E) (end : E) (streams : List (List ℕ)) → ends ≡ front ++ end ∷ [] → AreStreams received ends streams → IsFirst received end streams
+first-is received ends front end streams last h = first-by received end (map received (reverse front)) streams (h ∙ ap (map received) (ap reverse last ∙ reverse-append front (end ∷ [])))
+
+-- ---- counts
 
 counted-all : {E : Type 0} (left : List E) (e : E) (P : Type 0) → left ≡ [] → IsIn left e ⊎ P → P
 counted-all left e P none (inl i) = absurd (subst (λ xs. IsIn xs e) none i)

@@ -13,6 +13,7 @@ use Rattle.world_journal.specs.declared.entry.Entry.{Entry}
 use Rattle.world_journal.specs.Makers.{is_cut}
 use Rattle.world_journal.specs.Journals.{events_of, Kept, MetBy}
 use Rattle.thread_commands.specs.Run.{many_broken}
+use Rattle.thread_commands.proofs.Gathering.{rose-by-one}
 use Rattle.thread_commands.proofs.KeptEnds.{events-last}
 
 losses-more : (es : List Event) (e : Event) → losses (es ++ e ∷ []) ≡ losses es + counted (is_loss e) 0
@@ -99,7 +100,7 @@ counted-case faults all rest end before mid now h b (suc k) is =
     let some : 0 < faults end = omega (arith, is) in record {
       back = h.back + 1;
       rest = omega (arith, h.rest, broken-more faults rest end, broken-one faults end some);
-      rose = rose-more before h.back mid now h.rose (b.broken some);
+      rose = rose-more before h.back mid now h.rose (rose-by-one mid now (b.broken some));
     }
 
 pub counted-by : {E : Type 0} (faults : E → ℕ) (all left rest : List E) (end : E) (before mid now : ℕ) → AreCountedBy faults all left before mid → left ≡ rest ++ end ∷ [] → Breaks (faults end) mid now → AreCountedBy faults all rest before now
