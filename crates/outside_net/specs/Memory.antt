@@ -1,4 +1,4 @@
--- What clauses see of a net in memory, and of a spawner that refuses starts.
+-- What clauses see of a net in memory and its ends.
 use Rattle.std.specs.Arc.{arc_value}
 use Rattle.std.specs.Prelude.{◌≡◌, ℕ, ◌+◌, ◌≤◌, ◌⊎◌, ◌++◌, Bool, true, false, List, [], ◌∷◌, map, Option, None, Some, Contains, vec_len, vec_capacity}
 use Rattle.outside_net.specs.Told.{told_if, next_count}
@@ -50,7 +50,7 @@ CallIsListed e = Contains (end_failing e) (end_call e)
 abbrev pub SendIsToFail : {R : Type 0} → MemoryEnd R → Type 0
 SendIsToFail e = CallIsListed e ⊎ Spoils (end_effect e) ⊎ (end_full e ≡ true)
 
--- it has room to tell so many bytes more that it sends or receives
+-- it has room to tell this number of bytes more that it sends or receives
 pub record HasRoom {R : Type 0} (e : MemoryEnd R) (bytes : ℕ) : Type 0 where
   pub to_send : vec_len e.sent + bytes ≤ vec_capacity e.sent
   pub to_receive : vec_len e.received + bytes ≤ vec_capacity e.received
@@ -112,7 +112,7 @@ net_listed n = calls_failing (arc_value n.calls)
 abbrev pub PairIsToFail : {R : Type 0} → MemoryNet R → Type 0
 PairIsToFail n = Contains (net_failing n) (next_count (net_pairs n))
 
--- What an end received is told behind that of earlier ends.
+-- What an end received is told after that of earlier ends.
 abbrev pub Tells : Option (List (List ℕ)) → Option (List (List ℕ)) → List ℕ → Type 0
 Tells None now bytes = now ≡ None
 Tells (Some all) now bytes = now ≡ Some (all ++ bytes ∷ [])
