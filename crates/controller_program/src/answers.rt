@@ -13,7 +13,7 @@ use command_line::{Command, asked};
 use drive_command::drive_answer;
 use equal_command::equiv_answer;
 use outside_io::Source;
-use outside_net::{Gate, Net, Reporter, Spawner};
+use outside_net::{Net, Reporter, Spawner};
 use plain_commands::{generate_answer, rules_answer, simulate_answer, trace_answer};
 use program_answer::{Answer, AnswerError};
 use std::alloc::Global;
@@ -21,6 +21,7 @@ use std::sync::{Arc, Wait};
 use std::time::Clock;
 use thread_commands::run_answer;
 use value_text::Fault;
+use worker_desk::Gate;
 
 /// What words come to without links and threads: those that ask for a command that needs them are no command line.
 pub fn plain_answer<S: Source>(

@@ -3,11 +3,12 @@ use crate::case::Case;
 use crate::outcome::{Outcome, outcome_of};
 use controller_program::nkctl;
 use outside_io::{MemorySink, MemorySource};
-use outside_net::{Net, OpenGate, Reporter, ThreadSpawner};
+use outside_net::{Net, Reporter, ThreadSpawner};
 use std::alloc::{AllocError, Global};
 use std::sync::{Arc, Wait};
 use std::thread::Threads;
 use std::time::Clock;
+use worker_desk::OpenGate;
 
 /// Drives the switches of a case through its policies.
 pub fn drive<

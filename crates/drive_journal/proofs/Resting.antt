@@ -2,7 +2,7 @@
 use Rattle.std.proofs.Common.{◌≡◌, ℕ, List, Option, Some, None, refl, sym, subst, inr}
 use Rattle.openflow_wire.specs.declared.fault.WireFault.{WireFault}
 use Rattle.update_coordinator.specs.Sending.{MaySend}
-use Rattle.outside_net.specs.declared.gate.Kind.TheVariants as kind
+use Rattle.worker_desk.specs.declared.gate.Kind.TheVariants as kind
 use Rattle.worker_desk.specs.declared.desk.Given.{Given}
 use Rattle.worker_desk.specs.declared.desk.Given.TheVariants.{Out, Expect, Nothing, NewEnd, Stop}
 use Rattle.worker_desk.specs.declared.desk.Told.{Told}

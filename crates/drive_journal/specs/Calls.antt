@@ -2,7 +2,7 @@
 use Rattle.std.specs.Prelude.{◌≡◌, ◌≢◌, ◌⊎◌, ℕ, true, List, [], ◌∷◌, ◌++◌, Option, Some, None, slice_set}
 use Rattle.openflow_wire.specs.declared.message.Message.{Message}
 use Rattle.of_framing.specs.Streams.{IsFront, IsFault, IsRest}
-use Rattle.outside_net.specs.declared.gate.Kind.TheVariants as kind
+use Rattle.worker_desk.specs.declared.gate.Kind.TheVariants as kind
 use Rattle.session_core.specs.Sessions.{reply_of}
 use Rattle.update_coordinator.specs.Calls.{begin_refusal, drain_refusal}
 use Rattle.update_coordinator.specs.Controls.{Control}

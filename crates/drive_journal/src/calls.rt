@@ -14,10 +14,10 @@ use crate::name::DriveName;
 use crate::refused::Refused;
 use crate::steering::Steering;
 use openflow_wire::{Message, WireFault};
-use outside_net::{Kind, Link, Receipt};
+use outside_net::{Link, Receipt};
 use session_core::echo_reply;
 use std::alloc::{AllocError, Global};
-use worker_desk::{Given, Shut, Told};
+use worker_desk::{Given, Kind, Shut, Told};
 
 impl<L: DriveName, E: Link, Q: Receipt> Drive<L, E, Q> {
     /// What the worker of the switch at a place is to do next: to stop; to send the answer to what it told last, or

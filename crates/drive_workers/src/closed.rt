@@ -9,12 +9,13 @@ ghost use Rattle.drive_workers.specs.Faults.{RunCause};
 use crate::crew::drive_fleet;
 use crate::fault::DriveFault;
 use drive_journal::{DriveName, Steered, Steering};
-use outside_net::{Gate, Link, Reporter, Spawner};
+use outside_net::{Link, Reporter, Spawner};
 use std::alloc::Global;
 use std::marker::Brand;
 use std::sync::{Arc, Wait};
 use std::time::Clock;
 use update_coordinator::Coordinator;
+use worker_desk::Gate;
 
 /// Drives outside switches from this start until it is over, with a worker for each end. Gives the coordinator, the
 /// journal that led to it, the reports that were kept for drains, and the end that was kept if it has halted.

@@ -8,10 +8,11 @@ use crate::caller::steer;
 use crate::fault::DriveFault;
 use crate::worker::DriveWorker;
 use drive_journal::{Drive, DriveDesk, DriveName, Steered};
-use outside_net::{Gate, Job, Link, Receipt, Reporter, Spawner, StartFault};
+use outside_net::{Job, Link, Receipt, Reporter, Spawner, StartFault};
 use std::alloc::Global;
 use std::sync::{Arc, Wait};
 use std::time::Clock;
+use worker_desk::Gate;
 
 /// Drives switches from a start until it is over: a worker in a thread of its own for each, which talks over its end,
 /// and the caller, who begins the updates and takes the reports of drains.

@@ -9,11 +9,12 @@ use crate::ends::{meet_ends, port_at};
 use crate::fault::DriveFault;
 use crate::kept::take_back;
 use drive_journal::{Steering, a_lost_session_is_last};
-use outside_net::{Gate, Net, NetFault, Reporter, Spawner};
+use outside_net::{Net, NetFault, Reporter, Spawner};
 use std::alloc::Global;
 use std::sync::{Arc, Wait};
 use std::time::Clock;
 use update_coordinator::Coordinator;
+use worker_desk::Gate;
 
 /// Drives outside switches from this start until it is over. Each comes in at the port of its place on this machine, and
 /// whoever reports drains at the port after these. It gives the coordinator and the journal that led to it.

@@ -3,9 +3,10 @@ ghost use Rattle.std.specs.Prelude.{◌≡◌, ◌<◌, length, true};
 ghost use Rattle.drive_workers.specs.Ends.{IsEndOf};
 
 use drive_journal::{DriveDesk, DriveName, DriveSeat};
-use outside_net::{Gate, Job, Link, Receipt};
+use outside_net::{Job, Link, Receipt};
 use std::sync::{Arc, Wait};
 use std::time::Clock;
+use worker_desk::Gate;
 use worker_post::{Post, Who};
 
 /// A worker with the place of its switch and its end.

@@ -1,12 +1,13 @@
 // Calls of the program over sources, sinks and links in memory.
 use controller_program::{Status, nkctl, nkctl_plain};
 use outside_io::{MemorySink, MemorySource};
-use outside_net::{MemoryNet, MemoryReporter, OpenGate, RefusingSpawner, ThreadSpawner, Trouble};
+use outside_net::{MemoryNet, MemoryReporter, RefusingSpawner, ThreadSpawner, Trouble};
 use std::alloc::{AllocError, Global};
 use std::str;
 use std::sync::{Arc, Wait};
 use std::thread::Threads;
 use std::time::Clock;
+use worker_desk::OpenGate;
 
 /// How a call ended, and what it wrote.
 #[derive(Drop)]

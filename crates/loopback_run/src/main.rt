@@ -4,7 +4,7 @@
 
 use controller_program::{Status, nkctl};
 use outside_io::{MemorySink, Source, StdSource};
-use outside_net::{LineReporter, OpenGate, TcpNet, ThreadSpawner};
+use outside_net::{LineReporter, TcpNet, ThreadSpawner};
 use std::alloc::AllocError;
 use std::env::Env;
 use std::net::{Net as Sockets, TcpListener, TcpStream};
@@ -12,6 +12,7 @@ use std::sync::{Arc, Wait};
 use std::thread::Threads;
 use std::time::Clock;
 use std::{io, str};
+use worker_desk::OpenGate;
 
 fn main(rt: HostRuntime) -> io::Result<()> {
     let alloc = rt.alloc();

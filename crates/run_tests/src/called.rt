@@ -1,14 +1,13 @@
 // A call of the program, and what is asked of its answer.
 use controller_program::{Status, nkctl};
 use outside_io::{MemorySink, MemorySource};
-use outside_net::{
-    Gate, MemoryNet, MemoryReporter, Net, OpenGate, Spawner, ThreadSpawner, Trouble,
-};
+use outside_net::{MemoryNet, MemoryReporter, Net, Spawner, ThreadSpawner, Trouble};
 use std::alloc::{AllocError, Global};
 use std::str;
 use std::sync::{Arc, Wait};
 use std::thread::Threads;
 use std::time::Clock;
+use worker_desk::{Gate, OpenGate};
 
 /// Two switches in a line, three policies alike, ten packets.
 pub const DOCUMENT: &str = "switch 1 ports 1 2

@@ -1,7 +1,7 @@
 // A gate that holds one worker until another has gone on.
-use outside_net::{Gate, Kind, Place};
 use std::sync::{Mutex, Wait};
 use std::thread;
+use worker_desk::{Gate, Kind, Place};
 
 /// How often a worker passed a step of a kind.
 #[derive(Clone, Copy, Debug, PartialEq, Eq)]

@@ -3,12 +3,12 @@
 use crate::called::{Called, called_over_memory};
 use crate::holding::{Hold, Holding, Times};
 use controller_program::Status;
-use outside_net::Kind;
 use std::alloc::{AllocError, Global};
 use std::sync::{Arc, Wait};
 use std::test::Fail;
 use std::thread::Threads;
 use std::time::Clock;
+use worker_desk::Kind;
 
 fn times(worker: usize, kind: Kind, times: u32) -> Times {
     Times {

@@ -2,11 +2,10 @@
 use crate::called::{Called, call_over, called_over_memory};
 use controller_program::{Status, nkctl};
 use outside_io::{MemorySink, MemorySource};
-use outside_net::{
-    Effect, End, MemoryNet, OpenGate, RefusingSpawner, TcpNet, ThreadSpawner, Trouble,
-};
+use outside_net::{Effect, End, MemoryNet, RefusingSpawner, TcpNet, ThreadSpawner, Trouble};
 use std::sync::Arc;
 use std::test::Fail;
+use worker_desk::OpenGate;
 
 const DONE: Called = Called {
     status: Status::Done,

@@ -2,12 +2,13 @@
 // event, and nothing else comes of it.
 use crate::called::called_over_memory;
 use controller_program::Status;
-use outside_net::{Effect, End, OpenGate, Trouble};
+use outside_net::{Effect, End, Trouble};
 use std::alloc::{AllocError, Global};
 use std::sync::{Arc, Wait};
 use std::test::Fail;
 use std::thread::Threads;
 use std::time::Clock;
+use worker_desk::OpenGate;
 
 // The third message of a switch is its reply to the first barrier, which has number 4.
 const THIRD: u64 = 3;

@@ -4,8 +4,9 @@ ghost use Rattle.openflow_wire.specs.declared.message.Message.{Message};
 ghost use Rattle.worker_desk.specs.Answers.{grown, gave, CanBeWritten, GivesBack, OnKept, OnNewEnd, OnShutNewEnd};
 ghost use Rattle.worker_desk.specs.Streams.{TellsWhereKnown};
 
+use crate::gate::Kind;
 use openflow_wire::Message;
-use outside_net::{Kind, Link};
+use outside_net::Link;
 use std::alloc::AllocError;
 
 /// The kind of the step that a call made, if it made one.

@@ -1,6 +1,8 @@
-//! What a worker of a session or of a switch asks of the run that it works for.
+//! What a worker of a session or of a switch asks of the run that it works for, and the gate that it passes.
 #![tactic(auto)]
 
 mod desk;
+mod gate;
 
 pub use desk::{Desk, Given, Made, Shut, Told};
+pub use gate::{Gate, Kind, OpenGate, Place};

@@ -11,10 +11,9 @@ use crate::messages::{Piece, Went, next_piece, receive, send_message};
 use crate::passing::Who;
 use of_framing::Framer;
 use openflow_wire::Message;
-use outside_net::Gate;
 use std::alloc::Global;
 use std::sync::Wait;
-use worker_desk::{Desk, Given, Shut, Told};
+use worker_desk::{Desk, Gate, Given, Shut, Told};
 
 /// How a turn of a worker ended.
 #[derive(Drop)]
