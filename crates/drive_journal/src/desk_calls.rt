@@ -26,6 +26,8 @@ impl<R: Wait + Clock + Drop, L: DriveName, E: Link, Q: Receipt> Desk for DriveDe
 
     ghost told = { λ s. None };
 
+    ghost notices = { λ s. None };
+
     ghost kept = { λ s. None };
 
     fn give(&self, seat: &mut DriveSeat) -> Result<Given<E>, AllocError> {

@@ -53,7 +53,7 @@ GivesBack end (Back e made) = e ≡ end
 GivesBack end Kept = Unit {0}
 GivesBack end (Memory e) = e ≡ end
 
--- what holds where the end was kept
+-- what holds if the end was kept
 abbrev pub OnKept : {E : Type 0} → Told E → Type 0 → Type 0
 OnKept (Back e made) P = Unit {0}
 OnKept Kept P = P

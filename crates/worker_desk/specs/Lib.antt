@@ -1,2 +1,3 @@
 pub mod Answers
+pub mod Notices
 pub mod Streams

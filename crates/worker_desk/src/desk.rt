@@ -2,6 +2,7 @@
 ghost use Rattle.std.specs.Prelude.{◌≡◌, ◌<◌, ℕ, List, Option, IfOk, IfSome, [], ◌∷◌};
 ghost use Rattle.openflow_wire.specs.declared.message.Message.{Message};
 ghost use Rattle.worker_desk.specs.Answers.{grown, gave, CanBeWritten, GivesBack, OnKept, OnNewEnd, OnShutNewEnd};
+ghost use Rattle.worker_desk.specs.Notices.{Notice, Lost, NoMemory};
 ghost use Rattle.worker_desk.specs.Streams.{TellsWhereKnown};
 
 use crate::gate::Kind;
@@ -68,13 +69,16 @@ pub trait Desk {
     /// The place of the switch of a pair with this name. A switch has a pair for each of its sessions.
     ghost place_of: { ℕ → ℕ };
 
-    /// The messages that it was given, where they are known.
+    /// The messages that it was given, if they are known.
     ghost given: { Self.Seat → Option (List Message) };
 
-    /// What it told, where it is known.
+    /// The bytes that it told, if they are known.
     ghost told: { Self.Seat → Option (List (List ℕ)) };
 
-    /// Its end that was kept, where it is known.
+    /// Which losses of ends it told, and that memory ran out, if this is known.
+    ghost notices: { Self.Seat → Option (List Notice) };
+
+    /// Its end that was kept, if it is known.
     ghost kept: { Self.Seat → Option Self.End };
 
     /// What is to be done next. A message that is given can be written. Out of memory a step may have been made; its
@@ -86,10 +90,11 @@ pub trait Desk {
         ensures named { IfOk result (OnNewEnd (λ e. place_of (Self.End.named e) ≡ place seat.old)) }
         ensures fresh { IfOk result (OnNewEnd (λ e. IfSome (Self.End.received e) (λ xs. xs ≡ []))) }
         ensures given { given seat.new ≡ grown (given seat.old) (gave result) }
-        ensures told { told seat.new ≡ told seat.old };
+        ensures told { told seat.new ≡ told seat.old }
+        ensures notices { notices seat.new ≡ notices seat.old };
 
-    /// Tells the bytes of one message that came over this end, after k that were told before; or, where the stream
-    /// has a fault after these, the bytes that are held there.
+    /// Tells the bytes of one message that came over this end, after k that were told before; or, if the stream has a
+    /// fault after these, the bytes that are held there.
     fn tell(&self, seat: &mut Self::Seat, bytes: &[u8], end: Self::End, k: u64) -> Told<Self::End>
         requires seat { seated seat.old }
         requires name { place_of (Self.End.named end) ≡ place seat.old }
@@ -98,7 +103,8 @@ pub trait Desk {
         ensures back { GivesBack end result }
         ensures kept { OnKept result (IfSome (kept seat.new) (λ e. e ≡ end)) }
         ensures given { given seat.new ≡ given seat.old }
-        ensures told { told seat.new ≡ grown (told seat.old) (bytes.now ∷ []) };
+        ensures told { told seat.new ≡ grown (told seat.old) (bytes.now ∷ []) }
+        ensures notices { notices seat.new ≡ notices seat.old };
 
     /// Tells that a call on this end failed.
     fn lost(&self, seat: &mut Self::Seat, end: Self::End) -> Told<Self::End>
@@ -109,7 +115,8 @@ pub trait Desk {
         ensures back { GivesBack end result }
         ensures kept { OnKept result (IfSome (kept seat.new) (λ e. e ≡ end)) }
         ensures given { given seat.new ≡ given seat.old }
-        ensures told { told seat.new ≡ told seat.old };
+        ensures told { told seat.new ≡ told seat.old }
+        ensures notices { notices seat.new ≡ grown (notices seat.old) (Lost (Self.End.named end) ∷ []) };
 
     /// Asks what to do without an open end: to begin a new session, or to stop. It makes no step.
     fn shut(&self, seat: &mut Self::Seat) -> Shut<Self::End>
@@ -119,12 +126,14 @@ pub trait Desk {
         ensures fresh { OnShutNewEnd (λ e. IfSome (Self.End.received e) (λ xs. xs ≡ [])) result }
         ensures kept { kept seat.new ≡ kept seat.old }
         ensures given { given seat.new ≡ given seat.old }
-        ensures told { told seat.new ≡ told seat.old };
+        ensures told { told seat.new ≡ told seat.old }
+        ensures notices { notices seat.new ≡ notices seat.old };
 
     /// Makes every later `give` a Stop: memory ran out.
     fn close(&self, seat: &mut Self::Seat)
         requires { seated seat.old }
         ensures seat { seated seat.new × (place seat.new ≡ place seat.old) }
         ensures given { given seat.new ≡ given seat.old }
-        ensures told { told seat.new ≡ told seat.old };
+        ensures told { told seat.new ≡ told seat.old }
+        ensures notices { notices seat.new ≡ grown (notices seat.old) (NoMemory ∷ []) };
 }

@@ -11,7 +11,7 @@ use Rattle.worker_post.specs.Working.{Tells, Continues, IsFollowing}
 use Rattle.worker_post.specs.Works.{IsAt, IsEnd}
 use Rattle.worker_post.specs.Turns.{HasEnd, GoesOn, Works, EndIs, GoesOnWith, SentTurn, ToldTurn}
 use Rattle.worker_post.specs.declared.post.After.{After}
-use Rattle.worker_post.specs.declared.post.After.TheVariants.{Going, Shut, New, Stop, Kept}
+use Rattle.worker_post.specs.declared.post.After.TheVariants.{Going, Shut, New, Stop, Memory, Kept}
 use Rattle.worker_post.proofs.Streaming.{grows-more, spans-more}
 use Rattle.worker_post.proofs.Sending.{at-sent, end-sent}
 
@@ -39,6 +39,7 @@ goes-with received end held k kept (Going e) is f = subst (λ x. IsFollowing (re
 goes-with received end held k kept (Shut e) is f = tt
 goes-with received end held k kept (New e new) is f = tt
 goes-with received end held k kept (Stop e) is f = tt
+goes-with received end held k kept (Memory e) is f = tt
 goes-with received end held k kept Kept is f = tt
 
 pub told-turn : {E : Type 0} (received : E → Option (List ℕ)) (end : E) (kept : Option E) (t0 : Option (List (List ℕ))) (r0 : Option (List ℕ)) (told : Option (List (List ℕ))) (held : List ℕ) (k : ℕ) (a : After E)
@@ -47,6 +48,7 @@ told-turn received end kept t0 r0 told held k (Going e) is f = subst (λ x. Cont
 told-turn received end kept t0 r0 told held k (Shut e) is f = subst (λ x. Tells t0 told r0 (received x)) (sym is) f
 told-turn received end kept t0 r0 told held k (New e new) is f = subst (λ x. Tells t0 told r0 (received x)) (sym is) f
 told-turn received end kept t0 r0 told held k (Stop e) is f = subst (λ x. Tells t0 told r0 (received x)) (sym is) f
+told-turn received end kept t0 r0 told held k (Memory e) is f = subst (λ x. Tells t0 told r0 (received x)) (sym is) f
 told-turn received end None t0 r0 told held k Kept is f = tt
 told-turn received end (Some e) t0 r0 told held k Kept is f = subst (λ x. Tells t0 told r0 (received x)) (sym is) f
 
@@ -60,6 +62,8 @@ sent-works sent received named end kept g0 t0 s0 r0 g g1 t t1 held k m (Shut e) 
 sent-works sent received named end kept g0 t0 s0 r0 g g1 t t1 held k m (New e new) h given told same went =
     subst (λ x. IsEnd g0 t0 s0 r0 g1 x (sent e) (received e)) (sym told) (subst (λ x. IsEnd g0 t0 s0 r0 g1 t (sent e) x) (sym same.0) (end-sent g0 t0 s0 r0 g g1 t (sent end) (sent e) (received end) held k m h given went))
 sent-works sent received named end kept g0 t0 s0 r0 g g1 t t1 held k m (Stop e) h given told same went =
+    subst (λ x. IsEnd g0 t0 s0 r0 g1 x (sent e) (received e)) (sym told) (subst (λ x. IsEnd g0 t0 s0 r0 g1 t (sent e) x) (sym same.0) (end-sent g0 t0 s0 r0 g g1 t (sent end) (sent e) (received end) held k m h given went))
+sent-works sent received named end kept g0 t0 s0 r0 g g1 t t1 held k m (Memory e) h given told same went =
     subst (λ x. IsEnd g0 t0 s0 r0 g1 x (sent e) (received e)) (sym told) (subst (λ x. IsEnd g0 t0 s0 r0 g1 t (sent e) x) (sym same.0) (end-sent g0 t0 s0 r0 g g1 t (sent end) (sent e) (received end) held k m h given went))
 sent-works sent received named end None g0 t0 s0 r0 g g1 t t1 held k m Kept h given told same went = tt
 sent-works sent received named end (Some e) g0 t0 s0 r0 g g1 t t1 held k m Kept h given told same went =
@@ -86,6 +90,7 @@ told-works sent received named end kept g0 t0 s0 r0 g g1 t t1 held now k j (Goin
 told-works sent received named end kept g0 t0 s0 r0 g g1 t t1 held now k j (Shut e) h given same told = end-told g0 t0 s0 r0 g g1 t t1 (sent end) (sent e) (received end) (received e) held k h given same.0 told
 told-works sent received named end kept g0 t0 s0 r0 g g1 t t1 held now k j (New e new) h given same told = end-told g0 t0 s0 r0 g g1 t t1 (sent end) (sent e) (received end) (received e) held k h given same.0 told
 told-works sent received named end kept g0 t0 s0 r0 g g1 t t1 held now k j (Stop e) h given same told = end-told g0 t0 s0 r0 g g1 t t1 (sent end) (sent e) (received end) (received e) held k h given same.0 told
+told-works sent received named end kept g0 t0 s0 r0 g g1 t t1 held now k j (Memory e) h given same told = end-told g0 t0 s0 r0 g g1 t t1 (sent end) (sent e) (received end) (received e) held k h given same.0 told
 told-works sent received named end None g0 t0 s0 r0 g g1 t t1 held now k j Kept h given same told = tt
 told-works sent received named end (Some e) g0 t0 s0 r0 g g1 t t1 held now k j Kept h given same told = end-told g0 t0 s0 r0 g g1 t t1 (sent end) (sent e) (received end) (received e) held k h given same.0 told
 

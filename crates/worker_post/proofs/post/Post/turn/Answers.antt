@@ -2,6 +2,7 @@ use Rattle.std.proofs.Common.{List, ℕ, Option, sym, ap, ◌∙◌, subst}
 use Rattle.worker_desk.specs.Answers.{grown, message_of}
 use Rattle.worker_desk.specs.declared.desk.Given.{Given}
 use Rattle.worker_post.specs.Working.{Continues}
+use Rattle.worker_post.proofs.Noting.{turn-notes}
 use Rattle.worker_post.proofs.Turning.{sent-works, told-works, grown-none}
 use Rattle.worker_post.proofs.post.Post.turn.Goals as goal
 
@@ -18,3 +19,11 @@ returns-in-Ok-Expect-clause-worked g c = λ g0 t0 s0 r0 h.
     c.args.inbox.now.framer c.receive_turn.new.inbox.framer c.args.inbox.now.told c.receive_turn.new.inbox.told c.receive_turn.result h
     (c.receive_turn.ensures.given ∙ c.in-Ok-Expect.ensures.given ∙ ap (λ (x : Given _). grown (g.D.Desk.given c.args.seat.now) (message_of x)) c.in-Ok-Expect.field-0-is ∙ grown-none (g.D.Desk.given c.args.seat.now)) c.receive_turn.ensures.sent
     (c.receive_turn.ensures.told t0 r0 (subst (λ (t : Option (List (List ℕ))). Continues t0 t r0 (g.D.End.Link.received c.args.end) c.args.inbox.now.framer c.args.inbox.now.told) (sym c.give.ensures.told) h.stream))
+
+pub returns-in-Ok-Out-clause-noted : goal.returns-in-Ok-Out-clause-noted
+returns-in-Ok-Out-clause-noted g c =
+    turn-notes g.D.End.Link.faults (g.D.Desk.kept c.send_turn.new.seat) (g.D.End.Link.named c.args.end) (g.D.End.Link.faults c.args.end) (g.D.Desk.notices c.args.seat.now) (g.D.Desk.notices c.give.new.seat) (g.D.Desk.notices c.send_turn.new.seat) c.send_turn.result c.in-Ok-Out.ensures.notices c.send_turn.ensures.noted
+
+pub returns-in-Ok-Expect-clause-noted : goal.returns-in-Ok-Expect-clause-noted
+returns-in-Ok-Expect-clause-noted g c =
+    turn-notes g.D.End.Link.faults (g.D.Desk.kept c.receive_turn.new.seat) (g.D.End.Link.named c.args.end) (g.D.End.Link.faults c.args.end) (g.D.Desk.notices c.args.seat.now) (g.D.Desk.notices c.give.new.seat) (g.D.Desk.notices c.receive_turn.new.seat) c.receive_turn.result c.in-Ok-Expect.ensures.notices c.receive_turn.ensures.noted

@@ -8,4 +8,5 @@ invariant-loop g l = record {
   given : g.D.Desk.given l.seat ≡ g.D.Desk.given l.initial.seat;
   kept : g.D.Desk.kept l.seat ≡ g.D.Desk.kept l.initial.seat;
   told : g.D.Desk.told l.seat ≡ g.D.Desk.told l.initial.seat;
+  notices : g.D.Desk.notices l.seat ≡ g.D.Desk.notices l.initial.seat;
 }
