@@ -21,7 +21,8 @@ NotesMemory name before now old new = (between : Option (List Notice)) × NotesL
 abbrev pub IsNotedOf : {E : Type 0} → (E → ℕ) → Option E → ℕ → ℕ → Option (List Notice) → Option (List Notice) → Type 0
 IsNotedOf faults last name before old new = (now : ℕ) × (NotesLoss name before now old new ⊎ NotesMemory name before now old new) × IfSome last (λ e. faults e ≡ now)
 
--- One turn over an end with this name, which had failed `before` times. `asked` holds if the desk may have asked the worker to stop.
+-- One turn over an end with this name, which had failed `before` times. `asked` holds if the desk may have asked the
+-- worker to stop or to begin anew.
 abbrev pub Notes : {E : Type 0} → Type 0 → (E → ℕ) → Option E → ℕ → ℕ → Option (List Notice) → Option (List Notice) → After E → Type 0
 Notes asked faults kept name before old new (Going e) = (faults e ≡ before) × (new ≡ old)
 Notes asked faults kept name before old new (Shut e) = NotesLoss name before (faults e) old new

@@ -28,7 +28,8 @@ pub record IsServed {E : Type 0} (sent received : E → Option (List ℕ)) (name
   pub ended : IfSome x.last (λ e. IsEnd x.given x.told (sent x.first) (received x.first) given told (sent e) (received e))
   pub noted : IsNotedOf faults x.last (named x.first) (faults x.first) x.notices notices
 
--- After these sessions, the newest in front, the next one begins over this end, with this given and told. The first one began over `end`.
+-- After these sessions, the newest in front, the next one begins over this end, with this given and told. The first one
+-- began over `end`.
 abbrev pub Follows : {E : Type 0} → (E → Option (List ℕ)) → (E → Option (List ℕ)) → (E → ℕ) → (E → ℕ) → E → Option (List Message) → Option (List (List ℕ)) → Option (List Notice) → List (Session E) → E → Option (List Message) → Option (List (List ℕ)) → Option (List Notice) → Type 0
 Follows sent received named faults end g0 t0 n0 [] first given told notices = (first ≡ end) × (given ≡ g0) × (told ≡ t0) × (notices ≡ n0)
 Follows sent received named faults end g0 t0 n0 (x ∷ xs) first given told notices = IsServed sent received named faults x given told notices × Follows sent received named faults end g0 t0 n0 xs x.first x.given x.told x.notices
