@@ -12,12 +12,12 @@ use Rattle.value_text.specs.declared.fault.Fault.TheVariants as fault
 use Rattle.worker_desk.specs.Streams.{TellsWhereKnown}
 use Rattle.world_core.specs.declared.event.Event.{Event}
 use Rattle.world_core.specs.declared.event.Event.TheVariants as event
-use Rattle.world_core.specs.Laws.{EveryRunIsGood, LossesCount, LastLossHalts, losses}
+use Rattle.world_core.specs.Laws.{EveryRunIsGood, HaltsStay, LossesCount, LastLossHalts, losses}
 use Rattle.world_core.specs.Steps.{Runs}
 use Rattle.world_core.specs.Worlds.{WorldValue, start}
 use Rattle.world_journal.specs.declared.entry.Entry.{Entry}
 use Rattle.world_journal.specs.declared.line.Line.{Line}
-use Rattle.world_journal.specs.Arriving.{IsDone, IsOver}
+use Rattle.world_journal.specs.Arriving.{IsOver, IsSettled, last_phase}
 use Rattle.world_journal.specs.Journals.{events_of, switches, told, told_before, IsJournal}
 use Rattle.world_journal.proofs.Ended.{kept-cut}
 use Rattle.program_answer.specs.declared.answer.Answer.{Answer}
@@ -28,8 +28,9 @@ use Rattle.program_answer.specs.Called.{Change, HasRisen, NetSeen, SourceSeen}
 use Rattle.program_answer.specs.Input.{IsAccepted, IsAcceptedAs, IsRefused}
 use Rattle.program_answer.specs.Worlds.{IsWorldAnswer, start_of}
 use Rattle.program_answer.proofs.Stopping.{reads_more}
-use Rattle.thread_commands.specs.Run.{AreGathered, AreToldSince, HasNext, HaveStreams, IsRanAs, IsRunAnswer, RunStops, TellsCut, HaltsLast, HasRisenBy, line_of, lines_of, many_broken}
-use Rattle.thread_commands.proofs.KeptEnds.{kept-at}
+use Rattle.thread_commands.specs.Run.{AreGathered, AreStreams, AreToldSince, HasNext, IsRanAs, IsRunAnswer, RunStops, TellsCut, HaltsLast, HasRisenBy, line_of, lines_of, many_broken}
+use Rattle.thread_commands.proofs.Gathering.{first-is}
+use Rattle.thread_commands.proofs.KeptEnds.{kept-last}
 use Rattle.thread_commands.proofs.Losing.{halts-last, losses-broken, rose-fewer}
 
 -- ---- the ends that were kept
@@ -42,30 +43,30 @@ was-lost : {E : Type 0} (named faults : E → ℕ) (received : E → Option (Lis
 was-lost named faults received s0 w journal ends broken j counts s i =
     let k = kept-cut (switches s0) named faults received journal ends j.kept (event.Lost s) refl i in counts k.0 k.2 k.3.1
 
-has-next : {E : Type 0} (received : E → Option (List ℕ)) (ends : List E) (e : E) (k : ℕ) (got : List ℕ) (streams : List (List ℕ)) → HaveStreams received ends streams → IsIn ends e → TellsWhereKnown (received e) k got → HasNext k got streams
-has-next received ends e k got streams h i t = let s = h e i in (s.0, s.2, subst (λ (r : Option (List ℕ)). TellsWhereKnown r k got) s.1 t)
+has-next : {E : Type 0} (received : E → Option (List ℕ)) (ends front : List E) (e : E) (k : ℕ) (got : List ℕ) (streams : List (List ℕ)) → AreStreams received ends streams → ends ≡ front ++ e ∷ [] → TellsWhereKnown (received e) k got → HasNext k got streams
+has-next received ends front e k got streams h last t = let f = first-is received ends front e streams last h in subst (HasNext k got) (sym f.first) (subst (λ (r : Option (List ℕ)). TellsWhereKnown r k got) f.of t)
 
-came-next : {E : Type 0} (received : E → Option (List ℕ)) (ends : List E) (first now : Option (List (List ℕ))) (e : E) (k : ℕ) (got : List ℕ) → AreGathered received ends (record { before = first; after = now }) → IsIn ends e → TellsWhereKnown (received e) k got
+came-next : {E : Type 0} (received : E → Option (List ℕ)) (ends front : List E) (first now : Option (List (List ℕ))) (e : E) (k : ℕ) (got : List ℕ) → AreGathered received ends (record { before = first; after = now }) → ends ≡ front ++ e ∷ [] → TellsWhereKnown (received e) k got
     → AreToldSince (record { before = first; after = now }) (HasNext k got)
-came-next received ends first None e k got g i t = tt
-came-next received ends first (Some streams) e k got g i t = record { earlier = g.earlier; since = g.since; known = g.known; told = g.told; such = has-next received ends e k got g.since g.such i t }
+came-next received ends front first None e k got g last t = tt
+came-next received ends front first (Some streams) e k got g last t = record { earlier = g.earlier; since = g.since; known = g.known; told = g.told; such = has-next received ends front e k got g.since g.such last t }
 
-was-foreign : {E : Type 0} (named faults : E → ℕ) (received : E → Option (List ℕ)) (s0 w : WorldValue) (journal : List Entry) (ends : List E) (gathered : Change (Option (List (List ℕ)))) → IsJournal named faults received s0 w journal ends → AreGathered received ends gathered
+was-foreign : {E : Type 0} (named faults : E → ℕ) (received : E → Option (List ℕ)) (s0 w : WorldValue) (journal : List Entry) (ends : List E) (gathered : Change (Option (List (List ℕ)))) → HaltsStay → IsJournal named faults received s0 w journal ends → AreGathered received ends gathered
     → (before rest : List Event) (s : ℕ) (side : Side) (got : List ℕ) → events_of journal ≡ before ++ event.Foreign s side got ∷ rest → AreToldSince gathered (HasNext (told s side before) got)
-was-foreign named faults received s0 w journal ends gathered j g before rest s side got is =
-    let k = kept-at (switches s0) named faults received journal ends j.kept before rest (event.Foreign s side got) refl is in
+was-foreign named faults received s0 w journal ends gathered stay j g before rest s side got is =
+    let k = kept-last (switches s0) named faults received journal ends j.kept stay s0 w j.runs before rest s side got is in
     let many : told_before s side k.entries ≡ told s side before = ap (told s side) k.same in
-    subst (λ (n : ℕ). AreToldSince gathered (HasNext n got)) many (came-next received ends gathered.before gathered.after k.end (told_before s side k.entries) got g k.kept k.met.1)
+    subst (λ (n : ℕ). AreToldSince gathered (HasNext n got)) many (came-next received ends k.front gathered.before gathered.after k.end (told_before s side k.entries) got g k.last k.met.1)
 
 -- ---- the run
 
-still-done : (lines : List Line) (w : WorldValue) → is_some w.fleet.control.halt ≡ false → IsOver lines w → IsDone lines w
-still-done lines w still (inl halted) = absurd (halted (none-of w.fleet.control.halt still))
-  where
-    none-of : {X : Type 0} (o : Option X) → is_some o ≡ false → o ≡ None
-    none-of None e = refl
-    none-of (Some x) e = cc
-still-done lines w still (inr done) = done
+none-of : {X : Type 0} (o : Option X) → is_some o ≡ false → o ≡ None
+none-of None e = refl
+none-of (Some x) e = cc
+
+still-last : (w : WorldValue) → is_some w.fleet.control.halt ≡ false → IsSettled w → w.fleet.control.phase ≡ last_phase w
+still-last w still (inl halts) = absurd (halts (none-of w.fleet.control.halt still))
+still-last w still (inr last) = last
 
 all-cost : {E : Type 0} (named faults : E → ℕ) (received : E → Option (List ℕ)) (s0 w : WorldValue) (journal : List Entry) (ends : List E) (broken : Change ℕ) → IsJournal named faults received s0 w journal ends → HasRisenBy (many_broken faults ends) broken → HasRisenBy (losses (events_of journal)) broken
 all-cost named faults received s0 w journal ends broken j many = rose-fewer broken.before (losses (events_of journal)) (many_broken faults ends) broken.after (losses-broken (switches s0) named faults received journal ends j.kept) many
@@ -78,8 +79,8 @@ loss-halts counting last d versions before v x s runs lost halts = halts-last co
 
 -- the report of a run is that of its journal and world
 pub ran_as : {E : Type 0} (named faults : E → ℕ) (received : E → Option (List ℕ)) (net : NetSeen) (d : Doc) (versions : List Version) (s0 w : WorldValue) (journal : List Entry) (ends : List E) (lines : List Line) (a : Answer)
-    → s0 ≡ start_of d versions → EveryRunIsGood s0 → LossesCount → LastLossHalts → IsJournal named faults received s0 w journal ends → AreCounted faults ends net.broken → HasRisenBy (many_broken faults ends) net.broken → AreGathered received ends net.gathered → lines ≡ lines_of d → IsOver lines w → IsWorldAnswer w (events_of journal) a → IsRanAs net d versions a
-ran_as named faults received net d versions s0 w journal ends lines a is good counting last j counts many g same over r = record {
+    → s0 ≡ start_of d versions → EveryRunIsGood s0 → LossesCount → LastLossHalts → HaltsStay → IsJournal named faults received s0 w journal ends → AreCounted faults ends net.broken → HasRisenBy (many_broken faults ends) net.broken → AreGathered received ends net.gathered → lines ≡ lines_of d → IsOver lines w → IsWorldAnswer w (events_of journal) a → IsRanAs net d versions a
+ran_as named faults received net d versions s0 w journal ends lines a is good counting last stay j counts many g same over r = let done : IsOver (lines_of d) w = subst (λ (ls : List Line). IsOver ls w) same over in record {
   halts = is_some w.fleet.control.halt;
   status = r.status;
   run = record {
@@ -88,11 +89,13 @@ ran_as named faults received net d versions s0 w journal ends lines a is good co
     runs = subst (λ (x : WorldValue). Runs x (events_of journal) w) is j.runs;
     good = good (events_of journal) w j.runs;
     ends = refl;
-    done = λ still. still-done (lines_of d) w still (subst (λ (ls : List Line). IsOver ls w) same over);
+    came = done.came;
+    spent = done.spent;
+    done = λ still. still-last w still done.settled;
     lost = was-lost named faults received s0 w journal ends net.broken j counts;
     costs = all-cost named faults received s0 w journal ends net.broken j many;
     last = loss-halts counting last d versions;
-    foreign = was-foreign named faults received s0 w journal ends net.gathered j g;
+    foreign = was-foreign named faults received s0 w journal ends net.gathered stay j g;
     text_is = r.report;
   };
 }

@@ -1,5 +1,5 @@
 -- What `nkctl run` answers: the report of a run of a document's policies, with a worker for each session and each switch.
-use Rattle.std.specs.Prelude.{◌≡◌, ◌≢◌, ℕ, ◌+◌, ◌-◌, ◌^◌, ◌≤◌, min, ltb, Bool, false, List, ◌∷◌, ◌++◌, length, map, None, Option, Some, IfSome, is_some}
+use Rattle.std.specs.Prelude.{◌≡◌, ◌≢◌, ℕ, ◌+◌, ◌-◌, ◌^◌, ◌≤◌, min, ltb, Bool, false, List, [], ◌∷◌, ◌++◌, length, map, reverse, None, Option, Some, IfSome, is_some}
 use Rattle.std.specs.List.{filter}
 use Rattle.nk_values.specs.Members.{IsIn}
 use Rattle.document_text.specs.declared.document.PacketLine.{PacketLine}
@@ -16,7 +16,7 @@ use Rattle.world_core.specs.Laws.{AreGood, losses}
 use Rattle.world_core.specs.Steps.{Runs, Step}
 use Rattle.world_core.specs.Worlds.{WorldValue}
 use Rattle.world_journal.specs.declared.line.Line.{Line}
-use Rattle.world_journal.specs.Arriving.{IsDone}
+use Rattle.world_journal.specs.Arriving.{AreSpent, HaveAllCome, last_phase}
 use Rattle.world_journal.specs.Journals.{told}
 use Rattle.program_answer.specs.declared.answer.Answer.{Answer}
 use Rattle.program_answer.specs.declared.answer.AnswerError.{AnswerError}
@@ -49,17 +49,18 @@ pub record ToldSince (before : Option (List (List ℕ))) (all : List (List ℕ))
 abbrev pub AreToldSince : Change (Option (List (List ℕ))) → (List (List ℕ) → Type 0) → Type 0
 AreToldSince gathered AreSuch = IfSome gathered.after (λ all. ToldSince gathered.before all AreSuch)
 
--- one of these streams has behind k messages what `got` spells, or a fault at which these bytes are held
+-- The first of these streams has behind k messages what `got` spells, or a fault at which these bytes are held.
 abbrev pub HasNext : ℕ → List ℕ → List (List ℕ) → Type 0
-HasNext k got streams = (stream : List ℕ) × IsIn streams stream × TellsAt stream k got
+HasNext k got [] = ⊥
+HasNext k got (stream ∷ streams) = TellsAt stream k got
 
--- what these ends received is among the streams
-abbrev pub HaveStreams : {E : Type 0} → (E → Option (List ℕ)) → List E → List (List ℕ) → Type 0
-HaveStreams {E} received ends streams = (e : E) → IsIn ends e → (stream : List ℕ) × (received e ≡ Some stream) × IsIn streams stream
+-- these streams are what these ends received, the last end first
+abbrev pub AreStreams : {E : Type 0} → (E → Option (List ℕ)) → List E → List (List ℕ) → Type 0
+AreStreams received ends streams = map Some streams ≡ map received (reverse ends)
 
--- What these ends received was told since.
+-- What these ends received was told since, the last end first.
 abbrev pub AreGathered : {E : Type 0} → (E → Option (List ℕ)) → List E → Change (Option (List (List ℕ))) → Type 0
-AreGathered {E} received ends gathered = AreToldSince gathered (HaveStreams received ends)
+AreGathered {E} received ends gathered = AreToldSince gathered (AreStreams received ends)
 
 -- how many of these ends had failed
 abbrev pub many_broken : {E : Type 0} → (E → ℕ) → List E → ℕ
@@ -75,14 +76,16 @@ HasRisenBy n count = min (count.before + n) (2 ^ 64 - 1) ≤ count.after
 abbrev pub HaltsLast : Doc → List Version → Type 0
 HaltsLast d versions = (before : List Event) (v x : WorldValue) (s : ℕ) → Runs (start_of d versions) before v → Step v (event.Lost s) x → x.fleet.control.halt ≢ None → losses before ≡ d.settings.rejoins
 
--- The events lead from the start of the document's policies to this world, and each packet that came in is handled by one policy. If the updates do not stand still, the last policy handles all packets, each line came in once, and no copy may take another hop. Each lost session cost a broken end: the net's count of these rose by as many. The updates stand still by a lost session only if as many as the document lets return were lost before it. Foreign bytes came next at an end that was given back in this call, behind as many messages as that side of the switch was told before in its session. The text is the report of the events and of that world; `halts` says whether the updates stand still.
+-- The events lead from the start of the document's policies to this world, and each packet that came in is handled by one policy. Each line came in once and no copy may take another hop, also if the updates stand still. If they do not, the last policy handles all packets. Each lost session cost a broken end: the net's count of these rose by as many. The updates stand still by a lost session only if as many as the document lets return were lost before it. Foreign bytes came next in the first stream that the net told in this call, behind as many messages as that side of the switch was told before in its session. They halt, so their end is kept last and given back first. A net tells no names of ends, so none is said. The text is the report of the events and of that world; `halts` says whether the updates stand still.
 pub record IsRunOf (halts : Bool) (net : NetSeen) (d : Doc) (versions : List Version) (text : List ℕ) : Type 0 where
   pub events : List Event
   pub world : WorldValue
   pub runs : Runs (start_of d versions) events world
   pub good : AreGood world
   pub ends : is_some world.fleet.control.halt ≡ halts
-  pub done : halts ≡ false → IsDone (lines_of d) world
+  pub came : HaveAllCome (lines_of d) world
+  pub spent : AreSpent world
+  pub done : halts ≡ false → world.fleet.control.phase ≡ last_phase world
   pub lost : (s : ℕ) → IsIn events (event.Lost s) → HasRisen net.broken
   pub costs : HasRisenBy (losses events) net.broken
   pub last : HaltsLast d versions

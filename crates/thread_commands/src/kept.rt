@@ -11,7 +11,7 @@ use std::alloc::{AllocError, Global};
 use world_core::Event;
 use world_journal::Entry;
 
-/// Gives ends back to their net.
+/// Gives ends back to their net, the last one first.
 pub fn take_back<N: Net>(net: &mut N, ends: Vec<N::End>)
     ensures later { N.broken net.old ≤ N.broken net.new }
     ensures broken { (e : N.End) → IsIn ends.items e → 0 < N.End.faults e → Rose (N.broken net.old) (N.broken net.new) }

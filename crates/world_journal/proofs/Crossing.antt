@@ -4,7 +4,7 @@ use denote.RattleType.{RattleType}
 use denote.Enum.Enum.{Enum}
 use denote.Enum.Declared as E
 use denote.Struct.Declared as S
-use denote.Builtin.{bool, u32}
+use denote.Builtin.{bool, u32, u64}
 use denote.Struct.Field.{row_field, bool-field, u64-field, usize-field}
 use denote.Param.Send.{IsSend, SendAt, LiveAt, enum_send_at, recorded_send_of, sendable, view_send}
 use denote.Param.SendFields.{variants_send, declared_send, as_row_send}
@@ -202,10 +202,16 @@ run-parts L E a b c e = declared_send (run_inside.the_type L E a b c) (
                     (
                       vec-send u32 (search sendable),
                       (
-                        vec-send (option.the_row E) (options.the_send E e),
+                        vec-send u64 (search sendable),
                         (
-                          vec-send (option.the_row E) (options.the_send E e),
-                          tt,
+                          vec-send u64 (search sendable),
+                          (
+                            vec-send (option.the_row E) (options.the_send E e),
+                            (
+                              vec-send (option.the_row E) (options.the_send E e),
+                              tt,
+                            ),
+                          ),
                         ),
                       ),
                     ),

@@ -1,3 +1,4 @@
+pub mod Counting
 pub mod Crossing
 pub mod Ended
 pub mod Giving

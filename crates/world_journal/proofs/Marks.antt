@@ -1,12 +1,14 @@
 -- Which lines have come in.
-use Rattle.std.proofs.Common.{◌≡◌, ℕ, zero, suc, ◌+◌, ◌<◌, ◌⊎◌, inl, inr, Bool, true, false, List, [], ◌∷◌, ◌++◌, length, replicate, Some, slice_get, slice_set, refl, sym, ap, subst, ◌∙◌, arith}
-use Rattle.std.specs.Prelude.{IsPermutation}
+use Rattle.std.proofs.Common.{◌≡◌, ℕ, zero, suc, ◌+◌, ◌<◌, ◌≤◌, ◌==◌, ◌⊎◌, inl, inr, Bool, true, false, List, [], ◌∷◌, ◌++◌, length, replicate, Option, None, Some, slice_get, slice_set, refl, sym, ap, subst, ◌∙◌, arith}
+use Rattle.std.specs.Prelude.{IsPermutation, IfNone, IfSome, IsTrue, ◌↔◌}
 use Rattle.std.proofs.lemmas.List.{length-set, length-replicate}
-use Rattle.std.proofs.lemmas.List.Sorted.{IsPermutation-refl, IsPermutation-cons, IsPermutation-trans, IsPermutation-append, IsPermutation-append_comm}
+use Rattle.std.proofs.lemmas.List.Sorted.{length_permutation, IsPermutation-refl, IsPermutation-cons, IsPermutation-trans, IsPermutation-append, IsPermutation-append_comm}
+use Rattle.std.proofs.lemmas.Option.{slice_get_within}
+use Rattle.std.proofs.lemmas.Bool.Decides.{nat_tests}
 use Rattle.update_laws.specs.Traffic.{Arrived}
 use Rattle.world_core.specs.Worlds.{WorldValue}
 use Rattle.world_journal.specs.declared.line.Line.{Line}
-use Rattle.world_journal.specs.Arriving.{lines_of, marked, unmarked, HaveArrived, AreSpent, IsDone, last_phase}
+use Rattle.world_journal.specs.Arriving.{lines_of, marked, unmarked, HaveArrived, HaveAllCome}
 
 some-is : {X : Type 0} (x y : X) → Some x ≡ Some y → x ≡ y
 some-is x y e = cc
@@ -69,14 +71,47 @@ arrived-same lines marks arrivals now h is = record {
 pub left-less : (marks : List Bool) (k left : ℕ) → left ≡ unmarked marks → slice_get marks k ≡ Some false → (0 < left) × ((n : ℕ) → n + 1 ≡ left → n ≡ unmarked (slice_set marks k true))
 left-less marks k left is m = (omega (arith, unmarked-set marks k m), λ n e. omega (arith, unmarked-set marks k m))
 
-pub all-done : (lines : List Line) (marks : List Bool) (w : WorldValue) → HaveArrived lines marks w.arrivals → unmarked marks ≡ 0 → w.fleet.control.phase ≡ last_phase w → AreSpent w → IsDone lines w
-all-done lines marks w h all idle spent = record {
-  idle = idle;
-  arrived = subst (λ (ls : List Line). IsPermutation (lines_of w.arrivals) ls) (marked-all lines marks h.long all) h.same;
-  spent = spent;
-}
+marked-length : (lines : List Line) (marks : List Bool) → length marks ≡ length lines → length (marked lines marks) + unmarked marks ≡ length lines
+marked-length [] [] e = refl
+marked-length [] (b ∷ bs) e = absurd (omega arith)
+marked-length (y ∷ ys) [] e = absurd (omega arith)
+marked-length (y ∷ ys) (true ∷ bs) e = omega (arith, marked-length ys bs (omega arith))
+marked-length (y ∷ ys) (false ∷ bs) e = omega (arith, marked-length ys bs (omega arith))
+
+is-zero : (left : ℕ) → (left == 0) ≡ true → left ≡ 0
+is-zero left e = grind (arith, nat_tests)
+
+zero-is : (left : ℕ) → left ≡ 0 → (left == 0) ≡ true
+zero-is left e = grind (arith, nat_tests)
+
+none-unmarked : (lines : List Line) (marks : List Bool) (w : WorldValue) → HaveArrived lines marks w.arrivals → HaveAllCome lines w → unmarked marks ≡ 0
+none-unmarked lines marks w h all =
+    let marked_ = length_permutation (lines_of w.arrivals) (marked lines marks) h.same in
+    let lines_ = length_permutation (lines_of w.arrivals) lines all in
+    omega (arith, marked-length lines marks h.long, marked_, lines_)
+
+-- no line is left exactly if each came in once
+pub all-came : (lines : List Line) (marks : List Bool) (w : WorldValue) (left : ℕ) → HaveArrived lines marks w.arrivals → left ≡ unmarked marks → IsTrue (left == 0) ↔ HaveAllCome lines w
+all-came lines marks w left h is = (
+  λ none. subst (λ (ls : List Line). IsPermutation (lines_of w.arrivals) ls) (marked-all lines marks h.long (sym is ∙ is-zero left none)) h.same,
+  λ all. zero-is left (is ∙ none-unmarked lines marks w h all),
+)
 
 pub not-left : (b : Bool) (P : Type 0) → b ≡ false → (b ≡ true) ⊎ P → P
 not-left true P e h = cc
 not-left false P e (inl t) = cc
 not-left false P e (inr p) = p
+
+-- a mark is there exactly if its line is
+pub mark-some : (marks : List Bool) (lines : List Line) (k : ℕ) (r : Option Bool) → r ≡ slice_get marks k → length marks ≡ length lines → IfSome r (λ _. k < length lines)
+mark-some marks lines k None is long = tt
+mark-some marks lines k (Some b) is long = let within : k < length marks = slice_get_within marks k b (sym is) in omega (arith, within, long)
+
+none-past : {X : Type 0} (xs : List X) (k : ℕ) → slice_get xs k ≡ None → length xs ≤ k
+none-past [] k e = omega arith
+none-past (x ∷ xs) zero e = cc
+none-past (x ∷ xs) (suc k) e = omega (arith, none-past xs k e)
+
+pub mark-none : (marks : List Bool) (lines : List Line) (k : ℕ) (r : Option Bool) → r ≡ slice_get marks k → length marks ≡ length lines → IfNone r (length lines ≤ k)
+mark-none marks lines k None is long = let past : length marks ≤ k = none-past marks k (sym is) in omega (arith, past, long)
+mark-none marks lines k (Some b) is long = tt

@@ -40,7 +40,7 @@ get-replicate (suc n) (suc i) x y h = get-replicate n i x y h
 
 -- ---- one event more
 
-no-return : (s : ℕ) (e : Event) → is_rejoin e ≡ false → is_return s e ≡ false
+pub no-return : (s : ℕ) (e : Event) → is_rejoin e ≡ false → is_return s e ≡ false
 no-return s event.Begin f = refl
 no-return s (event.Send t) f = refl
 no-return s (event.Take t) f = refl
@@ -112,14 +112,6 @@ told-by s side es e false is = told-more s side es e (is_told s side e) refl is 
 pub told-last : (s : ℕ) (side : Side) (es : List Event) (e : Event) → told s side (es ++ e ∷ []) ≡ told_on s side e (told s side es)
 told-last s side es e = told-by s side es e (is_return s e) refl
 
-told-step : (n count : ℕ) (b c : Bool) → count ≤ n → cond b 0 (cond c (count + 1) count) ≤ n + 1
-told-step n count true c l = omega arith
-told-step n count false true l = omega (arith, l)
-told-step n count false false l = omega (arith, l)
-
-pub told-within : (s : ℕ) (side : Side) (e : Event) (n count : ℕ) → count ≤ n → told_on s side e count ≤ n + 1
-told-within s side e n count l = told-step n count (is_return s e) (is_told s side e) l
-
 -- ---- the numbers of sessions, and the ends that are laid out
 
 numbers-same : (numbers : List ℕ) (journal : List Entry) (w : ℕ) (e : Event) → is_rejoin e ≡ false → AreNumbers numbers journal → AreNumbers numbers (journal ++ entry w e ∷ [])
@@ -129,7 +121,7 @@ returns-here : (s : ℕ) → is_return s (event.Rejoin s) ≡ true
 returns-here s = grind (arith, nat_tests)
 
 -- what was put there
-set-get : {X : Type 0} (xs : List X) (i : ℕ) (x v : X) → slice_get xs i ≡ Some x → slice_get (slice_set xs i v) i ≡ Some v
+pub set-get : {X : Type 0} (xs : List X) (i : ℕ) (x v : X) → slice_get xs i ≡ Some x → slice_get (slice_set xs i v) i ≡ Some v
 set-get [] i x v h = cc
 set-get (y ∷ ys) zero x v h = refl
 set-get (y ∷ ys) (suc i) x v h = set-get ys i x v h

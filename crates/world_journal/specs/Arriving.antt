@@ -45,12 +45,16 @@ last_phase w = phase.Idle (length w.versions)
 abbrev pub AreSpent : WorldValue → Type 0
 AreSpent w = All (λ (f : Flight). w.limit ≤ f.hops) w.flights
 
--- The last policy handles all packets, each line came in once, and no copy may take another hop.
-pub record IsDone (lines : List Line) (w : WorldValue) : Type 0 where
-  pub idle : w.fleet.control.phase ≡ last_phase w
-  pub arrived : IsPermutation (lines_of w.arrivals) lines
-  pub spent : AreSpent w
+-- no policy is to come: the updates have halted, or the last policy handles all packets
+abbrev pub IsSettled : WorldValue → Type 0
+IsSettled w = (w.fleet.control.halt ≢ None) ⊎ (w.fleet.control.phase ≡ last_phase w)
 
--- A run is over where it is done, or the coordinator has halted.
-abbrev pub IsOver : List Line → WorldValue → Type 0
-IsOver lines w = (w.fleet.control.halt ≢ None) ⊎ IsDone lines w
+-- each line came in once
+abbrev pub HaveAllCome : List Line → WorldValue → Type 0
+HaveAllCome lines w = IsPermutation (lines_of w.arrivals) lines
+
+-- A run is over if no policy is to come, each line came in once, and no copy may take another hop. After a halt packets go on to their end.
+pub record IsOver (lines : List Line) (w : WorldValue) : Type 0 where
+  pub settled : IsSettled w
+  pub came : HaveAllCome lines w
+  pub spent : AreSpent w

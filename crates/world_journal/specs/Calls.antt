@@ -1,7 +1,7 @@
 -- What the calls of a session's or a switch's worker answer, by the state that they find.
 use Rattle.std.specs.Prelude.{◌≡◌, ℕ, ◌+◌, ◌-◌, ◌<◌, ◌≤◌, ◌⊎◌, leb, ltb, if◌then◌else◌, Bool, true, false, List, [], ◌∷◌, ◌++◌, Option, Some, None, slice_get, slice_set}
-use Rattle.worker_desk.specs.declared.gate.Kind.{Kind}
-use Rattle.worker_desk.specs.declared.gate.Kind.TheVariants as kind
+use Rattle.outside_net.specs.declared.gate.Kind.{Kind}
+use Rattle.outside_net.specs.declared.gate.Kind.TheVariants as kind
 use Rattle.update_coordinator.specs.declared.cause.Side.{Side}
 use Rattle.update_coordinator.specs.declared.cause.Side.TheVariants as side
 use Rattle.world_core.specs.declared.event.Event.{Event}
@@ -67,6 +67,7 @@ pub record Cuts {E : Type 0} (w : ℕ) (e : Event) (end : E) (old new : RunValue
 pub record Arrives {E : Type 0} (w : ℕ) (lines : List Line) (place : ℕ) (old new : RunValue E) : Type 0 where
   pub line : Line
   pub here : slice_get lines place ≡ Some line
+  pub first : slice_get old.arrived place ≡ Some false
   pub step : Step old.held.world (event.Arrive line.packet line.tag) new.held.world
   pub journal : new.held.journal ≡ old.held.journal ++ entry w (event.Arrive line.packet line.tag) ∷ []
   pub ends : new.held.ends ≡ old.held.ends

@@ -1,5 +1,5 @@
 -- A journal, the world that it leads to, and the ends that were kept.
-use Rattle.std.specs.Prelude.{◌≡◌, ℕ, ◌+◌, ◌*◌, ◌<◌, ◌==◌, if◌then◌else◌, Bool, false, List, [], ◌∷◌, ◌++◌, length, map, Option}
+use Rattle.std.specs.Prelude.{◌≡◌, ℕ, ◌+◌, ◌*◌, ◌<◌, ◌==◌, if◌then◌else◌, Bool, false, List, [], ◌∷◌, ◌++◌, length, map, Option, Some, None}
 use Rattle.std.specs.List.{AllByRecursion, filter}
 use Rattle.update_coordinator.specs.declared.cause.Side.{Side}
 use Rattle.update_coordinator.specs.declared.cause.Side.TheVariants as side
@@ -49,6 +49,12 @@ abbrev pub is_told : ℕ → Side → Event → Bool
 is_told s side.Controller (event.Heard t) = t == s
 is_told s side.Switch (event.Take t) = t == s
 is_told s _ _ = false
+
+-- the side of a switch at which a message was told, if one was
+abbrev pub told_at : Event → Option (Side × ℕ)
+told_at (event.Heard s) = Some (side.Controller, s)
+told_at (event.Take s) = Some (side.Switch, s)
+told_at _ = None
 
 -- how many were told there in the present session
 abbrev pub told : ℕ → Side → List Event → ℕ

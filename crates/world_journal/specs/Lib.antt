@@ -6,4 +6,5 @@ pub mod Runs
 pub mod Calls
 pub mod Moves
 pub mod Finishing
+pub mod Asking
 pub mod Laws

@@ -1,12 +1,12 @@
 -- What the calls of the caller and of the workers that bring packets in answer, by the state that they find.
-use Rattle.std.specs.Prelude.{◌≡◌, ◌≢◌, ◌⊎◌, ℕ, ◌+◌, ◌<◌, true, List, None, Some, slice_get}
+use Rattle.std.specs.Prelude.{◌≡◌, ◌≢◌, ◌⊎◌, ℕ, ◌+◌, ◌<◌, ◌≤◌, true, false, List, length, Some, slice_get}
 use Rattle.world_core.specs.declared.event.Event.{Event}
 use Rattle.world_core.specs.declared.event.Event.TheVariants as event
 use Rattle.world_core.specs.Steps.{IsEnabled}
-use Rattle.world_journal.specs.Arriving.{IsOver, last_phase}
+use Rattle.world_journal.specs.Arriving.{last_phase}
 use Rattle.world_journal.specs.Calls.{Made, Arrives, IsBarred, Returns}
 use Rattle.world_journal.specs.Journals.{events_of, name_of, session}
-use Rattle.world_journal.specs.Runs.{RunValue}
+use Rattle.world_journal.specs.Runs.{HasEnded, RunValue}
 use Rattle.world_journal.specs.declared.line.Line.{Line}
 use Rattle.world_journal.specs.declared.moves.Did.{Did}
 use Rattle.world_journal.specs.declared.moves.Did.TheVariants.{Step, Nothing, Stop}
@@ -14,16 +14,16 @@ use Rattle.world_journal.specs.declared.updates.Absence.{Absence}
 use Rattle.world_journal.specs.declared.updates.Update.{Update}
 use Rattle.world_journal.specs.declared.updates.Update.TheVariants as update
 
--- The packet at a place comes in; or it has come in before, or cannot; or there is none there, or the run was closed.
+-- The packet at a place comes in; or it has come in before, or cannot; or there is no line there, or the run was closed.
 abbrev pub ComesIn : {E : Type 0} → ℕ → List Line → ℕ → RunValue E → RunValue E → Did → Type 0
-ComesIn w lines place old new Step = Arrives w lines place old new
-ComesIn w lines place old new Nothing = ((slice_get old.arrived place ≡ Some true) ⊎ IsBarred old.held.world lines place) × (new ≡ old)
-ComesIn w lines place old new Stop = ((old.closed ≡ true) ⊎ (slice_get old.arrived place ≡ None)) × (new ≡ old)
+ComesIn w lines place old new Step = (old.closed ≡ false) × Arrives w lines place old new
+ComesIn w lines place old new Nothing = (old.closed ≡ false) × (place < length lines) × ((slice_get old.arrived place ≡ Some true) ⊎ IsBarred old.held.world lines place) × (new ≡ old)
+ComesIn w lines place old new Stop = ((old.closed ≡ true) ⊎ (length lines ≤ place)) × (new ≡ old)
 
 -- A copy takes a hop; or none may take one now; or the run was closed.
 abbrev pub HopsOn : {E : Type 0} → ℕ → RunValue E → RunValue E → Did → Type 0
-HopsOn w old new Step = (k : ℕ) × Made w (event.Hop k) old new
-HopsOn w old new Nothing = ((k : ℕ) → ¬ IsEnabled old.held.world (event.Hop k)) × (new ≡ old)
+HopsOn w old new Step = (old.closed ≡ false) × ((k : ℕ) × Made w (event.Hop k) old new)
+HopsOn w old new Nothing = (old.closed ≡ false) × ((k : ℕ) → ¬ IsEnabled old.held.world (event.Hop k)) × (new ≡ old)
 HopsOn w old new Stop = (old.closed ≡ true) × (new ≡ old)
 
 -- an update begins, or something is told of a drain
@@ -43,15 +43,19 @@ pub record IsAbsence {E : Type 0} (n : ℕ) (run : RunValue E) (a : Absence) : T
   pub missing : IsMissing a.place run
   pub name : a.name ≡ name_of n a.place (session a.place (events_of run.held.journal) + 1)
 
--- Such a step is made; or a switch is to return; or neither can be now; or the run was closed or is over.
-abbrev pub Updates : {E : Type 0} → ℕ → ℕ → List Line → RunValue E → RunValue E → Update → Type 0
-Updates n w lines old new update.Step = (e : Event) × IsUpdate e × Made w e old new
-Updates n w lines old new (update.Absent a) = IsAbsence n old a × (new ≡ old)
-Updates n w lines old new update.Nothing = ((e : Event) → IsUpdate e → ¬ IsEnabled old.held.world e) × ((s : ℕ) → s < n → ¬ IsMissing s old) × (new ≡ old)
-Updates n w lines old new update.Stop = ((old.closed ≡ true) ⊎ IsOver lines old.held.world) × (new ≡ old)
+-- none of n switches is to return
+abbrev pub NoneMissing : {E : Type 0} → ℕ → RunValue E → Type 0
+NoneMissing n run = (s : ℕ) → s < n → ¬ IsMissing s run
 
--- The switch of an absence returns over a pair; or it is not to return any more.
+-- A switch is to return; or none is and such a step is made, or none can be made now; or the run was closed or is over.
+abbrev pub Updates : {E : Type 0} → ℕ → ℕ → List Line → RunValue E → RunValue E → Update → Type 0
+Updates n w lines old new update.Step = (¬ HasEnded lines old) × NoneMissing n old × ((e : Event) × IsUpdate e × Made w e old new)
+Updates n w lines old new (update.Absent a) = (¬ HasEnded lines old) × IsAbsence n old a × (new ≡ old)
+Updates n w lines old new update.Nothing = (¬ HasEnded lines old) × NoneMissing n old × ((e : Event) → IsUpdate e → ¬ IsEnabled old.held.world e) × (new ≡ old)
+Updates n w lines old new update.Stop = HasEnded lines old × (new ≡ old)
+
+-- The switch of an absence returns over a pair; or it is not to return any more; or the run was closed.
 abbrev pub Rejoins : {E : Type 0} → ℕ → ℕ → Absence → E × E → RunValue E → RunValue E → Did → Type 0
-Rejoins n w a pair old new Step = IsAbsence n old a × Returns w a.place pair old new
-Rejoins n w a pair old new Nothing = (¬ IsAbsence n old a) × (new ≡ old)
+Rejoins n w a pair old new Step = (old.closed ≡ false) × IsAbsence n old a × Returns w a.place pair old new
+Rejoins n w a pair old new Nothing = (old.closed ≡ false) × (¬ IsAbsence n old a) × (new ≡ old)
 Rejoins n w a pair old new Stop = (old.closed ≡ true) × (new ≡ old)

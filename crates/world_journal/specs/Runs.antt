@@ -4,8 +4,9 @@ use Rattle.update_coordinator.specs.declared.cause.Side.{Side}
 use Rattle.update_coordinator.specs.declared.cause.Side.TheVariants as side
 use Rattle.world_core.specs.Channels.{IsQuiet, newest_at}
 use Rattle.world_journal.specs.declared.entry.Entry.{Entry}
-use Rattle.world_journal.specs.Journals.{HeldValue, events_of, session}
-use Rattle.world_journal.specs.Arriving.{last_phase}
+use Rattle.world_journal.specs.declared.line.Line.{Line}
+use Rattle.world_journal.specs.Journals.{HeldValue, events_of, session, told_before}
+use Rattle.world_journal.specs.Arriving.{IsOver, last_phase}
 
 -- The journal with its world, which lines have come in, whether the run was closed, how many seats were laid back, and of each switch whether the last message of its session, and its own, still waits to be handed out, and the new ends that are laid out for the workers of both.
 pub record RunValue (E : Type 0) : Type 0 where
@@ -87,7 +88,24 @@ pub record HasSessions {E : Type 0} (n : ℕ) (named : E → ℕ) (received : E 
   pub to_new : AreOut n named received to_ends
   pub back_new : AreOut n named received back_ends
 
+-- ---- messages
+
+-- how many were told at this side of each switch, in its present session
+abbrev pub AreCounts : Side → List ℕ → List Entry → Type 0
+AreCounts side counts journal = (s count : ℕ) → slice_get counts s ≡ Some count → count ≡ told_before s side journal
+
+-- What a run keeps of the messages that were told, with n switches.
+pub record HasCounts (n : ℕ) (journal : List Entry) (to_told back_told : List ℕ) : Type 0 where
+  pub to_many : length to_told ≡ n
+  pub back_many : length back_told ≡ n
+  pub to_counts : AreCounts side.Controller to_told journal
+  pub back_counts : AreCounts side.Switch back_told journal
+
 -- ---- the end of a run
+
+-- it was closed, or is over
+abbrev pub HasEnded : {E : Type 0} → List Line → RunValue E → Type 0
+HasEnded lines r = (r.closed ≡ true) ⊎ IsOver lines r.held.world
 
 -- The workers of switch s are to stop: the run is closed or has halted, or the last policy handles all packets and no message is left for either of them.
 abbrev pub Stops : {E : Type 0} → RunValue E → ℕ → Type 0

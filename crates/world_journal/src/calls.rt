@@ -1,12 +1,12 @@
 // What a session's or a switch's worker asks of a run: each answer is decided by the state found.
-ghost use Rattle.std.specs.Prelude.{◌≡◌, ◌<◌, ◌+◌, ◌%◌, ◌^◌, ◌≤◌, ◌↔◌, [], IfOk, IfErr, IfSome, OnOk, OnErr, Err, Some, IsTrue};
+ghost use Rattle.std.specs.Prelude.{◌≡◌, ◌<◌, ◌+◌, ◌%◌, ◌≤◌, ◌↔◌, [], IfOk, IfErr, IfSome, OnOk, OnErr, Err, Some, IsTrue};
 ghost use Rattle.openflow_wire.specs.Writing.{Fits};
 ghost use Rattle.worker_desk.specs.Answers.{CanBeWritten, GivesBack, OnNewEnd, OnShutNewEnd};
 ghost use Rattle.worker_desk.specs.Streams.{TellsWhereKnown};
 ghost use Rattle.world_core.specs.Channels.{newest_at};
 ghost use Rattle.world_core.specs.Steps.{IsEnabled};
 ghost use Rattle.world_core.specs.declared.fault.StepFault.TheVariants as faults;
-ghost use Rattle.world_journal.specs.Journals.{switches, is_return, is_told, present_name, told_before, told_on};
+ghost use Rattle.world_journal.specs.Journals.{switches, present_name};
 ghost use Rattle.world_journal.specs.Makers.{WorksAt};
 ghost use Rattle.world_journal.specs.Runs.{waits};
 ghost use Rattle.world_journal.specs.Calls.{
@@ -31,16 +31,15 @@ ghost use Rattle.world_journal.specs.Calls.{
   side_of,
 };
 
-use crate::entry::Entry;
 use crate::held::CutFault;
 use crate::name::RunName;
 use crate::run::Run;
 use crate::seat::Seat;
 use openflow_wire::{Message, Octets};
-use outside_net::Link;
+use outside_net::{Kind, Link};
 use std::alloc::{AllocError, Global};
 use update_coordinator::Side;
-use worker_desk::{Given, Kind, Made, Shut, Told};
+use worker_desk::{Given, Made, Shut, Told};
 use world_core::{Event, StepFault, World};
 
 impl<L: RunName, E: Link> Run<L, E> {
@@ -363,8 +362,7 @@ fn refuse_at<L: RunName, E: Link>(
     ensures answer { TurnsAway seat.old.worker side s bytes.now k end run.old run.new result }
     ensures back { GivesBack end result }
 {
-    let count = told_count(run.journal(), side, s);
-    if count as u64 != k {
+    if run.told(side, s) != k {
         return Told::Back { end, made: None };
     }
     let Ok(got) = Octets::from_slice(alloc, bytes) else {
@@ -400,51 +398,5 @@ fn lose_at<L: RunName, E: Link>(
         }
         Err(CutFault::NotEnabled(end)) => Told::Back { end, made: None },
         Err(CutFault::Memory(end)) => Told::Memory(end),
-    }
-}
-
-// How many messages were told at this side of a switch in its present session.
-fn told_count(journal: &[Entry], side: Side, s: usize) -> usize
-    ensures { result ≡ told_before s side journal.now }
-{
-    let mut count = 0;
-    for entry in journal {
-        count = told_on(count, &entry.event, side, s);
-    }
-    count
-}
-
-// The same after one event more.
-fn told_on(count: usize, event: &Event, side: Side, s: usize) -> usize
-    requires { count + 1 < 2 ^ 64 }
-    ensures { result ≡ told_on s side event.now count }
-{
-    if is_return(event, s) {
-        0
-    } else if is_told(event, side, s) {
-        count + 1
-    } else {
-        count
-    }
-}
-
-// Whether a switch returns by an event.
-fn is_return(event: &Event, s: usize) -> bool
-    ensures { result ≡ is_return s event.now }
-{
-    match event {
-        Event::Rejoin(place) => *place == s,
-        _ => false,
-    }
-}
-
-// Whether an event tells a message at this side of a switch.
-fn is_told(event: &Event, side: Side, s: usize) -> bool
-    ensures { result ≡ is_told s side event.now }
-{
-    match (event, side) {
-        (Event::Heard(place), Side::Controller) => *place == s,
-        (Event::Take(place), Side::Switch) => *place == s,
-        _ => false,
     }
 }

@@ -1,6 +1,8 @@
 //! A world beside the journal of what happened to it, and the one lock over which workers share both.
 #![tactic(auto)]
 
+mod asked_moves;
+mod asks;
 mod calls;
 mod entry;
 mod held;
@@ -12,6 +14,7 @@ mod run;
 mod run_desk;
 mod seat;
 mod sessions;
+mod told;
 mod updates;
 
 pub use entry::Entry;

@@ -1,13 +1,14 @@
 // What lies under the one lock of a run.
 ghost use Rattle.std.specs.Prelude.{◌≡◌, ◌↔◌, IfOk, IsTrue, None, replicate, true};
 ghost use Rattle.world_core.specs.Worlds.{WorldValue};
-ghost use Rattle.world_journal.specs.Arriving.{AreSpent, last_phase};
+ghost use Rattle.world_journal.specs.Arriving.{AreSpent, IsSettled, last_phase};
 
 use crate::entry::Entry;
 use crate::held::{CutFault, Held};
 use crate::line::Line;
 use crate::name::RunName;
 use crate::seat::Seat;
+use crate::told::told_at;
 use outside_net::Link;
 use std::alloc::{AllocError, Global};
 use std::marker::Model;
@@ -27,8 +28,8 @@ pub enum RunFault {
 }
 
 /// A journal with its world; which of the packets that `L` names have come in, each once; whether the run was closed;
-/// and the seats that were laid back. Of each switch it has the number of its present session, and the new ends that
-/// are laid out for its workers.
+/// and the seats that were laid back. Of each switch it has the number of its present session, how many messages were
+/// told at either side in it, and the new ends that are laid out for its workers.
 #[derive(Drop)]
 pub struct Run<L: RunName, E: Link> {
     pub(crate) held: Held<L, E>,
@@ -42,6 +43,8 @@ pub struct Run<L: RunName, E: Link> {
     pub(crate) to_waits: Vec<bool>,
     pub(crate) back_waits: Vec<bool>,
     pub(crate) sessions: Vec<u32>,
+    pub(crate) to_told: Vec<u64>,
+    pub(crate) back_told: Vec<u64>,
     pub(crate) to_ends: Vec<Option<E>>,
     pub(crate) back_ends: Vec<Option<E>>,
 }
@@ -50,7 +53,7 @@ impl<L: RunName, E: Link> Model for Run<L, E> {
     ghost use Rattle.std.specs.Prelude.{◌≡◌, length};
     ghost use Rattle.world_journal.specs.Arriving.{HaveArrived, unmarked};
     ghost use Rattle.world_journal.specs.Journals.{switches};
-    ghost use Rattle.world_journal.specs.Runs.{HasSessions, RunValue};
+    ghost use Rattle.world_journal.specs.Runs.{HasCounts, HasSessions, RunValue};
     ghost use Rattle.nk_syntax.specs.contracts.pol.Pol as pols;
     ghost use Rattle.std.specs.Coded.{codes};
 
@@ -61,11 +64,11 @@ impl<L: RunName, E: Link> Model for Run<L, E> {
 
     ghost view = { λ r. record { held = r.held; arrived = r.arrived.items; closed = r.closed; back = r.back; to_waits = r.to_waits.items; back_waits = r.back_waits.items; to_ends = r.to_ends.items; back_ends = r.back_ends.items } };
 
-    ghost invariant = { λ r. (r.lines.items ≡ L.lines) × HaveArrived L.lines r.arrived.items r.held.world.arrivals × (r.left ≡ unmarked r.arrived.items) × (r.laid.parts ≡ r.back) × (r.all ≡ L.all) × (length r.to_waits.items ≡ switches L.start) × (length r.back_waits.items ≡ switches L.start) × HasSessions (switches L.start) E.named E.received r.held.journal r.sessions.items r.to_ends.items r.back_ends.items };
+    ghost invariant = { λ r. (r.lines.items ≡ L.lines) × HaveArrived L.lines r.arrived.items r.held.world.arrivals × (r.left ≡ unmarked r.arrived.items) × (r.laid.parts ≡ r.back) × (r.all ≡ L.all) × (length r.to_waits.items ≡ switches L.start) × (length r.back_waits.items ≡ switches L.start) × HasSessions (switches L.start) E.named E.received r.held.journal r.sessions.items r.to_ends.items r.back_ends.items × HasCounts (switches L.start) r.held.journal r.to_told.items r.back_told.items };
 }
 
 impl<L: RunName, E: Link> Run<L, E> {
-    ghost use Rattle.std.specs.Prelude.{◌<◌, ◌+◌, ◌++◌, ◌∷◌, [], false, true, OnOk, OnErr, Err, IfErr, IfOk, IfSome, ◌⊎◌, replicate, length, None, Some, slice_get, slice_set};
+    ghost use Rattle.std.specs.Prelude.{◌<◌, ◌≤◌, ◌+◌, ◌++◌, ◌∷◌, [], false, true, OnOk, OnErr, Err, IfErr, IfOk, IfSome, IfNone, replicate, length, None, Some, slice_get, slice_set};
     ghost use Rattle.nk_values.specs.declared.packet.Packet.{Packet as PacketValue};
     ghost use Rattle.world_core.specs.Steps.{Step, IsEnabled};
     ghost use Rattle.world_core.specs.declared.event.Event.TheVariants as event;
@@ -73,8 +76,8 @@ impl<L: RunName, E: Link> Run<L, E> {
     ghost use Rattle.world_journal.specs.Makers.{MayMake, IsTraffic, is_cut, is_rejoin};
     ghost use Rattle.world_journal.specs.Journals.{switches, entry, MetBy};
     ghost use Rattle.world_journal.specs.Cuts.{HandsBack, Refuses};
-    ghost use Rattle.world_journal.specs.Arriving.{IsOver, is_arrival};
-    ghost use Rattle.world_journal.specs.Runs.{RunValue, Stops, waits, marking};
+    ghost use Rattle.world_journal.specs.Arriving.{HaveAllCome, IsOver, is_arrival};
+    ghost use Rattle.world_journal.specs.Runs.{HasEnded, RunValue, Stops, waits, marking};
     ghost use Rattle.world_journal.specs.Calls.{Made, Cuts, Arrives, IsBarred};
 
     /// A run that begins: no packet has come in, and each switch's HELLO waits to be handed out.
@@ -108,6 +111,12 @@ impl<L: RunName, E: Link> Run<L, E> {
         let Ok(sessions) = vec![in alloc; 0; count] else {
             return None;
         };
+        let Ok(to_told) = vec![in alloc; 0; count] else {
+            return None;
+        };
+        let Ok(back_told) = vec![in alloc; 0; count] else {
+            return None;
+        };
         let Ok(to_ends) = no_ends(alloc, count) else {
             return None;
         };
@@ -126,6 +135,8 @@ impl<L: RunName, E: Link> Run<L, E> {
             to_waits,
             back_waits,
             sessions,
+            to_told,
+            back_told,
             to_ends,
             back_ends,
         })
@@ -141,7 +152,10 @@ impl<L: RunName, E: Link> Run<L, E> {
         ensures booked { OnOk result (seat.new.share.amount ≡ seat.old.share.amount + 1) }
         ensures err { OnErr result ((self.new ≡ self.old) × (seat.new.share.amount ≡ seat.old.share.amount)) }
     {
-        self.held.step(alloc, seat, event)
+        match told_at(&event) {
+            None => self.step_plain(alloc, seat, event),
+            Some((side, s)) => self.step_told(alloc, seat, event, side, s),
+        }
     }
 
     /// Makes a step that ends a session, and keeps the end. A refusal hands it back.
@@ -188,7 +202,9 @@ impl<L: RunName, E: Link> Run<L, E> {
 
     /// Whether the packet at a place of the lines has come in, if there is one.
     pub fn has_arrived(&self, place: usize) -> Option<bool>
-        ensures { result ≡ slice_get self.now.arrived place }
+        ensures mark { result ≡ slice_get self.now.arrived place }
+        ensures some { IfSome result (λ _. place < length L.lines) }
+        ensures none { IfNone result (length L.lines ≤ place) }
     {
         self.arrived.get(place).copied()
     }
@@ -279,37 +295,41 @@ impl<L: RunName, E: Link> Run<L, E> {
         }
     }
 
-    /// Whether it is over: the coordinator has halted; or the last policy handles all packets, each packet has come in
-    /// once, and no copy may take another hop.
+    /// Whether each packet has come in once.
+    pub fn all_came(&self) -> bool
+        ensures { IsTrue result ↔ HaveAllCome L.lines self.now.held.world }
+    {
+        self.left == 0
+    }
+
+    /// Whether it is over: the coordinator has halted or the last policy handles all packets, each packet has come in
+    /// once, and no copy may take another hop. After a halt packets go on to their end.
     pub fn is_over(&self) -> bool
-        ensures { result ≡ true → IsOver L.lines self.now.held.world }
+        ensures { IsTrue result ↔ IsOver L.lines self.now.held.world }
     {
         let world = self.held.world();
-        if world.coordinator().halt().is_some() {
-            return true;
-        }
-        if self.left > 0 {
-            return false;
-        }
-        if !is_last(world) {
-            return false;
-        }
-        are_spent(world)
+        self.all_came() && is_settled(world) && are_spent(world)
+    }
+
+    /// Whether it was closed or is over.
+    pub fn has_ended(&self) -> bool
+        ensures { IsTrue result ↔ HasEnded L.lines self.now }
+    {
+        self.closed || self.is_over()
     }
 
     /// Whether all seats were laid back, and the run is closed or over.
     pub fn is_done(&self) -> bool
-        ensures back { result ≡ true → self.now.back ≡ L.all }
-        ensures over { result ≡ true → (self.now.closed ≡ true) ⊎ IsOver L.lines self.now.held.world }
+        ensures { IsTrue result ↔ ((self.now.back ≡ L.all) × HasEnded L.lines self.now) }
     {
-        self.back == self.all && (self.closed || self.is_over())
+        self.back == self.all && self.has_ended()
     }
 
     /// The journal, and the caller's seat with all parts again; nothing if the run was closed.
     pub fn finish(self) -> Result<(Held<L, E>, Seat<L>), RunFault>
         requires back { self.back ≡ L.all }
         requires all { (L.all ≡ L.parts) × (0 < L.all) }
-        requires over { (self.closed ≡ true) ⊎ IsOver L.lines self.held.world }
+        requires over { HasEnded L.lines self }
         ensures held { IfOk result (λ r. r.0 ≡ self.held) }
         ensures parts { IfOk result (λ r. (r.1.worker ≡ 0) × (r.1.share.parts ≡ L.parts)) }
         ensures steps { IfOk result (λ r. r.1.share.amount ≡ length r.0.journal) }
@@ -328,6 +348,8 @@ impl<L: RunName, E: Link> Run<L, E> {
             to_waits: _to_waits,
             back_waits: _back_waits,
             sessions: _sessions,
+            to_told: _to_told,
+            back_told: _back_told,
             to_ends: _to_ends,
             back_ends: _back_ends,
         } = self;
@@ -360,6 +382,13 @@ pub(crate) fn is_last(world: &World) -> bool
         Phase::Idle(policy) => policy == world.version_count(),
         _ => false,
     }
+}
+
+// Whether no policy is to come.
+fn is_settled(world: &World) -> bool
+    ensures { IsTrue result ↔ IsSettled world.now }
+{
+    world.coordinator().halt().is_some() || is_last(world)
 }
 
 // Whether no copy may take another hop.

@@ -1,5 +1,5 @@
 // The one lock of a run.
-ghost use Rattle.std.specs.Prelude.{◌≡◌, ◌<◌, ◌%◌, None, IfOk, IfErr, length, true};
+ghost use Rattle.std.specs.Prelude.{◌≡◌, ◌<◌, ◌%◌, ◌↔◌, None, IfOk, IfErr, IsTrue, length};
 ghost use Rattle.world_journal.specs.Arriving.{IsOver};
 ghost use Rattle.world_journal.specs.Calls.{IsUnmoved, IsWorker, place_of};
 ghost use Rattle.world_journal.specs.Finishing.{CanFinish};
@@ -7,6 +7,8 @@ ghost use Rattle.world_journal.specs.Journals.{switches};
 ghost use Rattle.world_journal.specs.Makers.{IsCaller, IsTraffic};
 ghost use Rattle.world_journal.specs.Runs.{IsNewPair};
 
+use crate::asked_moves::{come_in_of, hop_on_of, rejoin_of, update_of};
+use crate::asks::{close_of, given_of, lay_of, lost_of, shut_of, told_of};
 use crate::held::Held;
 use crate::moves::Did;
 use crate::name::RunName;
@@ -27,8 +29,8 @@ struct Bells {
     others: Condvar,
 }
 
-/// A run behind its one lock, as its workers share it. Each call locks once and asks the run; what it answers is
-/// stated of the run's own call of that name. A worker that is told there is nothing to do waits, with the lock given
+/// A run behind its one lock, as its workers share it. Each call locks once, and what it answers under the lock is
+/// stated of one function: `give` of `given_of`, and so on (`asks`, `asked_moves`). A worker that is told there is nothing to do waits, with the lock given
 /// up, until a step was made that may have changed this.
 #[derive(Drop)]
 pub struct RunDesk<R, L: RunName, E: Link> {
@@ -53,16 +55,11 @@ impl<R: Wait + Drop, L: RunName, E: Link> Desk for RunDesk<R, L, E> {
 
     ghost told = { λ s. None };
 
-    ghost notices = { λ s. None };
-
     ghost kept = { λ s. None };
 
     fn give(&self, seat: &mut Seat<L>) -> Result<Given<E>, AllocError> {
         let mut guard = self.run.lock(&self.rt);
-        let given = match &mut *guard {
-            None => Ok(Given::Stop),
-            Some(run) => run.give(self.alloc, seat),
-        };
+        let given = given_of(&mut *guard, self.alloc, seat);
         if is_idle(&given) {
             self.wait(guard, self.bell(seat.worker()));
         } else {
@@ -75,10 +72,7 @@ impl<R: Wait + Drop, L: RunName, E: Link> Desk for RunDesk<R, L, E> {
     fn tell(&self, seat: &mut Seat<L>, bytes: &[u8], end: E, k: u64) -> Told<E> {
         let mut guard = self.run.lock(&self.rt);
         let before = moment_of(&guard);
-        let told = match &mut *guard {
-            None => Told::Back { end, made: None },
-            Some(run) => run.tell(self.alloc, seat, bytes, end, k),
-        };
+        let told = told_of(&mut *guard, self.alloc, seat, bytes, end, k);
         let after = moment_of(&guard);
         drop(guard);
         if before == after {
@@ -90,20 +84,14 @@ impl<R: Wait + Drop, L: RunName, E: Link> Desk for RunDesk<R, L, E> {
     }
 
     fn lost(&self, seat: &mut Seat<L>, end: E) -> Told<E> {
-        let told = match &mut *self.run.lock(&self.rt) {
-            None => Told::Back { end, made: None },
-            Some(run) => run.lost(self.alloc, seat, end),
-        };
+        let told = lost_of(&mut *self.run.lock(&self.rt), self.alloc, seat, end);
         self.wake_all();
         told
     }
 
     fn shut(&self, seat: &mut Seat<L>) -> Shut<E> {
         let mut guard = self.run.lock(&self.rt);
-        let shut = match &mut *guard {
-            None => Shut::Stop,
-            Some(run) => run.shut(seat),
-        };
+        let shut = shut_of(&mut *guard, seat);
         if matches!(shut, Shut::Nothing) {
             self.wait(guard, self.bell(seat.worker()));
         }
@@ -163,10 +151,7 @@ impl<R: Wait + Drop, L: RunName, E: Link> RunDesk<R, L, E> {
         ensures { IsUnmoved seat.old.worker seat.new.worker seat.old.share.parts seat.new.share.parts }
     {
         let mut guard = self.run.lock(&self.rt);
-        let update = match &mut *guard {
-            None => Ok(Update::Stop),
-            Some(run) => run.update(self.alloc, seat),
-        };
+        let update = update_of(&mut *guard, self.alloc, seat);
         if update == Ok(Update::Nothing) {
             self.wait(guard, &self.bells.others);
         } else {
@@ -188,10 +173,13 @@ impl<R: Wait + Drop, L: RunName, E: Link> RunDesk<R, L, E> {
         requires fresh { IsNewPair E.received pair }
         ensures { IsUnmoved seat.old.worker seat.new.worker seat.old.share.parts seat.new.share.parts }
     {
-        let did = match &mut *self.run.lock(&self.rt) {
-            None => Ok(Did::Stop),
-            Some(run) => run.rejoin(self.alloc, seat, absence, pair),
-        };
+        let did = rejoin_of(
+            &mut *self.run.lock(&self.rt),
+            self.alloc,
+            seat,
+            absence,
+            pair,
+        );
         self.wake_all();
         did
     }
@@ -201,10 +189,7 @@ impl<R: Wait + Drop, L: RunName, E: Link> RunDesk<R, L, E> {
         requires { IsTraffic (switches L.start) seat.old.worker }
         ensures { IsUnmoved seat.old.worker seat.new.worker seat.old.share.parts seat.new.share.parts }
     {
-        let did = match &mut *self.run.lock(&self.rt) {
-            None => Ok(Did::Stop),
-            Some(run) => run.come_in(self.alloc, seat, place),
-        };
+        let did = come_in_of(&mut *self.run.lock(&self.rt), self.alloc, seat, place);
         self.bells.others.notify_all();
         did
     }
@@ -214,20 +199,14 @@ impl<R: Wait + Drop, L: RunName, E: Link> RunDesk<R, L, E> {
         requires { IsTraffic (switches L.start) seat.old.worker }
         ensures { IsUnmoved seat.old.worker seat.new.worker seat.old.share.parts seat.new.share.parts }
     {
-        let did = match &mut *self.run.lock(&self.rt) {
-            None => Ok(Did::Stop),
-            Some(run) => run.hop_on(self.alloc, seat),
-        };
+        let did = hop_on_of(&mut *self.run.lock(&self.rt), self.alloc, seat);
         self.bells.others.notify_all();
         did
     }
 
     /// Makes every worker stop.
     pub fn close_all(&self) {
-        match &mut *self.run.lock(&self.rt) {
-            None => {}
-            Some(run) => run.close(),
-        }
+        close_of(&mut *self.run.lock(&self.rt));
         self.wake_all();
     }
 
@@ -235,10 +214,7 @@ impl<R: Wait + Drop, L: RunName, E: Link> RunDesk<R, L, E> {
     pub fn lay(&self, seat: Seat<L>)
         requires { seat.share.parts ≡ 1 }
     {
-        match &mut *self.run.lock(&self.rt) {
-            None => {}
-            Some(run) => run.lay(seat),
-        }
+        lay_of(&mut *self.run.lock(&self.rt), seat);
     }
 
     /// Waits until all seats are back and the run is closed or over, and takes it out.
@@ -307,7 +283,7 @@ fn moment_of<L: RunName, E: Link>(run: &Option<Run<L, E>>) -> Option<Moment> {
 
 // Whether there is a run, and it is done.
 fn is_done<L: RunName, E: Link>(run: &Option<Run<L, E>>) -> bool
-    ensures { result ≡ true → CanFinish L.all L.lines run.now }
+    ensures { IsTrue result ↔ CanFinish L.all L.lines run.now }
 {
     match run {
         None => false,

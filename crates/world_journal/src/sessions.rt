@@ -110,6 +110,8 @@ impl<L: RunName, E: Link> Run<L, E> {
         };
         self.held.step(alloc, seat, Event::Rejoin(s))?;
         self.sessions[s] = number;
+        self.to_told[s] = 0;
+        self.back_told[s] = 0;
         self.to_waits[s] = false;
         self.back_waits[s] = true;
         let (here, there) = pair;

@@ -48,7 +48,7 @@ impl<L: RunName, E: Link> Run<L, E> {
         ensures answer { IfOk result (Updates (switches L.start) seat.old.worker L.lines self.old self.new) }
         ensures memory { OnErr result (self.new ≡ self.old) }
     {
-        if self.is_closed() || self.is_over() {
+        if self.has_ended() {
             return Ok(Update::Stop);
         }
         if let Some(place) = self.missing() {

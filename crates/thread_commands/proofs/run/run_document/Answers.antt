@@ -32,7 +32,7 @@ returns-in-Ok-run_world-clause-ran g c =
     let gathered = subst (λ o. AreGathered E.received kept (record { before = o; after = N.gathered c.take_back.new.net })) first_gathered c.take_back.ensures.gathered in
     let many = subst (λ b. HasRisenBy (many_broken E.faults kept) (record { before = b; after = N.broken c.take_back.new.net })) first_broken c.take_back.ensures.counted in
     IfOk-weaker c.report.result _ _
-    (λ a h. ran_as E.named E.faults E.received net (doc_of d) vs c.in_ok-world.world c.in-Ok-run_world.world journal kept c.in_ok-lines.lines.items a is c.in_ok-world.ensures.runs c.losses_count.ensures.goes_on c.losses_count.ensures.halts c.in-Ok-run_world.ensures.journal
+    (λ a h. ran_as E.named E.faults E.received net (doc_of d) vs c.in_ok-world.world c.in-Ok-run_world.world journal kept c.in_ok-lines.lines.items a is c.in_ok-world.ensures.runs c.losses_count.ensures.goes_on c.losses_count.ensures.halts c.halts_stay.ensures c.in-Ok-run_world.ensures.journal
     (λ e i f. subst (λ b. Rose b (N.broken c.take_back.new.net)) first_broken (c.take_back.ensures.broken e i f)) many gathered lines c.in-Ok-run_world.ensures.over h)
     c.report.ensures.answer
 

@@ -1,5 +1,6 @@
 use Rattle.std.proofs.Common.{◌≡◌, ◌<◌, ◌-◌, length, Some, false, slice_get, arith, ap, refl}
 use Rattle.std.proofs.lemmas.Option.{slice_get_within, slice_get_read}
+use Rattle.world_journal.proofs.Counting.{counts-plain}
 use Rattle.world_journal.proofs.Marks.{arrived-more, left-less}
 use Rattle.world_journal.proofs.Staying.{arrival-line}
 use Rattle.world_journal.proofs.Returning.{sessions-step}
@@ -26,6 +27,7 @@ invariant_of-self-2 g c =
       c.self.invariant.5,
       c.self.invariant.6,
       sessions-step _ _ _ c.self.inside.held.journal c.step.new.self.journal _ _ _ c.args.seat.now.worker _ c.self.invariant.7 c.in_ok-step.ensures.journal refl,
+      counts-plain _ c.self.inside.held.journal c.step.new.self.journal _ _ c.args.seat.now.worker _ c.self.invariant.8 c.in_ok-step.ensures.journal refl refl,
     )
 
 pub returns-clause-made : goal.returns-clause-made
@@ -37,6 +39,7 @@ returns-clause-made g c =
     rw (← c.self.view_is) (record {
       line = c.index.result.now;
       here = rw c.self.invariant.0 at line;
+      first = first;
       step = c.in_ok-step.ensures.world;
       journal = c.in_ok-step.ensures.journal;
       ends = c.in_ok-step.ensures.ends;

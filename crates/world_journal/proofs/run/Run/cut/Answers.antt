@@ -1,4 +1,5 @@
 use Rattle.world_journal.specs.Journals.{switches}
+use Rattle.world_journal.proofs.Counting.{counts-call, met-silent}
 use Rattle.world_journal.proofs.Marks.{arrived-same}
 use Rattle.world_journal.proofs.Returning.{met-plain, sessions-call}
 use Rattle.world_journal.proofs.Staying.{call-lines}
@@ -16,4 +17,6 @@ invariant_of-self g c =
       c.self.invariant.5,
       c.self.invariant.6,
       sessions-call _ _ _ c.self.inside.held c.cut.new.self _ _ _ c.args.seat.now.worker c.args.event _ c.cut.result c.self.invariant.7 c.cut.ensures.journal c.cut.ensures.err plain.1,
+      counts-call _ c.self.inside.held c.cut.new.self _ _ c.args.seat.now.worker c.args.event _ c.cut.result c.self.invariant.8 c.cut.ensures.journal c.cut.ensures.err
+          (met-silent (switches g.L.RunName.start) g.E.Link.named g.E.Link.faults g.E.Link.received c.args.self.now.held.journal c.args.event c.args.end c.requires.met) plain.1,
     )

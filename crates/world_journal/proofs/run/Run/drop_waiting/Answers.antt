@@ -13,4 +13,5 @@ invariant_of-self g c = (
   length-set c.self.inside.to_waits.items c.args.s _ ∙ c.self.invariant.5,
   length-set c.self.inside.back_waits.items c.args.s _ ∙ c.self.invariant.6,
   sessions-taken-back _ _ _ _ _ _ _ c.args.s _ refl (sessions-taken _ _ _ _ _ _ _ c.args.s _ refl c.self.invariant.7),
+  c.self.invariant.8,
 )

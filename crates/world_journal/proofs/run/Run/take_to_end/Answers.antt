@@ -12,4 +12,5 @@ invariant_of-self g c = (
   c.self.invariant.5,
   c.self.invariant.6,
   sessions-taken _ _ _ _ _ _ _ c.args.s c.take.new.self (search rules) c.self.invariant.7,
+  c.self.invariant.8,
 )

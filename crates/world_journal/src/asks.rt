@@ -1,0 +1,114 @@
+// What a desk asks of the run that lies under its lock: each has the clause of the run's own call. If the run was taken
+// out, nothing happens and whoever asks is to stop.
+ghost use Rattle.std.specs.Prelude.{◌≡◌, ◌<◌, ◌%◌, [], IfOk, IfSome, OnErr, None};
+ghost use Rattle.worker_desk.specs.Answers.{CanBeWritten, GivesBack, OnNewEnd, OnShutNewEnd};
+ghost use Rattle.worker_desk.specs.Streams.{TellsWhereKnown};
+ghost use Rattle.worker_desk.specs.declared.desk.Given.TheVariants as given;
+ghost use Rattle.worker_desk.specs.declared.desk.Told.TheVariants as told;
+ghost use Rattle.worker_desk.specs.declared.desk.Shut.TheVariants as shut;
+ghost use Rattle.world_journal.specs.Asking.{Closes, LaysBack, OnRun};
+ghost use Rattle.world_journal.specs.Calls.{Gives, IsUnmoved, IsWorker, Loses, RunsOut, Shuts, Tells, place_of, side_of};
+ghost use Rattle.world_journal.specs.Journals.{switches};
+
+use crate::name::RunName;
+use crate::run::Run;
+use crate::seat::Seat;
+use outside_net::Link;
+use std::alloc::{AllocError, Global};
+use worker_desk::{Given, Shut, Told};
+
+// What a worker is to do next.
+pub(crate) fn given_of<L: RunName, E: Link>(
+    run: &mut Option<Run<L, E>>,
+    alloc: Global,
+    seat: &mut Seat<L>,
+) -> Result<Given<E>, AllocError>
+    requires seat { IsWorker (switches L.start) seat.old.worker }
+    ensures seat { IsUnmoved seat.old.worker seat.new.worker seat.old.share.parts seat.new.share.parts }
+    ensures fits { IfOk result CanBeWritten }
+    ensures named { IfOk result (OnNewEnd (λ e. E.named e % switches L.start ≡ place_of (switches L.start) seat.old.worker)) }
+    ensures fresh { IfOk result (OnNewEnd (λ e. IfSome (E.received e) (λ xs. xs ≡ []))) }
+    ensures answer { IfOk result (λ g. OnRun (λ old new. Gives seat.old.worker (side_of (switches L.start) seat.old.worker) (place_of (switches L.start) seat.old.worker) old new g) (g ≡ given.Stop) run.old run.new) }
+    ensures memory { OnErr result (OnRun (RunsOut seat.old.worker (side_of (switches L.start) seat.old.worker) (place_of (switches L.start) seat.old.worker)) ⊥ run.old run.new) }
+{
+    match run {
+        None => Ok(Given::Stop),
+        Some(there) => there.give(alloc, seat),
+    }
+}
+
+// What comes of bytes that a worker received.
+pub(crate) fn told_of<L: RunName, E: Link>(
+    run: &mut Option<Run<L, E>>,
+    alloc: Global,
+    seat: &mut Seat<L>,
+    bytes: &[u8],
+    end: E,
+    k: u64,
+) -> Told<E>
+    requires seat { IsWorker (switches L.start) seat.old.worker }
+    requires name { E.named end % switches L.start ≡ place_of (switches L.start) seat.old.worker }
+    requires stream { TellsWhereKnown (E.received end) k bytes.now }
+    ensures seat { IsUnmoved seat.old.worker seat.new.worker seat.old.share.parts seat.new.share.parts }
+    ensures answer { OnRun (λ old new. Tells (switches L.start) (E.named end) seat.old.worker (side_of (switches L.start) seat.old.worker) (place_of (switches L.start) seat.old.worker) bytes.now k end old new result) (result ≡ told.Back end None) run.old run.new }
+    ensures back { GivesBack end result }
+{
+    match run {
+        None => Told::Back { end, made: None },
+        Some(there) => there.tell(alloc, seat, bytes, end, k),
+    }
+}
+
+// What comes of an end that failed.
+pub(crate) fn lost_of<L: RunName, E: Link>(
+    run: &mut Option<Run<L, E>>,
+    alloc: Global,
+    seat: &mut Seat<L>,
+    end: E,
+) -> Told<E>
+    requires seat { IsWorker (switches L.start) seat.old.worker }
+    requires name { E.named end % switches L.start ≡ place_of (switches L.start) seat.old.worker }
+    requires failed { 0 < E.faults end }
+    ensures seat { IsUnmoved seat.old.worker seat.new.worker seat.old.share.parts seat.new.share.parts }
+    ensures answer { OnRun (λ old new. Loses (switches L.start) (E.named end) seat.old.worker (place_of (switches L.start) seat.old.worker) end old new result) (result ≡ told.Back end None) run.old run.new }
+    ensures back { GivesBack end result }
+{
+    match run {
+        None => Told::Back { end, made: None },
+        Some(there) => there.lost(alloc, seat, end),
+    }
+}
+
+// What a worker without an open end is to do.
+pub(crate) fn shut_of<L: RunName, E: Link>(run: &mut Option<Run<L, E>>, seat: &Seat<L>) -> Shut<E>
+    requires seat { IsWorker (switches L.start) seat.now.worker }
+    ensures named { OnShutNewEnd (λ e. E.named e % switches L.start ≡ place_of (switches L.start) seat.now.worker) result }
+    ensures fresh { OnShutNewEnd (λ e. IfSome (E.received e) (λ xs. xs ≡ [])) result }
+    ensures answer { OnRun (λ old new. Shuts (side_of (switches L.start) seat.now.worker) (place_of (switches L.start) seat.now.worker) old new result) (result ≡ shut.Stop) run.old run.new }
+{
+    match run {
+        None => Shut::Stop,
+        Some(there) => there.shut(seat),
+    }
+}
+
+// Closes it.
+pub(crate) fn close_of<L: RunName, E: Link>(run: &mut Option<Run<L, E>>)
+    ensures { OnRun Closes (Unit {0}) run.old run.new }
+{
+    match run {
+        None => {}
+        Some(there) => there.close(),
+    }
+}
+
+// Lays a seat back. It is dropped if the run was taken out.
+pub(crate) fn lay_of<L: RunName, E: Link>(run: &mut Option<Run<L, E>>, seat: Seat<L>)
+    requires { seat.share.parts ≡ 1 }
+    ensures { OnRun (LaysBack L.all) (Unit {0}) run.old run.new }
+{
+    match run {
+        None => {}
+        Some(there) => there.lay(seat),
+    }
+}
