@@ -10,3 +10,4 @@ pub mod Searching
 pub mod Returning
 pub mod Sharing
 pub mod Staying
+pub mod Telling

@@ -9,7 +9,7 @@ use Rattle.update_coordinator.specs.declared.cause.Side.{Side}
 use Rattle.world_core.specs.declared.event.Event.{Event}
 use Rattle.world_core.specs.declared.event.Event.TheVariants as event
 use Rattle.world_journal.specs.declared.entry.Entry.{Entry}
-use Rattle.world_journal.specs.Journals.{HeldValue, MetBy, entry, events_of, is_return, is_told, session, since, told, told_on}
+use Rattle.world_journal.specs.Journals.{HeldValue, MetBy, entry, events_of, is_return, is_told, session, since, told}
 use Rattle.world_journal.specs.Arriving.{is_arrival}
 use Rattle.world_journal.specs.Makers.{is_rejoin}
 use Rattle.world_journal.specs.Runs.{AreNumbers, AreOut, HasSessions, IsNewEnd}
@@ -104,6 +104,10 @@ told-more s side es e true is stays =
 told-more s side es e false is stays =
     ap (λ xs. length (filter (is_told s side) xs)) (since-more s es e stays) ∙ ap length (filter-append (is_told s side) (since s es) (e ∷ [])) ∙ length-append (filter (is_told s side) (since s es)) (filter (is_told s side) (e ∷ []))
     ∙ rw is (omega arith)
+
+-- how many were told once one event more was, if so many were before it
+abbrev pub told_on : ℕ → Side → Event → ℕ → ℕ
+told_on s side e count = if is_return s e then 0 else (if is_told s side e then count + 1 else count)
 
 told-by : (s : ℕ) (side : Side) (es : List Event) (e : Event) (b : Bool) → is_return s e ≡ b → told s side (es ++ e ∷ []) ≡ told_on s side e (told s side es)
 told-by s side es e true is = ap (λ xs. length (filter (is_told s side) xs)) (since-return s es e is) ∙ rw is refl

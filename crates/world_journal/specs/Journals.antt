@@ -60,10 +60,6 @@ told_at _ = None
 abbrev pub told : ℕ → Side → List Event → ℕ
 told s side events = length (filter (is_told s side) (since s events))
 
--- so many, and one event more
-abbrev pub told_on : ℕ → Side → Event → ℕ → ℕ
-told_on s side e count = if is_return s e then 0 else (if is_told s side e then count + 1 else count)
-
 abbrev pub told_before : ℕ → Side → List Entry → ℕ
 told_before s side journal = told s side (events_of journal)
 

@@ -1,8 +1,9 @@
 use Rattle.world_journal.specs.Journals.{switches}
-use Rattle.world_journal.proofs.Counting.{counts-call, met-silent}
+use Rattle.world_journal.proofs.Counting.{counts-call}
 use Rattle.world_journal.proofs.Marks.{arrived-same}
 use Rattle.world_journal.proofs.Returning.{met-plain, sessions-call}
 use Rattle.world_journal.proofs.Staying.{call-lines}
+use Rattle.world_journal.proofs.Telling.{met-silent}
 use Rattle.world_journal.proofs.run.Run.cut.Goals as goal
 
 pub invariant_of-self : goal.invariant_of-self

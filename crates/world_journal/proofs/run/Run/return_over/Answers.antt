@@ -1,7 +1,7 @@
 use Rattle.std.proofs.Common.{rules, ◌≡◌, ◌<◌, ◌+◌, ◌%◌, Some, slice_get, length, refl, ap, ◌∙◌, arith}
 use Rattle.std.proofs.lemmas.Grind.{common_steps}
 use Rattle.std.proofs.lemmas.List.{length-set}
-use Rattle.std.proofs.lemmas.Option.{slice_get_read, slice_get-get_or}
+use Rattle.std.proofs.lemmas.Option.{slice_get_read}
 use Rattle.world_core.specs.declared.event.Event.TheVariants as event
 use Rattle.world_journal.specs.Journals.{switches}
 use Rattle.world_journal.proofs.Counting.{counts-returned}
@@ -28,8 +28,7 @@ invariant_of-self-2 g c =
       length-set c.self.inside.back_waits.items c.args.s _ ∙ c.self.invariant.6,
       sessions-next _ _ _ c.self.inside.held.journal c.step.new.self.journal numbers _ _ c.args.seat.now.worker c.args.s c.index.result.now c.in-Some.number c.args.pair.0 c.args.pair.1 c.self.invariant.7 c.in_ok-step.ensures.journal here more
           (ap (λ k. k % switches g.L.RunName.start) c.requires.named.0 ∙ place, c.requires.fresh.0) (ap (λ k. k % switches g.L.RunName.start) (c.requires.named.1 ∙ c.requires.named.0) ∙ place, c.requires.fresh.1),
-      counts-returned _ c.self.inside.held.journal c.step.new.self.journal _ _ c.args.seat.now.worker c.args.s _ _ c.self.invariant.8 c.in_ok-step.ensures.journal
-          (slice_get-get_or c.self.inside.to_told.items c.args.s 0 (omega (arith, c.requires.place, c.self.invariant.8.to_many))) (slice_get-get_or c.self.inside.back_told.items c.args.s 0 (omega (arith, c.requires.place, c.self.invariant.8.back_many))),
+      counts-returned _ c.self.inside.held.journal c.step.new.self.journal _ _ c.args.seat.now.worker c.args.s c.self.invariant.8 c.in_ok-step.ensures.journal c.requires.place,
     )
 
 pub returns-clause-made : goal.returns-clause-made
