@@ -1,7 +1,6 @@
 -- The end that was kept for foreign bytes is the last one, with what was told before them.
 use Rattle.std.proofs.Common.{◌≡◌, ◌⊎◌, inl, inr, ℕ, suc, Bool, true, false, List, [], ◌∷◌, ◌++◌, Option, None, Some, refl, sym, ap, subst, ◌∙◌}
-use Rattle.update_coordinator.specs.declared.cause.Side.{Side}
-use Rattle.update_coordinator.specs.Controls.{Control}
+use Rattle.world_journal.specs.Side.{Side}
 use Rattle.world_core.specs.declared.event.Event.{Event}
 use Rattle.world_core.specs.declared.event.Event.TheVariants as event
 use Rattle.world_core.specs.Laws.{HaltsStay}
@@ -45,9 +44,12 @@ events-last (x ∷ es) e = ap (λ (ys : List Event). x.event ∷ ys) (events-las
 
 -- ---- a halt
 
+halt-same : (w v : WorldValue) → v.fleet.control ≡ w.fleet.control → v.fleet.control.halt ≡ w.fleet.control.halt
+halt-same w v same = λ i. (same i).halt
+
 halted-stays : HaltsStay → (w : WorldValue) (es : List Event) (v : WorldValue) → ¬ (w.fleet.control.halt ≡ None) → Runs w es v → ¬ (v.fleet.control.halt ≡ None)
 halted-stays stay w [] v halts r = λ none. halts (ap (λ (x : WorldValue). x.fleet.control.halt) r ∙ none)
-halted-stays stay w (e ∷ es) v halts r = halted-stays stay r.0 es v (λ none. halts (sym (ap (λ (c : Control). c.halt) (stay w e r.0 halts r.1)) ∙ none)) r.2
+halted-stays stay w (e ∷ es) v halts r = halted-stays stay r.0 es v (λ none. halts (sym (halt-same w r.0 (stay w e r.0 halts r.1)) ∙ none)) r.2
 
 some-none : {X : Type 0} (x : X) → Some x ≡ None → ⊥
 some-none x e = cc

@@ -7,7 +7,7 @@ use Rattle.document_text.specs.declared.document.PacketLine.{PacketLine}
 use Rattle.document_text.specs.Answers.{doc_of}
 use Rattle.document_text.specs.Documents.{Doc}
 use Rattle.policy_rows.specs.declared.version.Version.{Version}
-use Rattle.update_coordinator.specs.declared.cause.Side.{Side}
+use Rattle.world_journal.specs.Side.{Side}
 use Rattle.value_text.specs.declared.fault.Fault.TheVariants as fault
 use Rattle.worker_desk.specs.Streams.{TellsWhereKnown}
 use Rattle.world_core.specs.declared.event.Event.{Event}

@@ -6,7 +6,7 @@ use Rattle.document_text.specs.declared.document.PacketLine.{PacketLine}
 use Rattle.document_text.specs.Documents.{Doc}
 use Rattle.policy_rows.specs.declared.version.Version.{Version}
 use Rattle.report_text.specs.Reports.{IsWorldReport}
-use Rattle.update_coordinator.specs.declared.cause.Side.{Side}
+use Rattle.world_journal.specs.Side.{Side}
 use Rattle.value_text.specs.declared.fault.Fault.{Fault}
 use Rattle.value_text.specs.declared.fault.Fault.TheVariants as fault
 use Rattle.worker_desk.specs.Streams.{TellsAt}

@@ -8,3 +8,4 @@ pub mod Moves
 pub mod Finishing
 pub mod Asking
 pub mod Laws
+pub use Rattle.update_coordinator.specs.declared.cause.Side

@@ -26,5 +26,6 @@ pub use name::RunName;
 pub use run::{Run, RunFault};
 pub use run_desk::RunDesk;
 pub use seat::Seat;
+pub use update_coordinator::Side;
 pub use updates::{Absence, Update};
 pub use worker_desk::Desk;

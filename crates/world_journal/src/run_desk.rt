@@ -30,8 +30,8 @@ struct Bells {
 }
 
 /// A run behind its one lock, as its workers share it. Each call locks once, and what it answers under the lock is
-/// stated of one function: `give` of `given_of`, and so on (`asks`, `asked_moves`). A worker that is told there is nothing to do waits, with the lock given
-/// up, until a step was made that may have changed this.
+/// stated of one function: for `give` that is `given_of`, and so on (`asks`, `asked_moves`). A worker that is told there
+/// is nothing to do waits, with the lock given up, until a step was made that may have changed this.
 #[derive(Drop)]
 pub struct RunDesk<R, L: RunName, E: Link> {
     rt: R,
