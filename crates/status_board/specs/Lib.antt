@@ -1,0 +1,3 @@
+pub mod Posts
+pub mod Rules
+pub mod Reads

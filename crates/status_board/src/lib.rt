@@ -1,0 +1,16 @@
+//! A board on which one pen posts where a run stands, and which eyes read without a lock.
+#![tactic(auto)]
+
+mod board;
+mod eye;
+mod history;
+mod note;
+mod pen;
+mod post;
+
+pub use board::Board;
+pub use eye::{Eye, Seen};
+pub use history::BoardName;
+pub use note::Note;
+pub use pen::Pen;
+pub use post::Post;
