@@ -54,9 +54,9 @@ fn eyes_read_what_they_were_not_told(rt: HostRuntime) -> Result<(), Fail> {
     Ok(())
 }
 
-// The reads of a first eye before any post, after one that it was told of and after one that it was not told of, and the
-// first read of a second eye, after a third post. Then the pen is gone: whether the first eye's note begins the second's,
-// and what the first reads after it learnt from the second.
+// The reads of a first eye before any post, after one that it was told of and after one that it was not told of, and
+// the first read of a second eye, after a third post. Then the pen is gone: whether the first eye's note begins the
+// second's, and what the first reads after it learnt from the second.
 fn reads<J: BoardName, R: Wait>(
     rt: &R,
     alloc: Global,

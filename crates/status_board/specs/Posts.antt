@@ -2,7 +2,12 @@
 use Rattle.std.specs.Prelude.{◌≡◌, ℕ, ◌<◌, ltb, ◌&&◌, Bool, true, false, List, [], ◌∷◌, length}
 use mathlib.Core.List.{IsPrefix}
 use Rattle.status_board.specs.declared.post.Post.{Post}
+use Rattle.update_coordinator.specs.declared.phase.Phase.{Phase}
 use Rattle.update_coordinator.specs.declared.phase.Phase.TheVariants as phase
+
+-- where a run stands after a number of events
+abbrev pub post_at : ℕ → Phase → Bool → Post
+post_at count phase halted = record { count = count; phase = phase; halted = halted }
 
 -- what stands on a board before any post
 abbrev pub opening : Post

@@ -4,7 +4,7 @@ use Rattle.logbook.specs.Pages.{Cell, Step, View, Book, Named}
 use Rattle.status_board.specs.declared.post.Post.{Post}
 use Rattle.status_board.specs.Posts.{IsHistory}
 
--- The first word of the book is the length of the history, whose counts rise. A book has two words; the second one stays 0.
+-- The first word of the book is the length of the history, whose counts rise. The second word stays 0.
 pub record IsKept (cells : List Cell) (log : List Post) : Type 0 where
   pub words : cells ≡ (length log, true) ∷ (0, true) ∷ []
   pub rising : IsHistory log
@@ -13,6 +13,6 @@ pub record IsKept (cells : List Cell) (log : List Post) : Type 0 where
 abbrev pub head_of : Book → Named
 head_of b = record { tracked = true; key = 0; book = b }
 
--- If the word had the expected number, the post was added to all that had been seen. Otherwise the history was longer, and was seen.
+-- If the word had the expected number, the post was added to all that had been seen; if not, the history was seen
 abbrev pub Adds : Step Post → View Post ℕ → ℕ → View Post ℕ → Type 0
 Adds s v found w = MatchBool (found == s.old) ((w.0 ≡ v.0 ++ s.ask ∷ []) × IsHistory w.0) ((length w.0 ≡ found) × IsHistory w.0)

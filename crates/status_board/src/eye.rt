@@ -1,5 +1,5 @@
 // The one that reads.
-ghost use Rattle.std.specs.Prelude.{◌≡◌, ◌⊎◌, false};
+ghost use Rattle.std.specs.Prelude.{◌≡◌, ◌≤◌, ◌⊎◌, false};
 ghost use mathlib.Core.List.{IsPrefix};
 ghost use Rattle.status_board.specs.Posts.{IsHistory, newest};
 
@@ -22,7 +22,8 @@ pub struct Seen {
     pub fresh: bool,
 }
 
-/// Reads the board that `J` names. Contracts see it as the posts of the board up to the newest that it read or was told of.
+/// Reads the board that `J` names. Contracts see it as the posts of the board up to the newest that it read or was told
+/// of.
 #[derive(Drop)]
 pub struct Eye<J: BoardName> {
     handle: ReadHandle<Note<J>>,
@@ -48,21 +49,16 @@ impl<J: BoardName> Eye<J> {
         Eye { handle, known }
     }
 
-    /// Reads the board: the newest post that the eye knows by now. It takes no lock and no memory, and waits for nobody.
+    /// Reads the board: the newest post that the eye knows by now. It takes no lock and no memory, and waits for
+    /// nobody.
     pub fn read(&mut self) -> Seen
         ensures post { post_of result ≡ newest self.new }
         ensures later { IsPrefix self.old self.new }
+        ensures rises { (newest self.old).count ≤ result.count }
         ensures stale { result.fresh ≡ false → self.new ≡ self.old }
         ensures history { IsHistory self.new }
     {
-        let found = match self.handle.enter() {
-            Some(guard) => Some(guard.copy()),
-            None => None,
-        };
-        let fresh = match found {
-            Some(note) => self.follow(note),
-            None => false,
-        };
+        let fresh = self.look();
         let post = self.known.post();
         Seen {
             count: post.count,
@@ -72,7 +68,22 @@ impl<J: BoardName> Eye<J> {
         }
     }
 
-    // Takes a note over, if it begins with what the eye knows.
+    // Takes over the note on the board, and says whether it did.
+    fn look(&mut self) -> bool
+        ensures later { IsPrefix self.old self.new }
+        ensures stale { result ≡ false → self.new ≡ self.old }
+    {
+        let found = match self.handle.enter() {
+            Some(guard) => Some(guard.copy()),
+            None => None,
+        };
+        match found {
+            Some(note) => self.follow(note),
+            None => false,
+        }
+    }
+
+    // Takes over a note if it begins with what the eye knows, and says whether it did.
     fn follow(&mut self, note: Note<J>) -> bool
         ensures later { IsPrefix self.old self.new }
         ensures stale { result ≡ false → self.new ≡ self.old }

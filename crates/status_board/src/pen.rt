@@ -1,6 +1,6 @@
 // The one that posts.
 ghost use Rattle.std.specs.Prelude.{◌≡◌, ◌∷◌, ◌++◌, [], IfOk, OnOk, OnErr};
-ghost use Rattle.status_board.specs.Posts.{MayFollow, newest};
+ghost use Rattle.status_board.specs.Posts.{MayFollow, newest, post_at};
 
 use crate::eye::Eye;
 use crate::history::{BoardName, Head};
@@ -12,8 +12,8 @@ use std::marker::Model;
 use std::sync::Wait;
 use update_coordinator::Phase;
 
-/// Posts on the board that `J` names. Contracts see it as its posts. It keeps the handle `R`, since a post waits for eyes
-/// that are in the midst of a read, and so does the end of the pen.
+/// Posts on the board that `J` names. Contracts see it as its posts. It keeps the handle `R`, since a post waits for
+/// eyes that are in the midst of a read, and so does the end of the pen.
 // The bound is met by each `J`; it is repeated since the writer has ghost fields of its `Absorb`.
 #[derive(Drop)]
 pub struct Pen<J: BoardName, R: Wait + Drop>
@@ -68,11 +68,11 @@ impl<J: BoardName, R: Wait + Drop> Pen<J, R> {
         Ok(Eye::of(self.writer.handle()?, self.known.copy()))
     }
 
-    /// Posts where a run stands after a number of events above that of the newest post. An `Err` says out of memory, or
-    /// that 2^61 posts were made: nothing is published then, and every later post is refused too.
+    /// Posts where a run stands after a number of events above that of the newest post. An `Err` says out of memory,
+    /// or that 2^61 posts were made: nothing is published then, and every later post is refused too.
     pub fn post(&mut self, count: u64, phase: Phase, halted: bool) -> Result<(), AllocError>
-        requires { MayFollow self.old (record { count = count; phase = phase; halted = halted }) }
-        ensures ok { OnOk result (self.new ≡ self.old ++ record { count = count; phase = phase; halted = halted } ∷ []) }
+        requires { MayFollow self.old (post_at count phase halted) }
+        ensures ok { OnOk result (self.new ≡ self.old ++ post_at count phase halted ∷ []) }
         ensures err { OnErr result (self.new ≡ self.old) }
     {
         let post = Post {
