@@ -23,5 +23,6 @@ pub use doc_reader::DocReader;
 pub use document::{Document, Event, PacketLine, ScheduleLine, Settings};
 pub use fault::{DocFault, DocumentError};
 pub use laws::{one_outcome, says_its_parts, within};
+pub use nk_syntax::{Pol, Pols, Pred};
 pub use read::read_document;
 pub use topology_model::{Site, Topology};

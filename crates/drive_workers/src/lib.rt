@@ -18,3 +18,4 @@ pub use fault::DriveFault;
 pub use kept::take_back;
 pub use over::drive_over;
 pub use worker::DriveWorker;
+pub use worker_desk::Gate;

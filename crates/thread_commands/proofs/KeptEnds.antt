@@ -78,7 +78,7 @@ cut-runs n named faults received es (event.Lost t) end w v met step = elim step.
 ]
 cut-runs n named faults received es (event.Rejoin t) end w v met step = absurd met
 cut-runs n named faults received es (event.Stuck k) end w v met step = absurd met
-cut-runs n named faults received es (event.Foreign t side got) end w v met step = step.session.running
+cut-runs n named faults received es (event.Foreign t side got) end w v met step = step.may.0.running
 
 -- the last step of a run
 runs-last : (w : WorldValue) (es : List Event) (e : Event) (v : WorldValue) → Runs w (es ++ e ∷ []) v → (x : WorldValue) × Runs w es x × Step x e v

@@ -15,12 +15,13 @@ use crate::kept::{events_of, take_back};
 use document_text::{Document, PacketLine};
 use fleet_workers::{make_pairs, run_world};
 use outside_io::Source;
-use outside_net::{Gate, Net, NetFault, Spawner};
+use outside_net::{Net, NetFault, Spawner};
 use policy_rows::Version;
 use program_answer::{Answer, AnswerError, read_input, world_answer};
 use std::alloc::{AllocError, Global};
 use std::sync::{Arc, Wait};
 use value_text::Fault;
+use worker_desk::Gate;
 use world_core::{Settings, World, halts_stay, losses_count};
 use world_journal::{Entry, Line, RunFault};
 

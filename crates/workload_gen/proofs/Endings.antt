@@ -4,8 +4,8 @@ use Rattle.std.proofs.lemmas.List.{length-map}
 use Rattle.nk_values.specs.declared.packet.Packet.{Packet}
 use Rattle.nk_values.specs.Members.{IsIn}
 use Rattle.nk_values.proofs.MemberLaws.{in-left, in-right}
-use Rattle.nk_syntax.specs.Terms.{Term}
-use Rattle.nk_syntax.specs.Views.{term_of}
+use Rattle.document_text.specs.Terms.{Term}
+use Rattle.document_text.specs.Views.{term_of}
 use Rattle.topology_model.specs.Layouts.{Layout, edges_of}
 use Rattle.nk_values.specs.Tags.{IsTag}
 use Rattle.openflow_wire.specs.declared.message.Message.TheVariants as to

@@ -1,7 +1,7 @@
 -- What the calls of a session's or a switch's worker answer, by the state that they find.
 use Rattle.std.specs.Prelude.{◌≡◌, ℕ, ◌+◌, ◌-◌, ◌<◌, ◌≤◌, ◌⊎◌, leb, ltb, if◌then◌else◌, Bool, true, false, List, [], ◌∷◌, ◌++◌, Option, Some, None, slice_get, slice_set}
-use Rattle.outside_net.specs.declared.gate.Kind.{Kind}
-use Rattle.outside_net.specs.declared.gate.Kind.TheVariants as kind
+use Rattle.worker_desk.specs.declared.gate.Kind.{Kind}
+use Rattle.worker_desk.specs.declared.gate.Kind.TheVariants as kind
 use Rattle.update_coordinator.specs.declared.cause.Side.{Side}
 use Rattle.update_coordinator.specs.declared.cause.Side.TheVariants as side
 use Rattle.world_core.specs.declared.event.Event.{Event}

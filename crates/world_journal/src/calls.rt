@@ -36,10 +36,10 @@ use crate::name::RunName;
 use crate::run::Run;
 use crate::seat::Seat;
 use openflow_wire::{Message, Octets};
-use outside_net::{Kind, Link};
+use outside_net::Link;
 use std::alloc::{AllocError, Global};
 use update_coordinator::Side;
-use worker_desk::{Given, Made, Shut, Told};
+use worker_desk::{Given, Kind, Made, Shut, Told};
 use world_core::{Event, StepFault, World};
 
 impl<L: RunName, E: Link> Run<L, E> {

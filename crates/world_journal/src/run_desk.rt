@@ -55,6 +55,8 @@ impl<R: Wait + Drop, L: RunName, E: Link> Desk for RunDesk<R, L, E> {
 
     ghost told = { λ s. None };
 
+    ghost notices = { λ s. None };
+
     ghost kept = { λ s. None };
 
     fn give(&self, seat: &mut Seat<L>) -> Result<Given<E>, AllocError> {
