@@ -9,6 +9,7 @@ use Rattle.update_laws.specs.Fleets.{End}
 use Rattle.update_laws.proofs.Places.{get-within}
 use Rattle.world_core.specs.declared.event.Event.{Event}
 use Rattle.world_core.specs.declared.event.Event.TheVariants as event
+use Rattle.world_core.specs.declared.event.ControllerEvent.TheVariants as of_controller
 use Rattle.world_core.specs.Ends.{new_end}
 use Rattle.world_core.specs.Worlds.{WorldValue, IsKept}
 use Rattle.world_core.specs.Steps.{IsEnabled, NoneCarries, Step}
@@ -34,7 +35,7 @@ some-halt o x e = λ n. cc
 within : SwitchesFollow → (w : WorldValue) (s : ℕ) (site : Site) → IsKept w → slice_get w.fleet.control.sites s ≡ Some site → s < length w.fleet.ends
 within f w s site k here = omega (arith, (f w k).ends, get-within s w.fleet.control.sites site here)
 
-sends-up : SwitchesFollow → (w : WorldValue) (s : ℕ) (m : Message) (d : Control) → IsKept w → IsSent s w.fleet.control d m → Lifts w (event.Send s) d
+sends-up : SwitchesFollow → (w : WorldValue) (s : ℕ) (m : Message) (d : Control) → IsKept w → IsSent s w.fleet.control d m → Lifts w (event.Controller (of_controller.Send s)) d
 sends-up f w s m d k h =
     let old : End = get_or w.fleet.ends s (new_end 0 0) in
     let here : slice_get w.fleet.ends s ≡ Some old = slice_get-get_or w.fleet.ends s (new_end 0 0) (within f w s h.site k h.here) in
@@ -51,14 +52,14 @@ sends-up f w s m d k h =
       ),
     )
 
-begun-up : (w : WorldValue) (d : Control) → begin_refusal w.fleet.control ≡ None → d ≡ begun w.fleet.control → Step w event.Begin (record w { fleet = record w.fleet { control = d } })
+begun-up : (w : WorldValue) (d : Control) → begin_refusal w.fleet.control ≡ None → d ≡ begun w.fleet.control → Step w (event.Controller of_controller.Begin) (record w { fleet = record w.fleet { control = d } })
 begun-up w d a b = record {
   fleet = record { control = d; ends = w.fleet.ends };
   step = record { asked = a; now = λ i. record { control = b i; ends = w.fleet.ends } };
   now = refl;
 }
 
-drained-up : (stamp : ℕ) (w : WorldValue) (d : Control) → NoneCarries stamp w.flights → drain_refusal w.fleet.control stamp ≡ None → d ≡ drained w.fleet.control → Step w (event.Drained stamp) (record w { fleet = record w.fleet { control = d } })
+drained-up : (stamp : ℕ) (w : WorldValue) (d : Control) → NoneCarries stamp w.flights → drain_refusal w.fleet.control stamp ≡ None → d ≡ drained w.fleet.control → Step w (event.Controller (of_controller.Drained stamp)) (record w { fleet = record w.fleet { control = d } })
 drained-up stamp w d none a b = record {
   none = none;
   step = record {

@@ -8,6 +8,9 @@ use Rattle.update_laws.specs.Fleets.{End, Fleet}
 use Rattle.update_laws.proofs.Places.{get-within}
 use Rattle.world_core.specs.declared.event.Event.{Event}
 use Rattle.world_core.specs.declared.event.Event.TheVariants as event
+use Rattle.world_core.specs.declared.event.ControllerEvent.TheVariants as of_controller
+use Rattle.world_core.specs.declared.event.PacketEvent.TheVariants as of_packet
+use Rattle.world_core.specs.declared.event.SwitchEvent.TheVariants as of_switch
 use Rattle.world_core.specs.Worlds.{WorldValue}
 use Rattle.world_core.specs.Steps.{Loses, Runs, Step}
 use Rattle.drive_journal.specs.declared.steering.Steering.{Steering}
@@ -39,12 +42,12 @@ lost-control s f g (inl l) = (l.control, l.lost, ap (λ (x : Fleet). x.control) 
 lost-control s f g (inr l) = (l.control, l.lost, ap (λ (x : Fleet). x.control) l.now)
 
 shown : (w : WorldValue) (e : Event) (v : WorldValue) → HaltsAtLoss w.fleet.control → IsHonest e → Step w e v → IsShown w e v
-shown w event.Begin v l h s = record {
+shown w (event.Controller of_controller.Begin) v l h s = record {
   events = Begin ∷ [];
   shown = refl;
   drives = one w.fleet.control v.fleet.control v.fleet.control Begin (s.step.asked, control-of w v s.fleet s.now ∙ ap (λ (f : Fleet). f.control) s.step.now) refl;
 }
-shown w (event.Send p) v l h s =
+shown w (event.Controller (of_controller.Send p)) v l h s =
     let ends : v.fleet.ends ≡ slice_set w.fleet.ends p (record s.step.old { there = s.step.old.there ++ s.step.message ∷ [] }) = ap (λ (x : WorldValue). x.fleet.ends) s.now ∙ ap (λ (f : Fleet). f.ends) s.step.now in
     record {
       events = Send p s.step.message ∷ [];
@@ -59,30 +62,30 @@ shown w (event.Send p) v l h s =
       );
       drives = one w.fleet.control s.step.control v.fleet.control (Send p s.step.message) s.step.sent (control-of w v s.fleet s.now ∙ ap (λ (f : Fleet). f.control) s.step.now);
     }
-shown w (event.Take p) v l h s = record { events = []; shown = refl; drives = stays w v s.fleet s.now (ap (λ (f : Fleet). f.control) s.step.now) }
-shown w (event.Apply p k) v l h s = record { events = []; shown = refl; drives = stays w v s.fleet s.now (ap (λ (f : Fleet). f.control) s.step.now) }
-shown w (event.Reply p) v l h s = record { events = []; shown = refl; drives = stays w v s.fleet s.now (ap (λ (f : Fleet). f.control) s.step.now) }
-shown w (event.Heard p) v l h s = record {
+shown w (event.Switch (of_switch.Take p)) v l h s = record { events = []; shown = refl; drives = stays w v s.fleet s.now (ap (λ (f : Fleet). f.control) s.step.now) }
+shown w (event.Switch (of_switch.Apply p k)) v l h s = record { events = []; shown = refl; drives = stays w v s.fleet s.now (ap (λ (f : Fleet). f.control) s.step.now) }
+shown w (event.Switch (of_switch.Reply p)) v l h s = record { events = []; shown = refl; drives = stays w v s.fleet s.now (ap (λ (f : Fleet). f.control) s.step.now) }
+shown w (event.Controller (of_controller.Heard p)) v l h s = record {
   events = Heard p s.step.message ∷ [];
   shown = (s.step.message, record { end_ = s.step.old; here = s.step.here; is = (s.step.rest, s.step.front) }, refl);
   drives = one w.fleet.control s.step.control v.fleet.control (Heard p s.step.message) (s.step.move, s.step.heard) (control-of w v s.fleet s.now ∙ ap (λ (f : Fleet). f.control) s.step.now);
 }
-shown w (event.Arrive pk tag) v l h s = record { events = []; shown = refl; drives = sym (ap (λ (x : WorldValue). x.fleet.control) s.now) }
-shown w (event.Hop k) v l h s = record { events = []; shown = refl; drives = sym (ap (λ (x : WorldValue). x.fleet.control) s.now) }
-shown w (event.Drained stamp) v l h s = record {
+shown w (event.Packet (of_packet.Arrive pk tag)) v l h s = record { events = []; shown = refl; drives = sym (ap (λ (x : WorldValue). x.fleet.control) s.now) }
+shown w (event.Packet (of_packet.Hop k)) v l h s = record { events = []; shown = refl; drives = sym (ap (λ (x : WorldValue). x.fleet.control) s.now) }
+shown w (event.Controller (of_controller.Drained stamp)) v l h s = record {
   events = Drained stamp ∷ [];
   shown = refl;
   drives = one w.fleet.control v.fleet.control v.fleet.control (Drained stamp) (s.step.step.asked, control-of w v s.step.fleet s.step.now ∙ ap (λ (f : Fleet). f.control) s.step.step.now) refl;
 }
-shown w (event.Lost p) v l h s = record {
+shown w (event.Controller (of_controller.Lost p)) v l h s = record {
   events = Lost p ∷ [];
   shown = refl;
   drives =
       let lost = lost-control p w.fleet s.fleet s.step in
       one w.fleet.control lost.0 v.fleet.control (Lost p) lost.1 (control-of w v s.fleet s.now ∙ lost.2);
 }
-shown w (event.Rejoin p) v l h s = absurd (l.there p (s.step.back.site, s.step.back.here, s.step.back.away))
-shown w (event.Stuck k) v l h s = absurd h
+shown w (event.Controller (of_controller.Rejoin p)) v l h s = absurd (l.there p (s.step.back.site, s.step.back.here, s.step.back.away))
+shown w (event.Packet (of_packet.Stuck k)) v l h s = absurd h
 shown w (event.Foreign p side got) v l h s = absurd h
 
 -- one list of events after another

@@ -5,6 +5,8 @@ use Rattle.openflow_wire.specs.declared.message.Message.{Message}
 use Rattle.update_coordinator.specs.Controls.{Control}
 use Rattle.world_core.specs.declared.event.Event.{Event}
 use Rattle.world_core.specs.declared.event.Event.TheVariants as event
+use Rattle.world_core.specs.declared.event.ControllerEvent.TheVariants as of_controller
+use Rattle.world_core.specs.declared.event.PacketEvent.TheVariants as of_packet
 use Rattle.world_core.specs.Worlds.{WorldValue, IsKept}
 use Rattle.world_core.specs.Steps.{IsEnabled, NoneCarries, Runs, Stands, Step}
 use Rattle.drive_journal.specs.declared.steering.Steering.{Steering}
@@ -17,7 +19,7 @@ use Rattle.drive_journal.specs.Steering.{Steers, Drives}
 -- no foreign bytes, and no report of a copy that is stuck
 abbrev pub IsHonest : Event → Type 0
 IsHonest (event.Foreign s side got) = ⊥
-IsHonest (event.Stuck k) = ⊥
+IsHonest (event.Packet (of_packet.Stuck k)) = ⊥
 IsHonest _ = Unit {0}
 
 -- the message is the front of the channel from switch s
@@ -30,14 +32,14 @@ IsPutAt w s m = Stands s w (λ e. (others : List Message) × (e.there ≡ others
 
 -- What an event of the world, which led from w to v, is for the controller. No switch comes back.
 abbrev pub Shows : WorldValue → Event → WorldValue → List Steering → Type 0
-Shows w event.Begin v es = es ≡ Begin ∷ []
-Shows w (event.Send s) v es = (m : Message) × IsPutAt v s m × (es ≡ Send s m ∷ [])
-Shows w (event.Heard s) v es = (m : Message) × IsFrontAt w s m × (es ≡ Heard s m ∷ [])
-Shows w (event.Drained stamp) v es = es ≡ Drained stamp ∷ []
-Shows w (event.Lost s) v es = es ≡ Lost s ∷ []
-Shows w (event.Rejoin s) v es = ⊥
+Shows w (event.Controller of_controller.Begin) v es = es ≡ Begin ∷ []
+Shows w (event.Controller (of_controller.Send s)) v es = (m : Message) × IsPutAt v s m × (es ≡ Send s m ∷ [])
+Shows w (event.Controller (of_controller.Heard s)) v es = (m : Message) × IsFrontAt w s m × (es ≡ Heard s m ∷ [])
+Shows w (event.Controller (of_controller.Drained stamp)) v es = es ≡ Drained stamp ∷ []
+Shows w (event.Controller (of_controller.Lost s)) v es = es ≡ Lost s ∷ []
+Shows w (event.Controller (of_controller.Rejoin s)) v es = ⊥
 Shows w (event.Foreign s side got) v es = ⊥
-Shows w (event.Stuck k) v es = ⊥
+Shows w (event.Packet (of_packet.Stuck k)) v es = ⊥
 Shows w _ v es = es ≡ []
 
 -- What a run is for the controller, event by event.
@@ -53,11 +55,11 @@ RunsAreDriven = (w : WorldValue) (events : List Event) (v : WorldValue) → Halt
 
 -- The event of the world that an event of the controller is: a message is the front of its channel, and no copy carries the stamp of a drain.
 abbrev pub Means : WorldValue → Steering → Event → Type 0
-Means w Begin e = e ≡ event.Begin
-Means w (Send s m) e = e ≡ event.Send s
-Means w (Heard s m) e = IsFrontAt w s m × (e ≡ event.Heard s)
-Means w (Drained stamp) e = NoneCarries stamp w.flights × (e ≡ event.Drained stamp)
-Means w (Lost s) e = e ≡ event.Lost s
+Means w Begin e = e ≡ (event.Controller of_controller.Begin)
+Means w (Send s m) e = e ≡ event.Controller (of_controller.Send s)
+Means w (Heard s m) e = IsFrontAt w s m × (e ≡ event.Controller (of_controller.Heard s))
+Means w (Drained stamp) e = NoneCarries stamp w.flights × (e ≡ event.Controller (of_controller.Drained stamp))
+Means w (Lost s) e = e ≡ event.Controller (of_controller.Lost s)
 Means w (Garbled s f) e = ⊥
 
 -- If the first loss halts the world, what the controller can do next can happen in it, and leads to the same coordinator.

@@ -6,7 +6,7 @@ ghost use Rattle.drive_text.specs.Drives.{drive_text, message_text, steering_lin
 
 use bytes::BytesMut;
 use drive_journal::Steering;
-use event_words::{EventWord, EventWord};
+use event_words::EventWord;
 use openflow_wire::{Message, encode};
 use report_text::{fault_number, put_bytes, put_named, put_numbered, put_state};
 use std::alloc::{AllocError, Global};

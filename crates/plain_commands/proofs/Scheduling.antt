@@ -9,6 +9,9 @@ use Rattle.document_text.specs.declared.document.PacketLine.{PacketLine}
 use Rattle.document_text.specs.declared.document.ScheduleLine.{ScheduleLine}
 use Rattle.world_core.specs.declared.event.Event.{Event}
 use Rattle.world_core.specs.declared.event.Event.TheVariants as event
+use Rattle.world_core.specs.declared.event.ControllerEvent.TheVariants as of_controller
+use Rattle.world_core.specs.declared.event.PacketEvent.TheVariants as of_packet
+use Rattle.world_core.specs.declared.event.SwitchEvent.TheVariants as of_switch
 use Rattle.world_core.specs.Worlds.{WorldValue}
 use Rattle.world_core.specs.Steps.{IsEnabled, Step, Runs}
 use Rattle.world_core.specs.Settling.{Followed, settling, flowing}
@@ -16,18 +19,18 @@ use Rattle.plain_commands.specs.Schedules.{event_of, CannotHappen, DoesOne, Does
 
 -- no event changes the topology
 pub step-topology : (w : WorldValue) (e : Event) (v : WorldValue) → Step w e v → v.topology ≡ w.topology
-step-topology w event.Begin v h = ap (λ (x : WorldValue). x.topology) h.now
-step-topology w (event.Send s) v h = ap (λ (x : WorldValue). x.topology) h.now
-step-topology w (event.Take s) v h = ap (λ (x : WorldValue). x.topology) h.now
-step-topology w (event.Apply s k) v h = ap (λ (x : WorldValue). x.topology) h.now
-step-topology w (event.Reply s) v h = ap (λ (x : WorldValue). x.topology) h.now
-step-topology w (event.Heard s) v h = ap (λ (x : WorldValue). x.topology) h.now
-step-topology w (event.Arrive pk tag) v h = ap (λ (x : WorldValue). x.topology) h.now
-step-topology w (event.Hop k) v h = ap (λ (x : WorldValue). x.topology) h.now
-step-topology w (event.Drained stamp) v h = ap (λ (x : WorldValue). x.topology) h.step.now
-step-topology w (event.Lost s) v h = ap (λ (x : WorldValue). x.topology) h.now
-step-topology w (event.Rejoin s) v h = ap (λ (x : WorldValue). x.topology) h.now
-step-topology w (event.Stuck k) v h = ap (λ (x : WorldValue). x.topology) h.now
+step-topology w (event.Controller of_controller.Begin) v h = ap (λ (x : WorldValue). x.topology) h.now
+step-topology w (event.Controller (of_controller.Send s)) v h = ap (λ (x : WorldValue). x.topology) h.now
+step-topology w (event.Switch (of_switch.Take s)) v h = ap (λ (x : WorldValue). x.topology) h.now
+step-topology w (event.Switch (of_switch.Apply s k)) v h = ap (λ (x : WorldValue). x.topology) h.now
+step-topology w (event.Switch (of_switch.Reply s)) v h = ap (λ (x : WorldValue). x.topology) h.now
+step-topology w (event.Controller (of_controller.Heard s)) v h = ap (λ (x : WorldValue). x.topology) h.now
+step-topology w (event.Packet (of_packet.Arrive pk tag)) v h = ap (λ (x : WorldValue). x.topology) h.now
+step-topology w (event.Packet (of_packet.Hop k)) v h = ap (λ (x : WorldValue). x.topology) h.now
+step-topology w (event.Controller (of_controller.Drained stamp)) v h = ap (λ (x : WorldValue). x.topology) h.step.now
+step-topology w (event.Controller (of_controller.Lost s)) v h = ap (λ (x : WorldValue). x.topology) h.now
+step-topology w (event.Controller (of_controller.Rejoin s)) v h = ap (λ (x : WorldValue). x.topology) h.now
+step-topology w (event.Packet (of_packet.Stuck k)) v h = ap (λ (x : WorldValue). x.topology) h.now
 step-topology w (event.Foreign s side got) v h = ap (λ (x : WorldValue). x.topology) h.now
 
 pub runs-topology : (w : WorldValue) (es : List Event) (v : WorldValue) → Runs w es v → v.topology ≡ w.topology

@@ -44,7 +44,7 @@ came d versions w packets schedule events world s r =
 
 pub starts : (d : Document) (versions : List Version) (w : WorldValue) (hops capacity rejoins : ℕ) (packets : List PacketLine) (schedule : List ScheduleLine) → w ≡ start d.topology versions (record { hops = hops; capacity = capacity; rejoins = rejoins }) → hops ≡ d.settings.hops → capacity ≡ d.settings.capacity → rejoins ≡ d.settings.rejoins → IsKept w → EveryRunIsGood w →
     packets ≡ d.packets.items → schedule ≡ d.schedule.items → Starts d versions w packets schedule
-starts d versions w hops capacity rejoins packets schedule a b c e k r p l = record { world = a ∙ (λ i. start d.topology versions (record { hops = b i; capacity = c i; rejoins = e i })); runs = r; packets_are = p; schedule_is = l }
+starts d versions w hops capacity rejoins packets schedule a b c e k r p l = record { world = a ∙ (λ i. start d.topology versions (record { hops = b i; capacity = c i; rejoins = e i })); kept = k; runs = r; packets_are = p; schedule_is = l }
 
 pub stopped : (d : Document) (versions : List Version) (w : WorldValue) (packets : List PacketLine) (schedule : List ScheduleLine) (x : AnswerError) → Starts d versions w packets schedule → TellsStop w.topology.switches packets w schedule x → TellsStopIn d versions x
 stopped d versions w packets schedule error.Memory s h = tt

@@ -8,28 +8,31 @@ use Rattle.document_text.specs.declared.document.PacketLine.{PacketLine}
 use Rattle.document_text.specs.declared.document.ScheduleLine.{ScheduleLine}
 use Rattle.world_core.specs.declared.event.Event.{Event}
 use Rattle.world_core.specs.declared.event.Event.TheVariants as event
+use Rattle.world_core.specs.declared.event.ControllerEvent.TheVariants as of_controller
+use Rattle.world_core.specs.declared.event.PacketEvent.TheVariants as of_packet
+use Rattle.world_core.specs.declared.event.SwitchEvent.TheVariants as of_switch
 use Rattle.world_core.specs.Worlds.{WorldValue}
 use Rattle.world_core.specs.Steps.{IsEnabled, Step}
 use Rattle.world_core.specs.Settling.{Follows, settling, flowing}
 
 -- the packet of a line comes in
 abbrev pub arrive : PacketLine → Event
-arrive line = event.Arrive line.packet line.tag
+arrive line = event.Packet (of_packet.Arrive line.packet line.tag)
 
 -- The event that an order names; `settle` and `flow` name none. A switch goes by its number, and packet lines count from 1.
 abbrev pub event_of : List Site → List PacketLine → Order → Option Event
-event_of sites packets order.Begin = Some event.Begin
-event_of sites packets (order.Send sw) = option_map event.Send (place_in sites sw)
-event_of sites packets (order.Take sw) = option_map event.Take (place_in sites sw)
-event_of sites packets (order.Apply sw k) = option_map (λ (s : ℕ). event.Apply s k) (place_in sites sw)
-event_of sites packets (order.Reply sw) = option_map event.Reply (place_in sites sw)
-event_of sites packets (order.Heard sw) = option_map event.Heard (place_in sites sw)
+event_of sites packets order.Begin = Some (event.Controller of_controller.Begin)
+event_of sites packets (order.Send sw) = option_map (λ (p : ℕ). event.Controller (of_controller.Send p)) (place_in sites sw)
+event_of sites packets (order.Take sw) = option_map (λ (p : ℕ). event.Switch (of_switch.Take p)) (place_in sites sw)
+event_of sites packets (order.Apply sw k) = option_map (λ (s : ℕ). event.Switch (of_switch.Apply s k)) (place_in sites sw)
+event_of sites packets (order.Reply sw) = option_map (λ (p : ℕ). event.Switch (of_switch.Reply p)) (place_in sites sw)
+event_of sites packets (order.Heard sw) = option_map (λ (p : ℕ). event.Controller (of_controller.Heard p)) (place_in sites sw)
 event_of sites packets (order.Arrive n) = option_map arrive (slice_get packets (n - 1))
-event_of sites packets (order.Hop k) = Some (event.Hop k)
-event_of sites packets (order.Drained stamp) = Some (event.Drained stamp)
-event_of sites packets (order.Lost sw) = option_map event.Lost (place_in sites sw)
-event_of sites packets (order.Rejoin sw) = option_map event.Rejoin (place_in sites sw)
-event_of sites packets (order.Stuck k) = Some (event.Stuck k)
+event_of sites packets (order.Hop k) = Some (event.Packet (of_packet.Hop k))
+event_of sites packets (order.Drained stamp) = Some (event.Controller (of_controller.Drained stamp))
+event_of sites packets (order.Lost sw) = option_map (λ (p : ℕ). event.Controller (of_controller.Lost p)) (place_in sites sw)
+event_of sites packets (order.Rejoin sw) = option_map (λ (p : ℕ). event.Controller (of_controller.Rejoin p)) (place_in sites sw)
+event_of sites packets (order.Stuck k) = Some (event.Packet (of_packet.Stuck k))
 event_of sites packets order.Settle = None
 event_of sites packets order.Flow = None
 

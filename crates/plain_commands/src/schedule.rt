@@ -10,7 +10,7 @@ use program_answer::AnswerError;
 use report_text::Fault;
 use std::alloc::{AllocError, Global};
 use topology_model::Topology;
-use world_core::{Event, StepFault, World};
+use world_core::{ControllerEvent, Event, PacketEvent, StepFault, SwitchEvent, World};
 
 /// Carries out a schedule line by line, and gives the events that were done; or the first line whose event cannot
 /// happen.
@@ -74,21 +74,24 @@ fn event_of(topology: &Topology, packets: &[PacketLine], order: Order) -> Option
     ensures { result ≡ event_of topology.now.switches packets.now order }
 {
     match order {
-        Order::Begin => Some(Event::Begin),
-        Order::Send(sw) => Some(Event::Send(topology.place(sw)?)),
-        Order::Take(sw) => Some(Event::Take(topology.place(sw)?)),
-        Order::Apply(sw, pending) => Some(Event::Apply(topology.place(sw)?, pending as usize)),
-        Order::Reply(sw) => Some(Event::Reply(topology.place(sw)?)),
-        Order::Heard(sw) => Some(Event::Heard(topology.place(sw)?)),
+        Order::Begin => Some(Event::Controller(ControllerEvent::Begin)),
+        Order::Send(sw) => Some(Event::Controller(ControllerEvent::Send(topology.place(sw)?))),
+        Order::Take(sw) => Some(Event::Switch(SwitchEvent::Take(topology.place(sw)?))),
+        Order::Apply(sw, pending) => Some(Event::Switch(SwitchEvent::Apply(
+            topology.place(sw)?,
+            pending as usize,
+        ))),
+        Order::Reply(sw) => Some(Event::Switch(SwitchEvent::Reply(topology.place(sw)?))),
+        Order::Heard(sw) => Some(Event::Controller(ControllerEvent::Heard(topology.place(sw)?))),
         Order::Arrive(number) => {
             let line = packets.get(number.saturating_sub(1))?;
-            Some(Event::Arrive(line.packet, line.tag))
+            Some(Event::Packet(PacketEvent::Arrive(line.packet, line.tag)))
         }
-        Order::Hop(copy) => Some(Event::Hop(copy as usize)),
-        Order::Drained(stamp) => Some(Event::Drained(stamp)),
-        Order::Lost(sw) => Some(Event::Lost(topology.place(sw)?)),
-        Order::Rejoin(sw) => Some(Event::Rejoin(topology.place(sw)?)),
-        Order::Stuck(copy) => Some(Event::Stuck(copy as usize)),
+        Order::Hop(copy) => Some(Event::Packet(PacketEvent::Hop(copy as usize))),
+        Order::Drained(stamp) => Some(Event::Controller(ControllerEvent::Drained(stamp))),
+        Order::Lost(sw) => Some(Event::Controller(ControllerEvent::Lost(topology.place(sw)?))),
+        Order::Rejoin(sw) => Some(Event::Controller(ControllerEvent::Rejoin(topology.place(sw)?))),
+        Order::Stuck(copy) => Some(Event::Packet(PacketEvent::Stuck(copy as usize))),
         Order::Settle | Order::Flow => None,
     }
 }

@@ -11,7 +11,7 @@ use Rattle.nk_values.specs.Ranges.{place, least_value, least_literal, greatest, 
 use Rattle.nk_values.proofs.LitLaws.{same_lit}
 use Rattle.nk_values.proofs.MemberLaws.{in-left, in-right}
 use Rattle.nk_values.proofs.PacketLaws.{same_field}
-use Rattle.document_text.specs.Terms.{Guard, Guards, One, Zero, Test, Or, And, Not, no_guards, guard, Term, Terms, Filter, Assign, Sum, Seq, Star, Dup, no_terms, term}
+use Rattle.nk_syntax.specs.Terms.{Guard, Guards, One, Zero, Test, Or, And, Not, no_guards, guard, Term, Terms, Filter, Assign, Sum, Seq, Star, Dup, no_terms, term}
 use Rattle.netkat_parser.specs.Grammar.{is_named, is_pair, with_pair}
 use Rattle.netkat_parser.specs.Printed.{guard_named, guards_named, term_named, terms_named, IsRoomy}
 use Rattle.fdd_compile.specs.Named.{GuardTests, GuardsTest, TermTests, TermsTest, TermAssigns, TermsAssign, TermNames, AreFewNamed}

@@ -2,9 +2,9 @@
 use Rattle.std.proofs.Common.{◌≡◌, ℕ, zero, suc, ◌+◌, ◌<◌, inl, inr, List, [], ◌∷◌, ◌++◌, length, take, drop, map, get_or, refl, sym, ap, ◌∙◌, subst, arith}
 use Rattle.std.proofs.lemmas.List.{take-append-drop, drop_more, take_more, length-take-le}
 use Rattle.nk_values.specs.Members.{IsIn}
-use Rattle.document_text.specs.Pol.{Pol}
-use Rattle.document_text.specs.Terms.{Term}
-use Rattle.document_text.specs.Views.{term_of}
+use Rattle.nk_syntax.specs.declared.pol.Pol.{Pol}
+use Rattle.nk_syntax.specs.Terms.{Term}
+use Rattle.nk_syntax.specs.Views.{term_of}
 use Rattle.topology_model.specs.Layouts.{Layout}
 use Rattle.document_text.specs.declared.document.Settings.{Settings}
 use Rattle.policy_rows.specs.declared.version.Version.{Version}

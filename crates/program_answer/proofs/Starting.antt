@@ -2,7 +2,7 @@
 use Rattle.std.proofs.Common.{◌≡◌, ◌≢◌, ℕ, zero, suc, ◌+◌, ◌-◌, ◌%◌, ◌≤◌, inl, inr, List, [], ◌∷◌, length, refl, sym, ◌∙◌, ap, subst, Some, slice_get, arith}
 use Rattle.std.proofs.Math.Nat.{suc-mod, mod_self, mod-lt, mod-eq_of_lt}
 use Rattle.std.proofs.lemmas.Bool.{cases_lt}
-use Rattle.document_text.specs.Terms.{Term}
+use Rattle.nk_syntax.specs.Terms.{Term}
 use Rattle.topology_model.specs.Layouts.{Layout}
 use Rattle.document_text.specs.declared.document.Settings.{Settings}
 use Rattle.policy_rows.specs.declared.version.Version.{Version}

@@ -2,7 +2,7 @@
 use Rattle.std.specs.Prelude.{◌≤◌, ◌<◌, List, length}
 use Rattle.nk_values.specs.Members.{IsIn}
 use Rattle.nk_values.specs.Packets.{IsWellShaped}
-use Rattle.document_text.specs.Terms.{Term}
+use Rattle.nk_syntax.specs.Terms.{Term}
 use Rattle.topology_model.specs.Layouts.{Layout, wiring}
 use Rattle.document_text.specs.declared.document.PacketLine.{PacketLine}
 use Rattle.document_text.specs.declared.document.Settings.{Settings}

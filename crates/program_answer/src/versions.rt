@@ -1,6 +1,6 @@
 //! The policies of a document, compiled and put into rows.
 ghost use Rattle.std.specs.Prelude.{◌<◌, ◌-◌, ◌^◌, IfOk, IfErr};
-ghost use Rattle.document_text.specs.Views.{term_of};
+ghost use Rattle.nk_syntax.specs.Views.{term_of};
 ghost use Rattle.document_text.specs.Answers.{doc_of};
 ghost use Rattle.fdd_compile.specs.Named.{AreFewNamed, TermNames};
 ghost use Rattle.program_answer.specs.Sound.{IsSound, AreStamps};
@@ -8,8 +8,9 @@ ghost use Rattle.program_answer.specs.Versions.{IsVersion, AreVersions};
 ghost use Rattle.program_answer.specs.Input.{policies_of, TellsFault, TellsFirst};
 
 use crate::answer::AnswerError;
-use document_text::{Document, Pol, Settings};
+use document_text::{Document, Settings};
 use fdd_compile::{CompileError, Compiler};
+use nk_syntax::Pol;
 use policy_rows::{Version, band_of, stamp_of};
 use report_text::Fault;
 use std::alloc::Global;

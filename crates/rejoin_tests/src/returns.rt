@@ -3,7 +3,7 @@ use crate::worlds::{does, row_count, run, world_of};
 use std::alloc::Global;
 use std::test::Fail;
 use update_coordinator::Phase;
-use world_core::{Event, World};
+use world_core::{ControllerEvent, Event, SwitchEvent, World};
 
 // What happens between a loss and the return.
 #[derive(Clone, Copy, Debug, PartialEq, Eq)]
@@ -28,21 +28,33 @@ fn between(behind: u32) -> Meanwhile {
 fn with_loss(alloc: Global, behind: u32, place: usize, meanwhile: Meanwhile) -> Option<World> {
     let mut world = world_of(alloc, 1).ok()?;
     let _before = run(alloc, &mut world, behind)?;
-    if !does(alloc, &mut world, &Event::Lost(place)) {
+    if !does(
+        alloc,
+        &mut world,
+        &Event::Controller(ControllerEvent::Lost(place)),
+    ) {
         return None;
     }
     match meanwhile {
         Meanwhile::Nothing => {}
         Meanwhile::Applies => {
             for _ in 0..100 {
-                let _pending = does(alloc, &mut world, &Event::Apply(place, 0));
+                let _pending = does(
+                    alloc,
+                    &mut world,
+                    &Event::Switch(SwitchEvent::Apply(place, 0)),
+                );
             }
         }
         Meanwhile::GoesOn => {
             let _others = run(alloc, &mut world, 10_000)?;
         }
     }
-    if !does(alloc, &mut world, &Event::Rejoin(place)) {
+    if !does(
+        alloc,
+        &mut world,
+        &Event::Controller(ControllerEvent::Rejoin(place)),
+    ) {
         return None;
     }
     let _rest = run(alloc, &mut world, 10_000)?;
@@ -70,12 +82,30 @@ fn the_loss_behind_a_thousand_halts(rt: HostRuntime) -> Result<(), Fail> {
     let mut world = world_of(alloc, 1000)?;
     for _ in 0..1000 {
         let _some = run(alloc, &mut world, 7).ok_or("no memory")?;
-        assert!(rt; does(alloc, &mut world, &Event::Lost(0)));
-        assert!(rt; does(alloc, &mut world, &Event::Rejoin(0)));
+        assert!(rt;
+            does(
+                alloc,
+                &mut world,
+                &Event::Controller(ControllerEvent::Lost(0))
+            )
+        );
+        assert!(rt;
+            does(
+                alloc,
+                &mut world,
+                &Event::Controller(ControllerEvent::Rejoin(0))
+            )
+        );
     }
     let _rest = run(alloc, &mut world, 10_000).ok_or("no memory")?;
     assert_eq!(rt; world.coordinator().phase(), Phase::Idle(3));
-    assert!(rt; does(alloc, &mut world, &Event::Lost(1)));
+    assert!(rt;
+        does(
+            alloc,
+            &mut world,
+            &Event::Controller(ControllerEvent::Lost(1))
+        )
+    );
     assert!(rt; world.coordinator().halt().is_some());
     Ok(())
 }

@@ -4,7 +4,7 @@ ghost use Rattle.std.specs.Prelude.{◌≤◌};
 use document_text::Document;
 use std::alloc::{AllocError, Global};
 use workload_gen::{generate, versions};
-use world_core::{Event, Settings, World};
+use world_core::{ControllerEvent, Event, Settings, SwitchEvent, World};
 
 /// Two switches and three policies. So many sessions may be lost without a halt.
 pub fn world_of(alloc: Global, rejoins: usize) -> Result<World, AllocError>
@@ -24,11 +24,11 @@ pub fn world_of(alloc: Global, rejoins: usize) -> Result<World, AllocError>
 // The first thing that can happen at a switch.
 fn next_at(world: &World, place: usize) -> Option<Event> {
     let tried = [
-        Event::Heard(place),
-        Event::Reply(place),
-        Event::Apply(place, 0),
-        Event::Take(place),
-        Event::Send(place),
+        Event::Controller(ControllerEvent::Heard(place)),
+        Event::Switch(SwitchEvent::Reply(place)),
+        Event::Switch(SwitchEvent::Apply(place, 0)),
+        Event::Switch(SwitchEvent::Take(place)),
+        Event::Controller(ControllerEvent::Send(place)),
     ];
     tried.into_iter().find(|event| world.enabled(event))
 }
@@ -40,10 +40,10 @@ fn next(world: &World) -> Option<Event> {
             return Some(event);
         }
     }
-    if world.enabled(&Event::Begin) {
-        return Some(Event::Begin);
+    if world.enabled(&Event::Controller(ControllerEvent::Begin)) {
+        return Some(Event::Controller(ControllerEvent::Begin));
     }
-    Some(Event::Drained(world.coordinator().draining()?))
+    Some(Event::Controller(ControllerEvent::Drained(world.coordinator().draining()?)))
 }
 
 /// Does what can happen, at most a number of events. Gives how many there were.

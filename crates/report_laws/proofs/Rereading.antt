@@ -17,6 +17,9 @@ use Rattle.topology_model.specs.Wired.{IsTopology}
 use Rattle.topology_model.specs.declared.line.Site.{Site}
 use Rattle.update_laws.proofs.Wiring.{at-in}
 use Rattle.world_core.specs.declared.event.Event.TheVariants as event
+use Rattle.world_core.specs.declared.event.ControllerEvent.TheVariants as of_controller
+use Rattle.world_core.specs.declared.event.PacketEvent.TheVariants as of_packet
+use Rattle.world_core.specs.declared.event.SwitchEvent.TheVariants as of_switch
 use Rattle.value_text.specs.Values.{line}
 use Rattle.report_text.specs.Events.{number_text, number_at}
 use Rattle.document_text.specs.declared.document.Event.{Event as Command}
@@ -144,16 +147,16 @@ module _ (s : State) (n : ℕ) (topology : IsTopology s.layout) (inside : s.insi
   index k d l = ap (λ (b : Bool). cond (not b) (Err ValueRange) (Ok d)) (within k 4294967295 l)
 
 pub printed-is-read : PrintedIsRead
-printed-is-read s n event.Begin d k i l p = subst (λ (c : Command). Reads s n (codes "begin" ∷ []) c) (sym p) (reads s n (codes "begin") [] command.Begin i l refl refl refl)
-printed-is-read s n (event.Send place) d k i l p = named s n k i l word.Send place command.Send d p refl refl refl (λ m. refl)
-printed-is-read s n (event.Take place) d k i l p = named s n k i l word.Take place command.Take d p refl refl refl (λ m. refl)
-printed-is-read s n (event.Apply place m) d k i l p = applies s n k i l place m d p.0 p.1
-printed-is-read s n (event.Reply place) d k i l p = named s n k i l word.Reply place command.Reply d p refl refl refl (λ m. refl)
-printed-is-read s n (event.Heard place) d k i l p = named s n k i l word.Heard place command.Heard d p refl refl refl (λ m. refl)
-printed-is-read s n (event.Arrive pk tag) d k i l p = absurd p
-printed-is-read s n (event.Hop m) d k i l p =
+printed-is-read s n (event.Controller of_controller.Begin) d k i l p = subst (λ (c : Command). Reads s n (codes "begin" ∷ []) c) (sym p) (reads s n (codes "begin") [] command.Begin i l refl refl refl)
+printed-is-read s n (event.Controller (of_controller.Send place)) d k i l p = named s n k i l word.Send place command.Send d p refl refl refl (λ m. refl)
+printed-is-read s n (event.Switch (of_switch.Take place)) d k i l p = named s n k i l word.Take place command.Take d p refl refl refl (λ m. refl)
+printed-is-read s n (event.Switch (of_switch.Apply place m)) d k i l p = applies s n k i l place m d p.0 p.1
+printed-is-read s n (event.Switch (of_switch.Reply place)) d k i l p = named s n k i l word.Reply place command.Reply d p refl refl refl (λ m. refl)
+printed-is-read s n (event.Controller (of_controller.Heard place)) d k i l p = named s n k i l word.Heard place command.Heard d p refl refl refl (λ m. refl)
+printed-is-read s n (event.Packet (of_packet.Arrive pk tag)) d k i l p = absurd p
+printed-is-read s n (event.Packet (of_packet.Hop m)) d k i l p =
     subst (λ (c : Command). Reads s n (words_of (line (codes "hop" ++ 32 ∷ decimal m))) c) (sym p.1) (numbered s n k i l word.Hop m (command.Hop m) p.0 refl refl refl (index s n k i l m (command.Hop m) p.0))
-printed-is-read s n (event.Drained stamp) d k i l p =
+printed-is-read s n (event.Controller (of_controller.Drained stamp)) d k i l p =
     subst (λ (c : Command). Reads s n (words_of (line (codes "drained" ++ 32 ∷ decimal stamp))) c) (sym p.1)
     (numbered s n k i l word.Drained stamp (command.Drained stamp) (id stamp p.0.1) refl refl refl (vlan stamp p.0))
   where
@@ -162,8 +165,8 @@ printed-is-read s n (event.Drained stamp) d k i l p =
 
     vlan : (v : ℕ) → (1 ≤ v) × (v ≤ 4094) → cond (not (nat_le 1 v && nat_le v 4094)) (Err ValueRange) (Ok (command.Drained v)) ≡ Ok (command.Drained v)
     vlan v h = ap (λ (b : Bool). cond (not (b && nat_le v 4094)) (Err ValueRange) (Ok (command.Drained v))) (within 1 v h.0) ∙ ap (λ (b : Bool). cond (not b) (Err ValueRange) (Ok (command.Drained v))) (within v 4094 h.1)
-printed-is-read s n (event.Lost place) d k i l p = named s n k i l word.Lost place command.Lost d p refl refl refl (λ m. refl)
-printed-is-read s n (event.Rejoin place) d k i l p = named s n k i l word.Rejoin place command.Rejoin d p refl refl refl (λ m. refl)
-printed-is-read s n (event.Stuck m) d k i l p =
+printed-is-read s n (event.Controller (of_controller.Lost place)) d k i l p = named s n k i l word.Lost place command.Lost d p refl refl refl (λ m. refl)
+printed-is-read s n (event.Controller (of_controller.Rejoin place)) d k i l p = named s n k i l word.Rejoin place command.Rejoin d p refl refl refl (λ m. refl)
+printed-is-read s n (event.Packet (of_packet.Stuck m)) d k i l p =
     subst (λ (c : Command). Reads s n (words_of (line (codes "stuck" ++ 32 ∷ decimal m))) c) (sym p.1) (numbered s n k i l word.Stuck m (command.Stuck m) p.0 refl refl refl (index s n k i l m (command.Stuck m) p.0))
 printed-is-read s n (event.Foreign place side got) d k i l p = absurd p

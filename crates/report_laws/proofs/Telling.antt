@@ -1,11 +1,12 @@
 -- Lines of events give the events back.
-use Rattle.std.proofs.Common.{◌≡◌, ◌<◌, ◌≤◌, ◌^◌, ◌==◌, inl, inr, ℕ, Bool, true, List, [], ◌∷◌, ◌++◌, length, map, take, codes, refl, sym, ◌∙◌, ap, subst, Option, Some, slice_get, arith, append-nil}
+use Rattle.std.proofs.Common.{◌≡◌, ◌<◌, ◌≤◌, ◌^◌, ◌==◌, inl, inr, ℕ, Bool, true, List, [], ◌∷◌, ◌++◌, length, map, take, codes, refl, sym, ◌∙◌, ap, subst, Option, Some, slice_get, arith, append-nil, if◌then◌else◌, false}
 use Rattle.std.proofs.lemmas.Bool.{false≢true, cases_lt}
 use Rattle.std.proofs.lemmas.Fmt.{decimal_injective}
 use Rattle.std.proofs.lemmas.List.{append_assoc, append_cancel_left}
 use Rattle.std.proofs.lemmas.Slice.Eq.{bytes_eq-Decides}
 use Rattle.std.specs.Fmt.{decimal}
-use Rattle.std.specs.List.{AllByRecursion}
+use Rattle.std.specs.List.{AllByRecursion, list_any}
+use Rattle.std.specs.Str.{bytes_eq}
 use native.Mathlib.Decide.{ℕ_discrete}
 use Rattle.topology_model.specs.Layouts.{Layout}
 use Rattle.topology_model.specs.Wired.{IsTopology}
@@ -16,7 +17,13 @@ use Rattle.update_coordinator.specs.declared.cause.Side.TheVariants.{Controller,
 use Rattle.update_laws.proofs.Places.{get-some}
 use Rattle.update_laws.proofs.Wiring.{at-in, get-mapped}
 use Rattle.world_core.specs.declared.event.Event.{Event}
-use Rattle.world_core.specs.declared.event.Event.TheVariants.{Begin, Send, Take, Apply, Reply, Heard, Arrive, Hop, Drained, Lost, Rejoin, Stuck, Foreign}
+use Rattle.world_core.specs.declared.event.Event.TheVariants as event
+use Rattle.world_core.specs.declared.event.ControllerEvent.{ControllerEvent}
+use Rattle.world_core.specs.declared.event.PacketEvent.{PacketEvent}
+use Rattle.world_core.specs.declared.event.SwitchEvent.{SwitchEvent}
+use Rattle.world_core.specs.declared.event.ControllerEvent.TheVariants as of_controller
+use Rattle.world_core.specs.declared.event.PacketEvent.TheVariants as of_packet
+use Rattle.world_core.specs.declared.event.SwitchEvent.TheVariants as of_switch
 use Rattle.report_text.specs.Events.{number_text, number_at, side_text, event_text, events_text}
 use Rattle.report_text.specs.Causes.{state_text}
 use Rattle.line_laws.proofs.Cut.{every, stops, cut, rest, every-append}
@@ -88,46 +95,91 @@ parts-same t topology j k xs ys l m e =
     let c = cut digit (number_at t.switches j) (number_at t.switches k) (32 ∷ xs) (32 ∷ ys) (number-digits t topology j l) (number-digits t topology k m) refl refl e in
     (number-same t topology j k l m c.0, rest 32 32 xs ys c.1)
 
-event-same : (t : Layout) → IsTopology t → (e f : Event) → IsInWords t e → IsInWords t f → event_text t.switches e ≡ event_text t.switches f → shown e ≡ shown f
-event-same t topology Begin Begin k l h = refl
-event-same t topology (Send a) (Send b) k l h = ap (λ (n : ℕ). Send n) (number-same t topology a b k l (append_cancel_left (codes "send ") _ _ h))
-event-same t topology (Take a) (Take b) k l h = ap (λ (n : ℕ). Take n) (number-same t topology a b k l (append_cancel_left (codes "take ") _ _ h))
-event-same t topology (Apply a m) (Apply b n) k l h =
+-- the kind of an event, and the kind that its first three characters tell
+abbrev kind_of : Event → ℕ
+kind_of (event.Controller e) = 0
+kind_of (event.Switch e) = 1
+kind_of (event.Packet e) = 2
+kind_of (event.Foreign s side got) = 3
+
+abbrev is_one : List ℕ → List (List ℕ) → Bool
+is_one xs words = list_any (λ w. bytes_eq xs w) words
+
+abbrev kind_told : List ℕ → ℕ
+kind_told xs =
+    if is_one xs (codes "beg" ∷ codes "sen" ∷ codes "hea" ∷ codes "dra" ∷ codes "los" ∷ codes "rej" ∷ []) then 0 else (
+    if is_one xs (codes "tak" ∷ codes "app" ∷ codes "rep" ∷ []) then 1 else (
+    if is_one xs (codes "arr" ∷ codes "hop" ∷ codes "stu" ∷ []) then 2 else 3))
+
+kind-told : (switches : List Site) (e : Event) → kind_told (front switches e) ≡ kind_of e
+kind-told switches (event.Controller of_controller.Begin) = refl
+kind-told switches (event.Controller (of_controller.Send s)) = refl
+kind-told switches (event.Controller (of_controller.Heard s)) = refl
+kind-told switches (event.Controller (of_controller.Drained v)) = refl
+kind-told switches (event.Controller (of_controller.Lost s)) = refl
+kind-told switches (event.Controller (of_controller.Rejoin s)) = refl
+kind-told switches (event.Switch (of_switch.Take s)) = refl
+kind-told switches (event.Switch (of_switch.Apply s k)) = refl
+kind-told switches (event.Switch (of_switch.Reply s)) = refl
+kind-told switches (event.Packet (of_packet.Arrive p tag)) = refl
+kind-told switches (event.Packet (of_packet.Hop k)) = refl
+kind-told switches (event.Packet (of_packet.Stuck k)) = refl
+kind-told switches (event.Foreign s side got) = refl
+
+controller-same : (t : Layout) → IsTopology t → (e f : ControllerEvent) → IsInWords t (event.Controller e) → IsInWords t (event.Controller f) → event_text t.switches (event.Controller e) ≡ event_text t.switches (event.Controller f) → shown (event.Controller e) ≡ shown (event.Controller f)
+controller-same t topology of_controller.Begin of_controller.Begin k l h = refl
+controller-same t topology (of_controller.Send a) (of_controller.Send b) k l h = ap (λ (n : ℕ). event.Controller (of_controller.Send n)) (number-same t topology a b k l (append_cancel_left (codes "send ") _ _ h))
+controller-same t topology (of_controller.Heard a) (of_controller.Heard b) k l h = ap (λ (n : ℕ). event.Controller (of_controller.Heard n)) (number-same t topology a b k l (append_cancel_left (codes "heard ") _ _ h))
+controller-same t topology (of_controller.Drained m) (of_controller.Drained n) k l h = ap (λ (x : ℕ). event.Controller (of_controller.Drained x)) (decimal_injective m n k l (append_cancel_left (codes "drained ") _ _ h))
+controller-same t topology (of_controller.Lost a) (of_controller.Lost b) k l h = ap (λ (n : ℕ). event.Controller (of_controller.Lost n)) (number-same t topology a b k l (append_cancel_left (codes "lost ") _ _ h))
+controller-same t topology (of_controller.Rejoin a) (of_controller.Rejoin b) k l h = ap (λ (n : ℕ). event.Controller (of_controller.Rejoin n)) (number-same t topology a b k l (append_cancel_left (codes "rejoin ") _ _ h))
+controller-same t topology e f k l h = absurd (false≢true ((bytes_eq-Decides (front t.switches (event.Controller e)) (front t.switches (event.Controller f))).1 (ap (λ (xs : List ℕ). take 3 xs) h)))
+
+switch-same : (t : Layout) → IsTopology t → (e f : SwitchEvent) → IsInWords t (event.Switch e) → IsInWords t (event.Switch f) → event_text t.switches (event.Switch e) ≡ event_text t.switches (event.Switch f) → shown (event.Switch e) ≡ shown (event.Switch f)
+switch-same t topology (of_switch.Take a) (of_switch.Take b) k l h = ap (λ (n : ℕ). event.Switch (of_switch.Take n)) (number-same t topology a b k l (append_cancel_left (codes "take ") _ _ h))
+switch-same t topology (of_switch.Apply a m) (of_switch.Apply b n) k l h =
     let c = parts-same t topology a b (decimal m) (decimal n) k.0 l.0 (append_cancel_left (codes "apply ") _ _ h) in
     let d = decimal_injective m n k.1 l.1 c.1 in
-    λ i. Apply (c.0 i) (d i)
-event-same t topology (Reply a) (Reply b) k l h = ap (λ (n : ℕ). Reply n) (number-same t topology a b k l (append_cancel_left (codes "reply ") _ _ h))
-event-same t topology (Heard a) (Heard b) k l h = ap (λ (n : ℕ). Heard n) (number-same t topology a b k l (append_cancel_left (codes "heard ") _ _ h))
-event-same t topology (Arrive p tag) (Arrive q u) k l h =
+    λ i. event.Switch (of_switch.Apply (c.0 i) (d i))
+switch-same t topology (of_switch.Reply a) (of_switch.Reply b) k l h = ap (λ (n : ℕ). event.Switch (of_switch.Reply n)) (number-same t topology a b k l (append_cancel_left (codes "reply ") _ _ h))
+switch-same t topology e f k l h = absurd (false≢true ((bytes_eq-Decides (front t.switches (event.Switch e)) (front t.switches (event.Switch f))).1 (ap (λ (xs : List ℕ). take 3 xs) h)))
+
+packet-same : (t : Layout) → IsTopology t → (e f : PacketEvent) → IsInWords t (event.Packet e) → IsInWords t (event.Packet f) → event_text t.switches (event.Packet e) ≡ event_text t.switches (event.Packet f) → shown (event.Packet e) ≡ shown (event.Packet f)
+packet-same t topology (of_packet.Arrive p tag) (of_packet.Arrive q u) k l h =
     let c = incoming-same p q tag u k.0 l.0 k.1 l.1 (append_cancel_left (codes "arrive ") _ _ h) in
-    λ i. Arrive (c.0 i) (c.1 i)
-event-same t topology (Hop m) (Hop n) k l h = ap (λ (x : ℕ). Hop x) (decimal_injective m n k l (append_cancel_left (codes "hop ") _ _ h))
-event-same t topology (Drained m) (Drained n) k l h = ap (λ (x : ℕ). Drained x) (decimal_injective m n k l (append_cancel_left (codes "drained ") _ _ h))
-event-same t topology (Lost a) (Lost b) k l h = ap (λ (n : ℕ). Lost n) (number-same t topology a b k l (append_cancel_left (codes "lost ") _ _ h))
-event-same t topology (Rejoin a) (Rejoin b) k l h = ap (λ (n : ℕ). Rejoin n) (number-same t topology a b k l (append_cancel_left (codes "rejoin ") _ _ h))
-event-same t topology (Stuck m) (Stuck n) k l h = ap (λ (x : ℕ). Stuck x) (decimal_injective m n k l (append_cancel_left (codes "stuck ") _ _ h))
-event-same t topology (Foreign a side got) (Foreign b face bytes) k l h =
+    λ i. event.Packet (of_packet.Arrive (c.0 i) (c.1 i))
+packet-same t topology (of_packet.Hop m) (of_packet.Hop n) k l h = ap (λ (x : ℕ). event.Packet (of_packet.Hop x)) (decimal_injective m n k l (append_cancel_left (codes "hop ") _ _ h))
+packet-same t topology (of_packet.Stuck m) (of_packet.Stuck n) k l h = ap (λ (x : ℕ). event.Packet (of_packet.Stuck x)) (decimal_injective m n k l (append_cancel_left (codes "stuck ") _ _ h))
+packet-same t topology e f k l h = absurd (false≢true ((bytes_eq-Decides (front t.switches (event.Packet e)) (front t.switches (event.Packet f))).1 (ap (λ (xs : List ℕ). take 3 xs) h)))
+
+event-same : (t : Layout) → IsTopology t → (e f : Event) → IsInWords t e → IsInWords t f → event_text t.switches e ≡ event_text t.switches f → shown e ≡ shown f
+event-same t topology (event.Controller e) (event.Controller f) k l h = controller-same t topology e f k l h
+event-same t topology (event.Switch e) (event.Switch f) k l h = switch-same t topology e f k l h
+event-same t topology (event.Packet e) (event.Packet f) k l h = packet-same t topology e f k l h
+event-same t topology (event.Foreign a side got) (event.Foreign b face bytes) k l h =
     let c = parts-same t topology a b (side_text side) (side_text face) k l (append_cancel_left (codes "foreign ") _ _ h) in
     let d = side-same side face c.1 in
-    λ i. Foreign (c.0 i) (d i) []
-event-same t topology e f k l h = absurd (false≢true ((bytes_eq-Decides (front t.switches e) (front t.switches f)).1 (ap (λ (xs : List ℕ). take 3 xs) h)))
+    λ i. event.Foreign (c.0 i) (d i) []
+event-same t topology e f k l h =
+    let same : kind_of e ≡ kind_of f = sym (kind-told t.switches e) ∙ ap (λ (xs : List ℕ). kind_told (take 3 xs)) h ∙ kind-told t.switches f in
+    absurd (false≢true (subst (λ (n : ℕ). (kind_of e == n) ≡ true) same refl))
 
 -- ---- lines
 
 event-line : (t : Layout) → IsTopology t → (e : Event) → IsInWords t e → every in_line (event_text t.switches e) ≡ true
-event-line t topology Begin k = refl
-event-line t topology (Send a) k = number-line t topology a k
-event-line t topology (Take a) k = number-line t topology a k
-event-line t topology (Apply a m) k = every-append in_line (number_at t.switches a) (32 ∷ decimal m) (number-line t topology a k.0) (decimal-line m k.1)
-event-line t topology (Reply a) k = number-line t topology a k
-event-line t topology (Heard a) k = number-line t topology a k
-event-line t topology (Arrive p tag) k = incoming-line p tag k.0 k.1
-event-line t topology (Hop m) k = decimal-line m k
-event-line t topology (Drained m) k = decimal-line m k
-event-line t topology (Lost a) k = number-line t topology a k
-event-line t topology (Rejoin a) k = number-line t topology a k
-event-line t topology (Stuck m) k = decimal-line m k
-event-line t topology (Foreign a side got) k = every-append in_line (number_at t.switches a) (32 ∷ side_text side) (number-line t topology a k) (side-line side)
+event-line t topology (event.Controller of_controller.Begin) k = refl
+event-line t topology (event.Controller (of_controller.Send a)) k = number-line t topology a k
+event-line t topology (event.Switch (of_switch.Take a)) k = number-line t topology a k
+event-line t topology (event.Switch (of_switch.Apply a m)) k = every-append in_line (number_at t.switches a) (32 ∷ decimal m) (number-line t topology a k.0) (decimal-line m k.1)
+event-line t topology (event.Switch (of_switch.Reply a)) k = number-line t topology a k
+event-line t topology (event.Controller (of_controller.Heard a)) k = number-line t topology a k
+event-line t topology (event.Packet (of_packet.Arrive p tag)) k = incoming-line p tag k.0 k.1
+event-line t topology (event.Packet (of_packet.Hop m)) k = decimal-line m k
+event-line t topology (event.Controller (of_controller.Drained m)) k = decimal-line m k
+event-line t topology (event.Controller (of_controller.Lost a)) k = number-line t topology a k
+event-line t topology (event.Controller (of_controller.Rejoin a)) k = number-line t topology a k
+event-line t topology (event.Packet (of_packet.Stuck m)) k = decimal-line m k
+event-line t topology (event.Foreign a side got) k = every-append in_line (number_at t.switches a) (32 ∷ side_text side) (number-line t topology a k) (side-line side)
   where
     side-line : (s : Side) → every in_line (side_text s) ≡ true
     side-line Controller = refl

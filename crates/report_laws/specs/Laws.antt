@@ -12,6 +12,9 @@ use Rattle.update_coordinator.specs.declared.phase.Phase.{Phase}
 use Rattle.update_laws.specs.Traffic.{Arrived}
 use Rattle.world_core.specs.declared.event.Event.{Event}
 use Rattle.world_core.specs.declared.event.Event.TheVariants as event
+use Rattle.world_core.specs.declared.event.ControllerEvent.TheVariants as of_controller
+use Rattle.world_core.specs.declared.event.PacketEvent.TheVariants as of_packet
+use Rattle.world_core.specs.declared.event.SwitchEvent.TheVariants as of_switch
 use Rattle.value_text.specs.Values.{line}
 use Rattle.report_text.specs.Events.{event_text, events_text}
 use Rattle.report_text.specs.Reports.{IsReportText}
@@ -25,18 +28,18 @@ use Rattle.document_text.specs.Texts.{words_of}
 
 -- The event names switches that are there; its numbers are below 2 ^ 64, and a packet that comes in is in range.
 abbrev pub IsInWords : Layout → Event → Type 0
-IsInWords t event.Begin = Unit {0}
-IsInWords t (event.Apply place k) = (place < length t.switches) × (k < 2 ^ 64)
-IsInWords t (event.Arrive pk tag) = IsInRange pk × IsTag tag
-IsInWords t (event.Hop k) = k < 2 ^ 64
-IsInWords t (event.Drained stamp) = stamp < 2 ^ 64
-IsInWords t (event.Stuck k) = k < 2 ^ 64
-IsInWords t (event.Send place) = place < length t.switches
-IsInWords t (event.Take place) = place < length t.switches
-IsInWords t (event.Reply place) = place < length t.switches
-IsInWords t (event.Heard place) = place < length t.switches
-IsInWords t (event.Lost place) = place < length t.switches
-IsInWords t (event.Rejoin place) = place < length t.switches
+IsInWords t (event.Controller of_controller.Begin) = Unit {0}
+IsInWords t (event.Switch (of_switch.Apply place k)) = (place < length t.switches) × (k < 2 ^ 64)
+IsInWords t (event.Packet (of_packet.Arrive pk tag)) = IsInRange pk × IsTag tag
+IsInWords t (event.Packet (of_packet.Hop k)) = k < 2 ^ 64
+IsInWords t (event.Controller (of_controller.Drained stamp)) = stamp < 2 ^ 64
+IsInWords t (event.Packet (of_packet.Stuck k)) = k < 2 ^ 64
+IsInWords t (event.Controller (of_controller.Send place)) = place < length t.switches
+IsInWords t (event.Switch (of_switch.Take place)) = place < length t.switches
+IsInWords t (event.Switch (of_switch.Reply place)) = place < length t.switches
+IsInWords t (event.Controller (of_controller.Heard place)) = place < length t.switches
+IsInWords t (event.Controller (of_controller.Lost place)) = place < length t.switches
+IsInWords t (event.Controller (of_controller.Rejoin place)) = place < length t.switches
 IsInWords t (event.Foreign place side got) = place < length t.switches
 
 -- the event without foreign bytes, which its line does not show
@@ -68,18 +71,18 @@ Names switches place of d = (x : Site) × (slice_get switches place ≡ Some x) 
 
 -- What a schedule has for the event: places of copies and of flow mods are at most 4294967295, and stamps are VLAN ids. No schedule has a packet by itself or foreign bytes.
 abbrev pub IsScheduled : List Site → Event → Command → Type 0
-IsScheduled switches event.Begin d = d ≡ command.Begin
-IsScheduled switches (event.Send place) d = Names switches place command.Send d
-IsScheduled switches (event.Take place) d = Names switches place command.Take d
-IsScheduled switches (event.Apply place k) d = (k ≤ 4294967295) × Names switches place (λ n. command.Apply n k) d
-IsScheduled switches (event.Reply place) d = Names switches place command.Reply d
-IsScheduled switches (event.Heard place) d = Names switches place command.Heard d
-IsScheduled switches (event.Hop k) d = (k ≤ 4294967295) × (d ≡ command.Hop k)
-IsScheduled switches (event.Drained stamp) d = IsVlanId stamp × (d ≡ command.Drained stamp)
-IsScheduled switches (event.Lost place) d = Names switches place command.Lost d
-IsScheduled switches (event.Rejoin place) d = Names switches place command.Rejoin d
-IsScheduled switches (event.Stuck k) d = (k ≤ 4294967295) × (d ≡ command.Stuck k)
-IsScheduled switches (event.Arrive pk tag) d = ⊥
+IsScheduled switches (event.Controller of_controller.Begin) d = d ≡ command.Begin
+IsScheduled switches (event.Controller (of_controller.Send place)) d = Names switches place command.Send d
+IsScheduled switches (event.Switch (of_switch.Take place)) d = Names switches place command.Take d
+IsScheduled switches (event.Switch (of_switch.Apply place k)) d = (k ≤ 4294967295) × Names switches place (λ n. command.Apply n k) d
+IsScheduled switches (event.Switch (of_switch.Reply place)) d = Names switches place command.Reply d
+IsScheduled switches (event.Controller (of_controller.Heard place)) d = Names switches place command.Heard d
+IsScheduled switches (event.Packet (of_packet.Hop k)) d = (k ≤ 4294967295) × (d ≡ command.Hop k)
+IsScheduled switches (event.Controller (of_controller.Drained stamp)) d = IsVlanId stamp × (d ≡ command.Drained stamp)
+IsScheduled switches (event.Controller (of_controller.Lost place)) d = Names switches place command.Lost d
+IsScheduled switches (event.Controller (of_controller.Rejoin place)) d = Names switches place command.Rejoin d
+IsScheduled switches (event.Packet (of_packet.Stuck k)) d = (k ≤ 4294967295) × (d ≡ command.Stuck k)
+IsScheduled switches (event.Packet (of_packet.Arrive pk tag)) d = ⊥
 IsScheduled switches (event.Foreign place side got) d = ⊥
 
 -- Inside of a schedule that may have one line more, the line that reports print for an event, without the `e ` in front, is read as that event.

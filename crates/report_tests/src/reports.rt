@@ -9,7 +9,7 @@ use std::alloc::{AllocError, Global};
 use std::test::Fail;
 use topology_model::{Ports, Site};
 use update_coordinator::{Cause, Phase, Side};
-use world_core::Event;
+use world_core::{ControllerEvent, Event, PacketEvent, SwitchEvent};
 
 const EVENTS: &str =
     "e begin\ne send 1\ne take 7\ne apply 1 2\ne reply 7\ne heard 1\ne arrive 1:2 vlan=none ethTyp=0x0800 ipProto=0 ethSrc=00:00:00:00:00:00 ethDst=00:00:00:00:00:05 ip4Src=0.0.0.0 ip4Dst=0.0.0.0 tcpSrcPort=0 tcpDstPort=0\ne hop 3\ne drained 1\ne lost 7\ne stuck 4\ne foreign 1 controller\ne foreign 7 switch\nphase idle 2\n";
@@ -28,17 +28,17 @@ fn switches(alloc: Global) -> Result<Vec<Site>, AllocError> {
 fn events(alloc: Global) -> Result<Vec<Event>, AllocError> {
     let came = Octets::from_slice(alloc, &[1, 2])?;
     Ok(vec![in alloc;
-        Event::Begin,
-        Event::Send(0),
-        Event::Take(1),
-        Event::Apply(0, 2),
-        Event::Reply(1),
-        Event::Heard(0),
-        Event::Arrive(packet((1, 2), 5), Tag::none()),
-        Event::Hop(3),
-        Event::Drained(1),
-        Event::Lost(1),
-        Event::Stuck(4),
+        Event::Controller(ControllerEvent::Begin),
+        Event::Controller(ControllerEvent::Send(0)),
+        Event::Switch(SwitchEvent::Take(1)),
+        Event::Switch(SwitchEvent::Apply(0, 2)),
+        Event::Switch(SwitchEvent::Reply(1)),
+        Event::Controller(ControllerEvent::Heard(0)),
+        Event::Packet(PacketEvent::Arrive(packet((1, 2), 5), Tag::none())),
+        Event::Packet(PacketEvent::Hop(3)),
+        Event::Controller(ControllerEvent::Drained(1)),
+        Event::Controller(ControllerEvent::Lost(1)),
+        Event::Packet(PacketEvent::Stuck(4)),
         Event::Foreign(0, Side::Controller, came.copy(alloc)?),
         Event::Foreign(1, Side::Switch, came),
     ]?)

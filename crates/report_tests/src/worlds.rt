@@ -8,7 +8,7 @@ use std::alloc::{AllocError, Global};
 use std::test::Fail;
 use topology_model::Topology;
 use update_coordinator::Side;
-use world_core::{Event, Settings, World};
+use world_core::{ControllerEvent, Event, Settings, World};
 
 // The switch's HELLO was due.
 const REPORT: &str =
@@ -54,18 +54,56 @@ fn a_lost_switch_returns(rt: HostRuntime) -> Result<(), Fail> {
     let one = topology(&rt, rt.alloc(), 1)?;
     let mut world = empty(rt.alloc(), one, 1)?;
     let mut events = Vec::new(rt.alloc());
-    assert!(rt; step(rt.alloc(), &mut world, &mut events, Event::Heard(0)));
-    assert!(rt; step(rt.alloc(), &mut world, &mut events, Event::Send(0)));
-    assert!(rt; !world.enabled(&Event::Rejoin(0)));
-    assert!(rt; step(rt.alloc(), &mut world, &mut events, Event::Lost(0)));
-    assert!(rt; !world.enabled(&Event::Lost(0)) && !world.enabled(&Event::Send(0)));
-    assert!(rt; step(rt.alloc(), &mut world, &mut events, Event::Rejoin(0)));
+    assert!(rt;
+        step(
+            rt.alloc(),
+            &mut world,
+            &mut events,
+            Event::Controller(ControllerEvent::Heard(0))
+        )
+    );
+    assert!(rt;
+        step(
+            rt.alloc(),
+            &mut world,
+            &mut events,
+            Event::Controller(ControllerEvent::Send(0))
+        )
+    );
+    assert!(rt; !world.enabled(&Event::Controller(ControllerEvent::Rejoin(0))));
+    assert!(rt;
+        step(
+            rt.alloc(),
+            &mut world,
+            &mut events,
+            Event::Controller(ControllerEvent::Lost(0))
+        )
+    );
+    assert!(rt;
+        !world.enabled(&Event::Controller(ControllerEvent::Lost(0)))
+            && !world.enabled(&Event::Controller(ControllerEvent::Send(0)))
+    );
+    assert!(rt;
+        step(
+            rt.alloc(),
+            &mut world,
+            &mut events,
+            Event::Controller(ControllerEvent::Rejoin(0))
+        )
+    );
     for event in world.settle(rt.alloc())? {
         events.push(event)?;
     }
     let text = world_report(rt.alloc(), &world, &events)?;
     assert_eq!(rt; text.as_str(), RETURNED);
-    assert!(rt; step(rt.alloc(), &mut world, &mut events, Event::Lost(0)));
+    assert!(rt;
+        step(
+            rt.alloc(),
+            &mut world,
+            &mut events,
+            Event::Controller(ControllerEvent::Lost(0))
+        )
+    );
     assert!(rt; world.coordinator().halt().is_some());
     Ok(())
 }

@@ -17,6 +17,9 @@ use Rattle.update_laws.proofs.Wiring.{some-is, head-is}
 use Rattle.packet_tracer.specs.declared.flight.Flight.{Flight}
 use Rattle.world_core.specs.declared.event.Event.{Event}
 use Rattle.world_core.specs.declared.event.Event.TheVariants as event
+use Rattle.world_core.specs.declared.event.ControllerEvent.TheVariants as of_controller
+use Rattle.world_core.specs.declared.event.PacketEvent.TheVariants as of_packet
+use Rattle.world_core.specs.declared.event.SwitchEvent.TheVariants as of_switch
 use Rattle.world_core.specs.Laws.{HaltsStay, LastLossHalts}
 use Rattle.world_core.specs.Worlds.{WorldValue}
 use Rattle.world_core.specs.Steps.{foreign_cause, InFleet, Loses, Receives, Runs, Step, Sticks}
@@ -141,21 +144,21 @@ in-fleet : (w v : WorldValue) (f : Fleet) → v ≡ record w { fleet = f } → h
 in-fleet w v f now = ap halt_of now
 
 pub halts-exactly : LastLossHalts → HaltsExactly
-halts-exactly last w event.Begin v why n s = quiet w v event.Begin why never (in-fleet w v s.fleet s.now ∙ ap (λ (x : Fleet). x.control.halt) s.step.now) n
-halts-exactly last w (event.Send p) v why n s =
-    quiet w v (event.Send p) why never (in-fleet w v s.fleet s.now ∙ ap (λ (x : Fleet). x.control.halt) s.step.now ∙ ap (λ (x : Control). x.halt) s.step.sent.now) n
-halts-exactly last w (event.Take p) v why n s = quiet w v (event.Take p) why never (in-fleet w v s.fleet s.now ∙ ap (λ (x : Fleet). x.control.halt) s.step.now) n
-halts-exactly last w (event.Apply p k) v why n s = quiet w v (event.Apply p k) why never (in-fleet w v s.fleet s.now ∙ ap (λ (x : Fleet). x.control.halt) s.step.now) n
-halts-exactly last w (event.Reply p) v why n s = quiet w v (event.Reply p) why never (in-fleet w v s.fleet s.now ∙ ap (λ (x : Fleet). x.control.halt) s.step.now) n
-halts-exactly last w (event.Heard p) v why n s = heard-halts p w v why n s
-halts-exactly last w (event.Arrive pk tag) v why n s = quiet w v (event.Arrive pk tag) why never (ap halt_of s.now) n
-halts-exactly last w (event.Hop k) v why n s = quiet w v (event.Hop k) why never (ap halt_of s.now) n
-halts-exactly last w (event.Drained stamp) v why n s =
-    quiet w v (event.Drained stamp) why never (in-fleet w v s.step.fleet s.step.now ∙ ap (λ (x : Fleet). x.control.halt) s.step.step.now) n
-halts-exactly last w (event.Lost p) v why n s = lost-halts last p w v why n s
-halts-exactly last w (event.Rejoin p) v why n s =
-    quiet w v (event.Rejoin p) why never (in-fleet w v s.fleet s.now ∙ ap (λ (x : Fleet). x.control.halt) s.step.now ∙ ap (λ (x : Control). x.halt) s.step.back.now) n
-halts-exactly last w (event.Stuck k) v why n s = stuck-halts k w v why s
+halts-exactly last w (event.Controller of_controller.Begin) v why n s = quiet w v (event.Controller of_controller.Begin) why never (in-fleet w v s.fleet s.now ∙ ap (λ (x : Fleet). x.control.halt) s.step.now) n
+halts-exactly last w (event.Controller (of_controller.Send p)) v why n s =
+    quiet w v (event.Controller (of_controller.Send p)) why never (in-fleet w v s.fleet s.now ∙ ap (λ (x : Fleet). x.control.halt) s.step.now ∙ ap (λ (x : Control). x.halt) s.step.sent.now) n
+halts-exactly last w (event.Switch (of_switch.Take p)) v why n s = quiet w v (event.Switch (of_switch.Take p)) why never (in-fleet w v s.fleet s.now ∙ ap (λ (x : Fleet). x.control.halt) s.step.now) n
+halts-exactly last w (event.Switch (of_switch.Apply p k)) v why n s = quiet w v (event.Switch (of_switch.Apply p k)) why never (in-fleet w v s.fleet s.now ∙ ap (λ (x : Fleet). x.control.halt) s.step.now) n
+halts-exactly last w (event.Switch (of_switch.Reply p)) v why n s = quiet w v (event.Switch (of_switch.Reply p)) why never (in-fleet w v s.fleet s.now ∙ ap (λ (x : Fleet). x.control.halt) s.step.now) n
+halts-exactly last w (event.Controller (of_controller.Heard p)) v why n s = heard-halts p w v why n s
+halts-exactly last w (event.Packet (of_packet.Arrive pk tag)) v why n s = quiet w v (event.Packet (of_packet.Arrive pk tag)) why never (ap halt_of s.now) n
+halts-exactly last w (event.Packet (of_packet.Hop k)) v why n s = quiet w v (event.Packet (of_packet.Hop k)) why never (ap halt_of s.now) n
+halts-exactly last w (event.Controller (of_controller.Drained stamp)) v why n s =
+    quiet w v (event.Controller (of_controller.Drained stamp)) why never (in-fleet w v s.step.fleet s.step.now ∙ ap (λ (x : Fleet). x.control.halt) s.step.step.now) n
+halts-exactly last w (event.Controller (of_controller.Lost p)) v why n s = lost-halts last p w v why n s
+halts-exactly last w (event.Controller (of_controller.Rejoin p)) v why n s =
+    quiet w v (event.Controller (of_controller.Rejoin p)) why never (in-fleet w v s.fleet s.now ∙ ap (λ (x : Fleet). x.control.halt) s.step.now ∙ ap (λ (x : Control). x.halt) s.step.back.now) n
+halts-exactly last w (event.Packet (of_packet.Stuck k)) v why n s = stuck-halts k w v why s
 halts-exactly last w (event.Foreign p side got) v why n s = strange-halts p side got w v why s
 
 -- ---- runs

@@ -20,6 +20,9 @@ use Rattle.update_laws.proofs.Places.{Put, put-set, among, Last, Earlier, get-wi
 use Rattle.update_laws.proofs.Wiring.{some-is, at-in, removed-in}
 use Rattle.world_core.specs.declared.event.Event.{Event}
 use Rattle.world_core.specs.declared.event.Event.TheVariants as event
+use Rattle.world_core.specs.declared.event.ControllerEvent.TheVariants as of_controller
+use Rattle.world_core.specs.declared.event.PacketEvent.TheVariants as of_packet
+use Rattle.world_core.specs.declared.event.SwitchEvent.TheVariants as of_switch
 use Rattle.world_core.specs.Worlds.{WorldValue}
 use Rattle.world_core.specs.Steps.{first_copy, Arrives, Hops, Runs, Step}
 
@@ -113,18 +116,18 @@ in-fleet : (w v : WorldValue) (f : Fleet) → v ≡ record w { fleet = f } → B
 in-fleet w v f now h = subst BeginIn (sym now) h
 
 step-begin : (w : WorldValue) (e : Event) (v : WorldValue) → Step w e v → BeginIn w → BeginIn v
-step-begin w event.Begin v s h = in-fleet w v s.fleet s.now h
-step-begin w (event.Send p) v s h = in-fleet w v s.fleet s.now h
-step-begin w (event.Take p) v s h = in-fleet w v s.fleet s.now h
-step-begin w (event.Apply p k) v s h = in-fleet w v s.fleet s.now h
-step-begin w (event.Reply p) v s h = in-fleet w v s.fleet s.now h
-step-begin w (event.Heard p) v s h = in-fleet w v s.fleet s.now h
-step-begin w (event.Arrive pk tag) v s h = arrives-begin pk tag w v s h
-step-begin w (event.Hop k) v s h = hops-begin k w v s h
-step-begin w (event.Drained stamp) v s h = in-fleet w v s.step.fleet s.step.now h
-step-begin w (event.Lost p) v s h = in-fleet w v s.fleet s.now h
-step-begin w (event.Rejoin p) v s h = in-fleet w v s.fleet s.now h
-step-begin w (event.Stuck k) v s h = subst BeginIn (sym s.now) h
+step-begin w (event.Controller of_controller.Begin) v s h = in-fleet w v s.fleet s.now h
+step-begin w (event.Controller (of_controller.Send p)) v s h = in-fleet w v s.fleet s.now h
+step-begin w (event.Switch (of_switch.Take p)) v s h = in-fleet w v s.fleet s.now h
+step-begin w (event.Switch (of_switch.Apply p k)) v s h = in-fleet w v s.fleet s.now h
+step-begin w (event.Switch (of_switch.Reply p)) v s h = in-fleet w v s.fleet s.now h
+step-begin w (event.Controller (of_controller.Heard p)) v s h = in-fleet w v s.fleet s.now h
+step-begin w (event.Packet (of_packet.Arrive pk tag)) v s h = arrives-begin pk tag w v s h
+step-begin w (event.Packet (of_packet.Hop k)) v s h = hops-begin k w v s h
+step-begin w (event.Controller (of_controller.Drained stamp)) v s h = in-fleet w v s.step.fleet s.step.now h
+step-begin w (event.Controller (of_controller.Lost p)) v s h = in-fleet w v s.fleet s.now h
+step-begin w (event.Controller (of_controller.Rejoin p)) v s h = in-fleet w v s.fleet s.now h
+step-begin w (event.Packet (of_packet.Stuck k)) v s h = subst BeginIn (sym s.now) h
 step-begin w (event.Foreign p side got) v s h = subst BeginIn (sym s.now) h
 
 pub runs-begin : (w : WorldValue) (es : List Event) (v : WorldValue) → Runs w es v → BeginIn w → BeginIn v

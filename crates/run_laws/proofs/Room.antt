@@ -13,6 +13,9 @@ use Rattle.update_laws.proofs.Places.{put-set, get-map}
 use Rattle.update_laws.proofs.Wiring.{some-is}
 use Rattle.world_core.specs.declared.event.Event.{Event}
 use Rattle.world_core.specs.declared.event.Event.TheVariants as event
+use Rattle.world_core.specs.declared.event.ControllerEvent.TheVariants as of_controller
+use Rattle.world_core.specs.declared.event.PacketEvent.TheVariants as of_packet
+use Rattle.world_core.specs.declared.event.SwitchEvent.TheVariants as of_switch
 use Rattle.world_core.specs.Ends.{new_end}
 use Rattle.world_core.specs.Laws.{HasRoom}
 use Rattle.world_core.specs.Worlds.{WorldValue, IsKept}
@@ -104,31 +107,31 @@ lost-room place w v s h = elim s.step [
 ]
 
 step-room : HasRoom → (w : WorldValue) (e : Event) (v : WorldValue) → IsKept w → Step w e v → KeepsRoom w → KeepsRoom v
-step-room room w event.Begin v k s h = ends-are w v s.fleet w.fleet.ends s.now (ap (λ (f : Fleet). f.ends) s.step.now) h
-step-room room w (event.Send p) v k s h =
+step-room room w (event.Controller of_controller.Begin) v k s h = ends-are w v s.fleet w.fleet.ends s.now (ap (λ (f : Fleet). f.ends) s.step.now) h
+step-room room w (event.Controller (of_controller.Send p)) v k s h =
     ends-are w v s.fleet _ s.now (ap (λ (f : Fleet). f.ends) s.step.now) (λ l. set-back w.fleet.ends p s.step.old _ s.step.here (h l) (h l p s.step.old s.step.here))
-step-room room w (event.Take p) v k s h =
+step-room room w (event.Switch (of_switch.Take p)) v k s h =
     ends-are w v s.fleet _ s.now (ap (λ (f : Fleet). f.ends) s.step.now)
     (λ l. set-back w.fleet.ends p s.step.old _ s.step.here (h l)
     (none-answered (answer_of s.step.old.switch.sw s.step.message) s.step.old.back (not-full s.step.old.switch.sw s.step.message) (h l p s.step.old s.step.here)))
-step-room room w (event.Apply p n) v k s h =
+step-room room w (event.Switch (of_switch.Apply p n)) v k s h =
     ends-are w v s.fleet _ s.now (ap (λ (f : Fleet). f.ends) s.step.now)
     (λ l. set-back w.fleet.ends p s.step.old _ s.step.here (h l)
     (none-told s.step.site.away s.step.answer s.step.old.back (room w p n v k l s) (h l p s.step.old s.step.here)))
-step-room room w (event.Reply p) v k s h =
+step-room room w (event.Switch (of_switch.Reply p)) v k s h =
     ends-are w v s.fleet _ s.now (ap (λ (f : Fleet). f.ends) s.step.now)
     (λ l. set-back w.fleet.ends p s.step.old _ s.step.here (h l)
     (one-more s.step.old.back s.step.answer (h l p s.step.old s.step.here) (λ f. barrier-not-full s.step.step.xid (subst IsFullError s.step.step.reply f))))
-step-room room w (event.Heard p) v k s h =
+step-room room w (event.Controller (of_controller.Heard p)) v k s h =
     ends-are w v s.fleet _ s.now (ap (λ (f : Fleet). f.ends) s.step.now)
     (λ l. set-back w.fleet.ends p s.step.old _ s.step.here (h l) (λ m i. h l p s.step.old s.step.here m (subst (λ (ms : List Message). IsIn ms m) (sym s.step.front) (inr i))))
-step-room room w (event.Arrive pk tag) v k s h = subst KeepsRoom (sym s.now) h
-step-room room w (event.Hop n) v k s h = subst KeepsRoom (sym s.now) h
-step-room room w (event.Drained stamp) v k s h = ends-are w v s.step.fleet w.fleet.ends s.step.now (ap (λ (f : Fleet). f.ends) s.step.step.now) h
-step-room room w (event.Lost p) v k s h = lost-room p w v s h
-step-room room w (event.Rejoin p) v k s h =
+step-room room w (event.Packet (of_packet.Arrive pk tag)) v k s h = subst KeepsRoom (sym s.now) h
+step-room room w (event.Packet (of_packet.Hop n)) v k s h = subst KeepsRoom (sym s.now) h
+step-room room w (event.Controller (of_controller.Drained stamp)) v k s h = ends-are w v s.step.fleet w.fleet.ends s.step.now (ap (λ (f : Fleet). f.ends) s.step.step.now) h
+step-room room w (event.Controller (of_controller.Lost p)) v k s h = lost-room p w v s h
+step-room room w (event.Controller (of_controller.Rejoin p)) v k s h =
     ends-are w v s.fleet _ s.now (ap (λ (f : Fleet). f.ends) s.step.now) (λ l. set-back w.fleet.ends p s.step.old _ s.step.here (h l) (one-hello 0))
-step-room room w (event.Stuck n) v k s h = subst KeepsRoom (sym s.now) h
+step-room room w (event.Packet (of_packet.Stuck n)) v k s h = subst KeepsRoom (sym s.now) h
 step-room room w (event.Foreign p side got) v k s h = subst KeepsRoom (sym s.now) h
 
 pub runs-room : HasRoom → (w : WorldValue) (es : List Event) (v : WorldValue) → IsKept w → Runs w es v → KeepsRoom w → KeepsRoom v

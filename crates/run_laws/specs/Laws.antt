@@ -20,6 +20,8 @@ use Rattle.update_laws.specs.Fleets.{End}
 use Rattle.update_laws.specs.Traffic.{Arrived, IsCovered}
 use Rattle.world_core.specs.declared.event.Event.{Event}
 use Rattle.world_core.specs.declared.event.Event.TheVariants as event
+use Rattle.world_core.specs.declared.event.ControllerEvent.TheVariants as of_controller
+use Rattle.world_core.specs.declared.event.PacketEvent.TheVariants as of_packet
 use Rattle.world_core.specs.declared.settings.Settings.{Settings}
 use Rattle.world_core.specs.Worlds.{WorldValue, setting, start}
 use Rattle.world_core.specs.Ends.{channel, HasSession, IsFront}
@@ -93,9 +95,9 @@ pub record IsStrange (place : ℕ) (side : Side) (got : List ℕ) (w : WorldValu
 
 -- the event halts the updates of the world for this cause
 abbrev pub HaltsFor : WorldValue → Event → Cause → Type 0
-HaltsFor w (event.Lost place) why = IsLastLoss place w why
-HaltsFor w (event.Heard place) why = IsFailure place w why
-HaltsFor w (event.Stuck k) why = IsUndrained k w why
+HaltsFor w (event.Controller (of_controller.Lost place)) why = IsLastLoss place w why
+HaltsFor w (event.Controller (of_controller.Heard place)) why = IsFailure place w why
+HaltsFor w (event.Packet (of_packet.Stuck k)) why = IsUndrained k w why
 HaltsFor w (event.Foreign place side got) why = IsStrange place side got w why
 HaltsFor w _ why = ⊥
 
@@ -124,4 +126,4 @@ pub record IsRefused (w : WorldValue) (why : Cause) : Type 0 where
   pub short : w.capacity < 130000
 
 abbrev pub OnlyRefused : Type 0
-OnlyRefused = (events : List Event) (w : WorldValue) (place : ℕ) (why : Cause) → LeadsTo events w → HaltsFor w (event.Heard place) why → IsRefused w why
+OnlyRefused = (events : List Event) (w : WorldValue) (place : ℕ) (why : Cause) → LeadsTo events w → HaltsFor w (event.Controller (of_controller.Heard place)) why → IsRefused w why

@@ -3,6 +3,9 @@ use Rattle.std.proofs.Common.{◌≡◌, ◌⊎◌, inl, inr, ℕ, suc, Bool, tr
 use Rattle.world_journal.specs.Side.{Side}
 use Rattle.world_core.specs.declared.event.Event.{Event}
 use Rattle.world_core.specs.declared.event.Event.TheVariants as event
+use Rattle.world_core.specs.declared.event.ControllerEvent.TheVariants as of_controller
+use Rattle.world_core.specs.declared.event.PacketEvent.TheVariants as of_packet
+use Rattle.world_core.specs.declared.event.SwitchEvent.TheVariants as of_switch
 use Rattle.world_core.specs.Laws.{HaltsStay}
 use Rattle.world_core.specs.Steps.{Step, Runs}
 use Rattle.world_core.specs.Worlds.{WorldValue}
@@ -63,21 +66,21 @@ halts-after stay w (b ∷ bs) s side got rest v r = halts-after stay r.0 bs s si
 
 -- an end is kept only for what happens before a halt
 cut-runs : {E : Type 0} (n : ℕ) (named faults : E → ℕ) (received : E → Option (List ℕ)) (es : List Entry) (e : Event) (end : E) (w v : WorldValue) → MetBy n named faults received es e end → Step w e v → w.fleet.control.halt ≡ None
-cut-runs n named faults received es event.Begin end w v met step = absurd met
-cut-runs n named faults received es (event.Send t) end w v met step = absurd met
-cut-runs n named faults received es (event.Take t) end w v met step = absurd met
-cut-runs n named faults received es (event.Apply t k) end w v met step = absurd met
-cut-runs n named faults received es (event.Reply t) end w v met step = absurd met
-cut-runs n named faults received es (event.Heard t) end w v met step = absurd met
-cut-runs n named faults received es (event.Arrive pk tag) end w v met step = absurd met
-cut-runs n named faults received es (event.Hop k) end w v met step = absurd met
-cut-runs n named faults received es (event.Drained stamp) end w v met step = absurd met
-cut-runs n named faults received es (event.Lost t) end w v met step = elim step.step [
+cut-runs n named faults received es (event.Controller of_controller.Begin) end w v met step = absurd met
+cut-runs n named faults received es (event.Controller (of_controller.Send t)) end w v met step = absurd met
+cut-runs n named faults received es (event.Switch (of_switch.Take t)) end w v met step = absurd met
+cut-runs n named faults received es (event.Switch (of_switch.Apply t k)) end w v met step = absurd met
+cut-runs n named faults received es (event.Switch (of_switch.Reply t)) end w v met step = absurd met
+cut-runs n named faults received es (event.Controller (of_controller.Heard t)) end w v met step = absurd met
+cut-runs n named faults received es (event.Packet (of_packet.Arrive pk tag)) end w v met step = absurd met
+cut-runs n named faults received es (event.Packet (of_packet.Hop k)) end w v met step = absurd met
+cut-runs n named faults received es (event.Controller (of_controller.Drained stamp)) end w v met step = absurd met
+cut-runs n named faults received es (event.Controller (of_controller.Lost t)) end w v met step = elim step.step [
   | inl t ↦ t.lost.running
   | inr t ↦ t.lost.running
 ]
-cut-runs n named faults received es (event.Rejoin t) end w v met step = absurd met
-cut-runs n named faults received es (event.Stuck k) end w v met step = absurd met
+cut-runs n named faults received es (event.Controller (of_controller.Rejoin t)) end w v met step = absurd met
+cut-runs n named faults received es (event.Packet (of_packet.Stuck k)) end w v met step = absurd met
 cut-runs n named faults received es (event.Foreign t side got) end w v met step = step.may.0.running
 
 -- the last step of a run

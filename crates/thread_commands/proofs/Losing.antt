@@ -6,6 +6,9 @@ use Rattle.std.proofs.lemmas.Bool.Decides.{nat_tests}
 use Rattle.outside_net.specs.Told.{Breaks}
 use Rattle.world_core.specs.declared.event.Event.{Event}
 use Rattle.world_core.specs.declared.event.Event.TheVariants as event
+use Rattle.world_core.specs.declared.event.ControllerEvent.TheVariants as of_controller
+use Rattle.world_core.specs.declared.event.PacketEvent.TheVariants as of_packet
+use Rattle.world_core.specs.declared.event.SwitchEvent.TheVariants as of_switch
 use Rattle.world_core.specs.Laws.{counted, is_loss, losses, LossesCount, LastLossHalts}
 use Rattle.world_core.specs.Steps.{Step, Runs}
 use Rattle.world_core.specs.Worlds.{WorldValue}
@@ -36,33 +39,33 @@ broken-none faults end f = rw f refl
 -- ---- the ends of a journal
 
 no-loss : (e : Event) → is_cut e ≡ false → is_loss e ≡ false
-no-loss event.Begin f = refl
-no-loss (event.Send t) f = refl
-no-loss (event.Take t) f = refl
-no-loss (event.Apply t k) f = refl
-no-loss (event.Reply t) f = refl
-no-loss (event.Heard t) f = refl
-no-loss (event.Arrive pk tag) f = refl
-no-loss (event.Hop k) f = refl
-no-loss (event.Drained stamp) f = refl
-no-loss (event.Lost t) f = cc
-no-loss (event.Rejoin t) f = refl
-no-loss (event.Stuck k) f = refl
+no-loss (event.Controller of_controller.Begin) f = refl
+no-loss (event.Controller (of_controller.Send t)) f = refl
+no-loss (event.Switch (of_switch.Take t)) f = refl
+no-loss (event.Switch (of_switch.Apply t k)) f = refl
+no-loss (event.Switch (of_switch.Reply t)) f = refl
+no-loss (event.Controller (of_controller.Heard t)) f = refl
+no-loss (event.Packet (of_packet.Arrive pk tag)) f = refl
+no-loss (event.Packet (of_packet.Hop k)) f = refl
+no-loss (event.Controller (of_controller.Drained stamp)) f = refl
+no-loss (event.Controller (of_controller.Lost t)) f = cc
+no-loss (event.Controller (of_controller.Rejoin t)) f = refl
+no-loss (event.Packet (of_packet.Stuck k)) f = refl
 no-loss (event.Foreign t side got) f = cc
 
 cut-counts : {E : Type 0} (n : ℕ) (named faults : E → ℕ) (received : E → Option (List ℕ)) (es : List Entry) (e : Event) (end : E) → MetBy n named faults received es e end → counted (is_loss e) 0 ≤ many_broken faults (end ∷ [])
-cut-counts n named faults received es event.Begin end met = absurd met
-cut-counts n named faults received es (event.Send t) end met = absurd met
-cut-counts n named faults received es (event.Take t) end met = absurd met
-cut-counts n named faults received es (event.Apply t k) end met = absurd met
-cut-counts n named faults received es (event.Reply t) end met = absurd met
-cut-counts n named faults received es (event.Heard t) end met = absurd met
-cut-counts n named faults received es (event.Arrive pk tag) end met = absurd met
-cut-counts n named faults received es (event.Hop k) end met = absurd met
-cut-counts n named faults received es (event.Drained stamp) end met = absurd met
-cut-counts n named faults received es (event.Lost t) end met = omega (arith, broken-one faults end met.1)
-cut-counts n named faults received es (event.Rejoin t) end met = absurd met
-cut-counts n named faults received es (event.Stuck k) end met = absurd met
+cut-counts n named faults received es (event.Controller of_controller.Begin) end met = absurd met
+cut-counts n named faults received es (event.Controller (of_controller.Send t)) end met = absurd met
+cut-counts n named faults received es (event.Switch (of_switch.Take t)) end met = absurd met
+cut-counts n named faults received es (event.Switch (of_switch.Apply t k)) end met = absurd met
+cut-counts n named faults received es (event.Switch (of_switch.Reply t)) end met = absurd met
+cut-counts n named faults received es (event.Controller (of_controller.Heard t)) end met = absurd met
+cut-counts n named faults received es (event.Packet (of_packet.Arrive pk tag)) end met = absurd met
+cut-counts n named faults received es (event.Packet (of_packet.Hop k)) end met = absurd met
+cut-counts n named faults received es (event.Controller (of_controller.Drained stamp)) end met = absurd met
+cut-counts n named faults received es (event.Controller (of_controller.Lost t)) end met = omega (arith, broken-one faults end met.1)
+cut-counts n named faults received es (event.Controller (of_controller.Rejoin t)) end met = absurd met
+cut-counts n named faults received es (event.Packet (of_packet.Stuck k)) end met = absurd met
 cut-counts n named faults received es (event.Foreign t side got) end met = omega arith
 
 losses-last : (es : List Entry) (e : Entry) → losses (events_of (es ++ e ∷ [])) ≡ losses (events_of es) + counted (is_loss e.event) 0
@@ -118,12 +121,12 @@ rose-fewer before n many now l r = omega (arith, l, r)
 -- ---- the loss that halts
 
 -- it comes behind all those that do not
-pub halts-last : LossesCount → LastLossHalts → (w : WorldValue) (before : List Event) (v x : WorldValue) (s : ℕ) → Runs w before v → Step v (event.Lost s) x → ¬ (x.fleet.control.halt ≡ None) → losses before ≡ w.fleet.control.rejoins
+pub halts-last : LossesCount → LastLossHalts → (w : WorldValue) (before : List Event) (v x : WorldValue) (s : ℕ) → Runs w before v → Step v (event.Controller (of_controller.Lost s)) x → ¬ (x.fleet.control.halt ≡ None) → losses before ≡ w.fleet.control.rejoins
 halts-last counts last w before v x s runs lost halts =
     let none : v.fleet.control.rejoins ≡ 0 = last v s x lost halts in
     omega (arith, counts w before v runs (runs-before v s x lost), none)
   where
-    runs-before : (v : WorldValue) (s : ℕ) (x : WorldValue) → Step v (event.Lost s) x → v.fleet.control.halt ≡ None
+    runs-before : (v : WorldValue) (s : ℕ) (x : WorldValue) → Step v (event.Controller (of_controller.Lost s)) x → v.fleet.control.halt ≡ None
     runs-before v s x l = elim l.step [
       | inl t ↦ t.lost.running
       | inr t ↦ t.lost.running

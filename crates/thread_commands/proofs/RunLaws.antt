@@ -1,5 +1,5 @@
 -- Runs, as the calls tell them.
-use Rattle.std.proofs.Common.{◌≡◌, inl, inr, ℕ, ◌<◌, false, List, [], ◌∷◌, ◌++◌, map, length, Option, None, Some, is_some, refl, ap, subst, ◌∙◌}
+use Rattle.std.proofs.Common.{◌≡◌, inl, inr, ℕ, ◌<◌, false, List, [], ◌∷◌, ◌++◌, map, length, Option, None, Some, is_some, refl, sym, ap, subst, ◌∙◌}
 use Rattle.std.proofs.lemmas.List.{length-map}
 use Rattle.nk_values.specs.Members.{IsIn}
 use Rattle.document_text.specs.declared.document.Document.{Document}
@@ -12,6 +12,7 @@ use Rattle.value_text.specs.declared.fault.Fault.TheVariants as fault
 use Rattle.worker_desk.specs.Streams.{TellsWhereKnown}
 use Rattle.world_core.specs.declared.event.Event.{Event}
 use Rattle.world_core.specs.declared.event.Event.TheVariants as event
+use Rattle.world_core.specs.declared.event.ControllerEvent.TheVariants as of_controller
 use Rattle.world_core.specs.Laws.{EveryRunIsGood, HaltsStay, LossesCount, LastLossHalts, losses}
 use Rattle.world_core.specs.Steps.{Runs}
 use Rattle.world_core.specs.Worlds.{WorldValue, start}
@@ -39,9 +40,9 @@ abbrev AreCounted : {E : Type 0} → (E → ℕ) → List E → Change ℕ → T
 AreCounted {E} faults ends broken = (e : E) → IsIn ends e → 0 < faults e → HasRisen broken
 
 was-lost : {E : Type 0} (named faults : E → ℕ) (received : E → Option (List ℕ)) (s0 w : WorldValue) (journal : List Entry) (ends : List E) (broken : Change ℕ) → IsJournal named faults received s0 w journal ends → AreCounted faults ends broken
-    → (s : ℕ) → IsIn (events_of journal) (event.Lost s) → HasRisen broken
+    → (s : ℕ) → IsIn (events_of journal) (event.Controller (of_controller.Lost s)) → HasRisen broken
 was-lost named faults received s0 w journal ends broken j counts s i =
-    let k = kept-cut (switches s0) named faults received journal ends j.kept (event.Lost s) refl i in counts k.0 k.2 k.3.1
+    let k = kept-cut (switches s0) named faults received journal ends j.kept (event.Controller (of_controller.Lost s)) refl i in counts k.0 k.2 k.3.1
 
 has-next : {E : Type 0} (received : E → Option (List ℕ)) (ends front : List E) (e : E) (k : ℕ) (got : List ℕ) (streams : List (List ℕ)) → AreStreams received ends streams → ends ≡ front ++ e ∷ [] → TellsWhereKnown (received e) k got → HasNext k got streams
 has-next received ends front e k got streams h last t = let f = first-is received ends front e streams last h in subst (HasNext k got) (sym f.first) (subst (λ (r : Option (List ℕ)). TellsWhereKnown r k got) f.of t)

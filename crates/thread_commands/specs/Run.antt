@@ -12,6 +12,7 @@ use Rattle.value_text.specs.declared.fault.Fault.TheVariants as fault
 use Rattle.worker_desk.specs.Streams.{TellsAt}
 use Rattle.world_core.specs.declared.event.Event.{Event}
 use Rattle.world_core.specs.declared.event.Event.TheVariants as event
+use Rattle.world_core.specs.declared.event.ControllerEvent.TheVariants as of_controller
 use Rattle.world_core.specs.Laws.{AreGood, losses}
 use Rattle.world_core.specs.Steps.{Runs, Step}
 use Rattle.world_core.specs.Worlds.{WorldValue}
@@ -74,7 +75,7 @@ HasRisenBy n count = min (count.before + n) (2 ^ 64 - 1) ≤ count.after
 
 -- A loss by which the updates come to stand still is behind as many others as the document lets return.
 abbrev pub HaltsLast : Doc → List Version → Type 0
-HaltsLast d versions = (before : List Event) (v x : WorldValue) (s : ℕ) → Runs (start_of d versions) before v → Step v (event.Lost s) x → x.fleet.control.halt ≢ None → losses before ≡ d.settings.rejoins
+HaltsLast d versions = (before : List Event) (v x : WorldValue) (s : ℕ) → Runs (start_of d versions) before v → Step v (event.Controller (of_controller.Lost s)) x → x.fleet.control.halt ≢ None → losses before ≡ d.settings.rejoins
 
 -- The events lead from the start of the document's policies to this world, and each packet that came in is handled by one policy. Each line came in once and no copy may take another hop, also if the updates stand still. If they do not, the last policy handles all packets. Each lost session cost a broken end: the net's count of these rose by as many. The updates stand still by a lost session only if as many as the document lets return were lost before it. Foreign bytes came next in the first stream that the net told in this call, behind as many messages as that side of the switch was told before in its session. They halt, so their end is kept last and given back first. A net tells no names of ends, so none is said. The text is the report of the events and of that world; `halts` says whether the updates stand still.
 pub record IsRunOf (halts : Bool) (net : NetSeen) (d : Doc) (versions : List Version) (text : List ℕ) : Type 0 where
@@ -86,7 +87,7 @@ pub record IsRunOf (halts : Bool) (net : NetSeen) (d : Doc) (versions : List Ver
   pub came : HaveAllCome (lines_of d) world
   pub spent : AreSpent world
   pub done : halts ≡ false → world.fleet.control.phase ≡ last_phase world
-  pub lost : (s : ℕ) → IsIn events (event.Lost s) → HasRisen net.broken
+  pub lost : (s : ℕ) → IsIn events (event.Controller (of_controller.Lost s)) → HasRisen net.broken
   pub costs : HasRisenBy (losses events) net.broken
   pub last : HaltsLast d versions
   pub foreign : (before rest : List Event) (s : ℕ) (side : Side) (got : List ℕ) → events ≡ before ++ event.Foreign s side got ∷ rest → AreToldSince net.gathered (HasNext (told s side before) got)

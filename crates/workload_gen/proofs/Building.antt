@@ -4,7 +4,7 @@ use Rattle.std.specs.Prelude.{filter}
 use Rattle.std.specs.List.{flat_map}
 use Rattle.std.proofs.lemmas.Bool.Decides.{Decides-eqb}
 use Rattle.rand_pcg.specs.Lcg.{Lcg}
-use Rattle.document_text.specs.Terms.{Term}
+use Rattle.nk_syntax.specs.Terms.{Term}
 use Rattle.document_text.specs.declared.document.PacketLine.{PacketLine}
 use Rattle.workload_laws.specs.Workload.{numbers, hop, hops_at, workload}
 use Rattle.workload_gen.specs.Documents.{packet, packets, policies, number_by}

@@ -4,8 +4,8 @@ use Rattle.std.proofs.lemmas.List.{length-map}
 use Rattle.nk_values.specs.declared.packet.Packet.{Packet}
 use Rattle.nk_values.specs.Members.{IsIn}
 use Rattle.nk_values.proofs.MemberLaws.{in-left, in-right}
-use Rattle.document_text.specs.Terms.{Term}
-use Rattle.document_text.specs.Views.{term_of}
+use Rattle.nk_syntax.specs.Terms.{Term}
+use Rattle.nk_syntax.specs.Views.{term_of}
 use Rattle.topology_model.specs.Layouts.{Layout, edges_of}
 use Rattle.nk_values.specs.Tags.{IsTag}
 use Rattle.openflow_wire.specs.declared.message.Message.TheVariants as to
@@ -27,6 +27,9 @@ use Rattle.update_laws.proofs.Places.{get-within, get-map}
 use Rattle.update_laws.proofs.Wiring.{some-is, get-mapped}
 use Rattle.world_core.specs.declared.event.Event.{Event}
 use Rattle.world_core.specs.declared.event.Event.TheVariants as event
+use Rattle.world_core.specs.declared.event.ControllerEvent.TheVariants as of_controller
+use Rattle.world_core.specs.declared.event.PacketEvent.TheVariants as of_packet
+use Rattle.world_core.specs.declared.event.SwitchEvent.TheVariants as of_switch
 use Rattle.world_core.specs.Laws.{HasRoom, IsStill, IsBarred, NoDeadEnd}
 use Rattle.world_core.specs.Settling.{NoneIs, hops_from}
 use Rattle.world_core.specs.Steps.{InFleet, IsEnabled, Stands, Step}
@@ -48,11 +51,11 @@ use Rattle.workload_gen.proofs.Unhalted.{IsFree, IsDrivable, AreMute, free-step,
 
 -- an event that may be drawn while these packets are left: none that halts or loses a session, and of arrivals that of the first of them
 abbrev IsTried : List PacketLine → Event → Type 0
-IsTried lines (event.Lost s) = ⊥
-IsTried lines (event.Rejoin s) = ⊥
-IsTried lines (event.Stuck k) = ⊥
+IsTried lines (event.Controller (of_controller.Lost s)) = ⊥
+IsTried lines (event.Controller (of_controller.Rejoin s)) = ⊥
+IsTried lines (event.Packet (of_packet.Stuck k)) = ⊥
 IsTried lines (event.Foreign s side got) = ⊥
-IsTried lines (event.Arrive pk tag) = (line : PacketLine) × (rest : List PacketLine) × (lines ≡ line ∷ rest) × (line.packet ≡ pk) × (line.tag ≡ tag)
+IsTried lines (event.Packet (of_packet.Arrive pk tag)) = (line : PacketLine) × (rest : List PacketLine) × (lines ≡ line ∷ rest) × (line.packet ≡ pk) × (line.tag ≡ tag)
 IsTried lines _ = Unit {0}
 
 abbrev AreTried : List PacketLine → List Event → Type 0
@@ -74,7 +77,7 @@ tried-hops lines k (suc n) = (tt, tried-hops lines (k + 1) n)
 tried-switches : (lines : List PacketLine) (w : WorldValue) (s n : ℕ) → AreTried lines (tried_from w s n)
 tried-switches lines w s zero = tt
 tried-switches lines w s (suc n) = tried-both lines (tried_at w s) (tried_from w (s + 1) n)
-    (tt, (tt, tried-both lines (applies_from s 0 (pending_at (slice_get w.fleet.ends s))) (event.Take s ∷ event.Send s ∷ []) (tried-applies lines s 0 (pending_at (slice_get w.fleet.ends s))) (tt, (tt, tt))))
+    (tt, (tt, tried-both lines (applies_from s 0 (pending_at (slice_get w.fleet.ends s))) (event.Switch (of_switch.Take s) ∷ event.Controller (of_controller.Send s) ∷ []) (tried-applies lines s 0 (pending_at (slice_get w.fleet.ends s))) (tt, (tt, tt))))
     (tried-switches lines w (s + 1) n)
 
 tried-arrival : (lines : List PacketLine) → AreTried lines (arrival lines)
@@ -90,7 +93,7 @@ are-tried lines w =
     let o = draining w.fleet.control.phase w.fleet.control.versions in
     tried-both lines (tried_from w 0 (length w.topology.switches)) (hops_from 0 (length w.flights) ++ tried_last lines w) (tried-switches lines w 0 (length w.topology.switches))
     (tried-both lines (hops_from 0 (length w.flights)) (tried_last lines w) (tried-hops lines 0 (length w.flights))
-    (tried-both lines (arrival lines) (event.Begin ∷ report o) (tried-arrival lines) (tt, tried-report lines o)))
+    (tried-both lines (arrival lines) ((event.Controller of_controller.Begin) ∷ report o) (tried-arrival lines) (tt, tried-report lines o)))
 
 by_place : (lines : List PacketLine) (c : Event) (rest : List Event) (i : ℕ) (e : Event) → IsTried lines c → ((j : ℕ) → slice_get rest j ≡ Some e → IsTried lines e) → slice_get (c ∷ rest) i ≡ Some e → IsTried lines e
 by_place lines c rest zero e h f p = subst (λ (x : Event). IsTried lines x) (some-is c e p) h
@@ -105,9 +108,9 @@ drawn-tried : (lines : List PacketLine) (w : WorldValue) (g : Lcg) (e : Event) �
 drawn-tried lines w g e d = enabled-tried lines w (tried lines w) d.events _ e (are-tried lines w) d.enabled d.drawn
 
 drivable : (lines : List PacketLine) (e : Event) → IsTried lines e → IsDrivable e
-drivable lines (event.Lost s) t = t
-drivable lines (event.Rejoin s) t = t
-drivable lines (event.Stuck k) t = t
+drivable lines (event.Controller (of_controller.Lost s)) t = t
+drivable lines (event.Controller (of_controller.Rejoin s)) t = t
+drivable lines (event.Packet (of_packet.Stuck k)) t = t
 drivable lines (event.Foreign s side got) t = t
 drivable lines _ t = tt
 
@@ -157,7 +160,7 @@ map-put f k [] x y g e = absurd (cc)
 map-put f zero (z ∷ zs) x y g e = ap (λ u. u ∷ map f zs) (e ∙ sym (ap f (some-is z x g)))
 map-put f (suc k) (z ∷ zs) x y g e = ap (λ us. f z ∷ us) (map-put f k zs x y g e)
 
-way-arrive : (s : ℕ) (versions : List Version) (all left : List PacketLine) (pk : Packet) (tag : Option ℕ) (w v : WorldValue) → Step w (event.Arrive pk tag) v → IsTried left (event.Arrive pk tag) → IsFree v → IsOnWay s versions all left w → IsOnWay s versions all (drop 1 left) v
+way-arrive : (s : ℕ) (versions : List Version) (all left : List PacketLine) (pk : Packet) (tag : Option ℕ) (w v : WorldValue) → Step w (event.Packet (of_packet.Arrive pk tag)) v → IsTried left (event.Packet (of_packet.Arrive pk tag)) → IsFree v → IsOnWay s versions all left w → IsOnWay s versions all (drop 1 left) v
 way-arrive s versions all left pk tag w v h (line, rest, is, packet, tagged) f o =
     let i : IsSame w v = record { topology = ap (λ (x : WorldValue). x.topology) h.now; versions = ap (λ (x : WorldValue). x.versions) h.now; limit = ap (λ (x : WorldValue). x.limit) h.now } in
     let there : IsIn left line = subst (λ (ls : List PacketLine). IsIn ls line) (sym is) (inl refl) in
@@ -179,7 +182,7 @@ way-arrive s versions all left pk tag w v h (line, rest, is, packet, tagged) f o
     Close : Packet → Type 0
     Close p = ((p.sw - p.header.eth_dst) + (p.header.eth_dst - p.sw)) < s
 
-way-hop : (s k : ℕ) (versions : List Version) (all left : List PacketLine) (w v : WorldValue) → Step w (event.Hop k) v → IsFree v → IsOnWay s versions all left w → IsOnWay s versions all left v
+way-hop : (s k : ℕ) (versions : List Version) (all left : List PacketLine) (w v : WorldValue) → Step w (event.Packet (of_packet.Hop k)) v → IsFree v → IsOnWay s versions all left w → IsOnWay s versions all left v
 way-hop s k versions all left w v h f o =
     let i : IsSame w v = record { topology = ap (λ (x : WorldValue). x.topology) h.now; versions = ap (λ (x : WorldValue). x.versions) h.now; limit = ap (λ (x : WorldValue). x.limit) h.now } in
     record {
@@ -193,18 +196,18 @@ way-hop s k versions all left w v h f o =
     }
 
 way-step : HasRoom → (s : ℕ) (versions : List Version) (all left : List PacketLine) (w : WorldValue) (e : Event) (v : WorldValue) → IsTried left e → Step w e v → IsOnWay s versions all left w → IsOnWay s versions all (left_by e left) v
-way-step room s versions all left w event.Begin v t h o = way-in _ s versions all left w v h (free-step room w event.Begin v tt h o.free) o
-way-step room s versions all left w (event.Send p) v t h o = way-in _ s versions all left w v h (free-step room w (event.Send p) v tt h o.free) o
-way-step room s versions all left w (event.Take p) v t h o = way-in _ s versions all left w v h (free-step room w (event.Take p) v tt h o.free) o
-way-step room s versions all left w (event.Apply p n) v t h o = way-in _ s versions all left w v h (free-step room w (event.Apply p n) v tt h o.free) o
-way-step room s versions all left w (event.Reply p) v t h o = way-in _ s versions all left w v h (free-step room w (event.Reply p) v tt h o.free) o
-way-step room s versions all left w (event.Heard p) v t h o = way-in _ s versions all left w v h (free-step room w (event.Heard p) v tt h o.free) o
-way-step room s versions all left w (event.Arrive pk tag) v t h o = way-arrive s versions all left pk tag w v h t (free-step room w (event.Arrive pk tag) v tt h o.free) o
-way-step room s versions all left w (event.Hop k) v t h o = way-hop s k versions all left w v h (free-step room w (event.Hop k) v tt h o.free) o
-way-step room s versions all left w (event.Drained stamp) v t h o = way-in _ s versions all left w v h.step (free-step room w (event.Drained stamp) v tt h o.free) o
-way-step room s versions all left w (event.Lost p) v t h o = absurd t
-way-step room s versions all left w (event.Rejoin p) v t h o = absurd t
-way-step room s versions all left w (event.Stuck k) v t h o = absurd t
+way-step room s versions all left w (event.Controller of_controller.Begin) v t h o = way-in _ s versions all left w v h (free-step room w (event.Controller of_controller.Begin) v tt h o.free) o
+way-step room s versions all left w (event.Controller (of_controller.Send p)) v t h o = way-in _ s versions all left w v h (free-step room w (event.Controller (of_controller.Send p)) v tt h o.free) o
+way-step room s versions all left w (event.Switch (of_switch.Take p)) v t h o = way-in _ s versions all left w v h (free-step room w (event.Switch (of_switch.Take p)) v tt h o.free) o
+way-step room s versions all left w (event.Switch (of_switch.Apply p n)) v t h o = way-in _ s versions all left w v h (free-step room w (event.Switch (of_switch.Apply p n)) v tt h o.free) o
+way-step room s versions all left w (event.Switch (of_switch.Reply p)) v t h o = way-in _ s versions all left w v h (free-step room w (event.Switch (of_switch.Reply p)) v tt h o.free) o
+way-step room s versions all left w (event.Controller (of_controller.Heard p)) v t h o = way-in _ s versions all left w v h (free-step room w (event.Controller (of_controller.Heard p)) v tt h o.free) o
+way-step room s versions all left w (event.Packet (of_packet.Arrive pk tag)) v t h o = way-arrive s versions all left pk tag w v h t (free-step room w (event.Packet (of_packet.Arrive pk tag)) v tt h o.free) o
+way-step room s versions all left w (event.Packet (of_packet.Hop k)) v t h o = way-hop s k versions all left w v h (free-step room w (event.Packet (of_packet.Hop k)) v tt h o.free) o
+way-step room s versions all left w (event.Controller (of_controller.Drained stamp)) v t h o = way-in _ s versions all left w v h.step (free-step room w (event.Controller (of_controller.Drained stamp)) v tt h o.free) o
+way-step room s versions all left w (event.Controller (of_controller.Lost p)) v t h o = absurd t
+way-step room s versions all left w (event.Controller (of_controller.Rejoin p)) v t h o = absurd t
+way-step room s versions all left w (event.Packet (of_packet.Stuck k)) v t h o = absurd t
 way-step room s versions all left w (event.Foreign p side got) v t h o = absurd t
 
 pub way-run : HasRoom → (s : ℕ) (versions : List Version) (all left : List PacketLine) (g : Lcg) (w : WorldValue) (es : List Event) (v : WorldValue) → Drawn left g w es v → IsOnWay s versions all left w → IsOnWay s versions all (left_behind es left) v
@@ -219,15 +222,15 @@ none-of w [] e n m = absurd m
 none-of w (c ∷ cs) e n (inl q) = subst (λ (x : Event). ¬ (IsEnabled w x)) q n.0
 none-of w (c ∷ cs) e n (inr m) = none-of w cs e n.1 m
 
-apply-in : (s k n j : ℕ) → j < n → IsIn (applies_from s k n) (event.Apply s (k + j))
+apply-in : (s k n j : ℕ) → j < n → IsIn (applies_from s k n) (event.Switch (of_switch.Apply s (k + j)))
 apply-in s k zero j l = absurd (omega (arith, l))
-apply-in s k (suc n) zero l = inl (ap (λ (i : ℕ). event.Apply s i) (omega arith))
-apply-in s k (suc n) (suc j) l = inr (subst (λ (i : ℕ). IsIn (applies_from s (k + 1) n) (event.Apply s i)) (omega arith) (apply-in s (k + 1) n j (omega (arith, l))))
+apply-in s k (suc n) zero l = inl (ap (λ (i : ℕ). event.Switch (of_switch.Apply s i)) (omega arith))
+apply-in s k (suc n) (suc j) l = inr (subst (λ (i : ℕ). IsIn (applies_from s (k + 1) n) (event.Switch (of_switch.Apply s i))) (omega arith) (apply-in s (k + 1) n j (omega (arith, l))))
 
-hop-in : (k n j : ℕ) → j < n → IsIn (hops_from k n) (event.Hop (k + j))
+hop-in : (k n j : ℕ) → j < n → IsIn (hops_from k n) (event.Packet (of_packet.Hop (k + j)))
 hop-in k zero j l = absurd (omega (arith, l))
-hop-in k (suc n) zero l = inl (ap (λ (i : ℕ). event.Hop i) (omega arith))
-hop-in k (suc n) (suc j) l = inr (subst (λ (i : ℕ). IsIn (hops_from (k + 1) n) (event.Hop i)) (omega arith) (hop-in (k + 1) n j (omega (arith, l))))
+hop-in k (suc n) zero l = inl (ap (λ (i : ℕ). event.Packet (of_packet.Hop i)) (omega arith))
+hop-in k (suc n) (suc j) l = inr (subst (λ (i : ℕ). IsIn (hops_from (k + 1) n) (event.Packet (of_packet.Hop i))) (omega arith) (hop-in (k + 1) n j (omega (arith, l))))
 
 switch-in : (w : WorldValue) (s n j : ℕ) (e : Event) → j < n → IsIn (tried_at w (s + j)) e → IsIn (tried_from w s n) e
 switch-in w s zero j e l m = absurd (omega (arith, l))
@@ -250,36 +253,36 @@ module _ (lines : List PacketLine) (w : WorldValue) (long : length w.fleet.ends 
 
   pub still : IsStill w
   still = record {
-    heard = λ s h. at-switch s (event.Heard s) (of-end s _ h.1) (inl refl) h;
-    reply = λ s h. at-switch s (event.Reply s) (of-end s _ h) (inr (inl refl)) h;
-    apply = λ s k h. at-switch s (event.Apply s k) (of-end s _ h) (inr (inr (applies s k h))) h;
-    take = λ s h. at-switch s (event.Take s) (of-end s _ h) (behind s (event.Take s) (inl refl)) h;
-    send = λ s h. at-switch s (event.Send s) (sends s h) (behind s (event.Send s) (inr (inl refl))) h;
-    begin = last-of event.Begin (in-right (arrival lines) (event.Begin ∷ report (draining w.fleet.control.phase w.fleet.control.versions)) event.Begin (inl refl));
-    drained = λ stamp h. last-of (event.Drained stamp) (in-right (arrival lines) (event.Begin ∷ report (draining w.fleet.control.phase w.fleet.control.versions)) (event.Drained stamp) (inr (reported stamp h.0))) h;
+    heard = λ s h. at-switch s (event.Controller (of_controller.Heard s)) (of-end s _ h.1) (inl refl) h;
+    reply = λ s h. at-switch s (event.Switch (of_switch.Reply s)) (of-end s _ h) (inr (inl refl)) h;
+    apply = λ s k h. at-switch s (event.Switch (of_switch.Apply s k)) (of-end s _ h) (inr (inr (applies s k h))) h;
+    take = λ s h. at-switch s (event.Switch (of_switch.Take s)) (of-end s _ h) (behind s (event.Switch (of_switch.Take s)) (inl refl)) h;
+    send = λ s h. at-switch s (event.Controller (of_controller.Send s)) (sends s h) (behind s (event.Controller (of_controller.Send s)) (inr (inl refl))) h;
+    begin = last-of (event.Controller of_controller.Begin) (in-right (arrival lines) ((event.Controller of_controller.Begin) ∷ report (draining w.fleet.control.phase w.fleet.control.versions)) (event.Controller of_controller.Begin) (inl refl));
+    drained = λ stamp h. last-of (event.Controller (of_controller.Drained stamp)) (in-right (arrival lines) ((event.Controller of_controller.Begin) ∷ report (draining w.fleet.control.phase w.fleet.control.versions)) (event.Controller (of_controller.Drained stamp)) (inr (reported stamp h.0))) h;
     rejoin = λ s h. let none : true ≡ false = sym h.away ∙ present s h.site h.here in cc;
-    hop = λ k h. none-of w (tried lines w) (event.Hop k) over
-        (in-right (tried_from w 0 (length w.topology.switches)) (hops_from 0 (length w.flights) ++ tried_last lines w) (event.Hop k)
-        (in-left (hops_from 0 (length w.flights)) (tried_last lines w) (event.Hop k)
-        (subst (λ (i : ℕ). IsIn (hops_from 0 (length w.flights)) (event.Hop i)) (omega arith) (hop-in 0 (length w.flights) k (get-within k w.flights h.flight h.there))))) h;
+    hop = λ k h. none-of w (tried lines w) (event.Packet (of_packet.Hop k)) over
+        (in-right (tried_from w 0 (length w.topology.switches)) (hops_from 0 (length w.flights) ++ tried_last lines w) (event.Packet (of_packet.Hop k))
+        (in-left (hops_from 0 (length w.flights)) (tried_last lines w) (event.Packet (of_packet.Hop k))
+        (subst (λ (i : ℕ). IsIn (hops_from 0 (length w.flights)) (event.Packet (of_packet.Hop i))) (omega arith) (hop-in 0 (length w.flights) k (get-within k w.flights h.flight h.there))))) h;
   }
     where
-      behind : (s : ℕ) (e : Event) → IsIn (event.Take s ∷ event.Send s ∷ []) e → IsIn (tried_at w s) e
-      behind s e m = inr (inr (in-right (applies_from s 0 (pending_at (slice_get w.fleet.ends s))) (event.Take s ∷ event.Send s ∷ []) e m))
+      behind : (s : ℕ) (e : Event) → IsIn (event.Switch (of_switch.Take s) ∷ event.Controller (of_controller.Send s) ∷ []) e → IsIn (tried_at w s) e
+      behind s e m = inr (inr (in-right (applies_from s 0 (pending_at (slice_get w.fleet.ends s))) (event.Switch (of_switch.Take s) ∷ event.Controller (of_controller.Send s) ∷ []) e m))
 
-      applies : (s k : ℕ) → Stands s w (λ e. k < length e.switch.pending) → IsIn (applies_from s 0 (pending_at (slice_get w.fleet.ends s)) ++ event.Take s ∷ event.Send s ∷ []) (event.Apply s k)
+      applies : (s k : ℕ) → Stands s w (λ e. k < length e.switch.pending) → IsIn (applies_from s 0 (pending_at (slice_get w.fleet.ends s)) ++ event.Switch (of_switch.Take s) ∷ event.Controller (of_controller.Send s) ∷ []) (event.Switch (of_switch.Apply s k))
       applies s k h =
-          in-left (applies_from s 0 (pending_at (slice_get w.fleet.ends s))) (event.Take s ∷ event.Send s ∷ []) (event.Apply s k)
-          (subst (λ (o : Option End). IsIn (applies_from s 0 (pending_at o)) (event.Apply s k)) (sym h.here)
-          (subst (λ (i : ℕ). IsIn (applies_from s 0 (length h.end_.switch.pending)) (event.Apply s i)) (omega arith) (apply-in s 0 (length h.end_.switch.pending) k h.is)))
+          in-left (applies_from s 0 (pending_at (slice_get w.fleet.ends s))) (event.Switch (of_switch.Take s) ∷ event.Controller (of_controller.Send s) ∷ []) (event.Switch (of_switch.Apply s k))
+          (subst (λ (o : Option End). IsIn (applies_from s 0 (pending_at o)) (event.Switch (of_switch.Apply s k))) (sym h.here)
+          (subst (λ (i : ℕ). IsIn (applies_from s 0 (length h.end_.switch.pending)) (event.Switch (of_switch.Apply s i))) (omega arith) (apply-in s 0 (length h.end_.switch.pending) k h.is)))
 
-      sends : (s : ℕ) → IsEnabled w (event.Send s) → s < length w.fleet.ends
+      sends : (s : ℕ) → IsEnabled w (event.Controller (of_controller.Send s)) → s < length w.fleet.ends
       sends s h = omega (arith, sites, get-within s w.fleet.control.sites h.site h.here)
 
-      reported : (stamp : ℕ) → drain_refusal w.fleet.control stamp ≡ None → IsIn (report (draining w.fleet.control.phase w.fleet.control.versions)) (event.Drained stamp)
+      reported : (stamp : ℕ) → drain_refusal w.fleet.control stamp ≡ None → IsIn (report (draining w.fleet.control.phase w.fleet.control.versions)) (event.Controller (of_controller.Drained stamp))
       reported stamp h =
           let d = drains-at w.fleet.control stamp h in
-          subst (λ (o : Option ℕ). IsIn (report o) (event.Drained stamp)) (sym (ap (λ (ph : Phase). draining ph w.fleet.control.versions) d.phase ∙ d.stamp_at)) (inl refl)
+          subst (λ (o : Option ℕ). IsIn (report o) (event.Controller (of_controller.Drained stamp))) (sym (ap (λ (ph : Phase). draining ph w.fleet.control.versions) d.phase ∙ d.stamp_at)) (inl refl)
 
 -- ---- the start
 
@@ -322,7 +325,7 @@ as-many : (w : WorldValue) → IsKept w → length w.fleet.ends ≡ length w.fle
 unfolding IsKept
 as-many w k = k.fleet.ends
 
-no-flight : (s : ℕ) (w : WorldValue) (fs : List Flight) → s ≤ 32 → w.limit ≡ 64 → AreNear s fs → w.flights ≡ fs → ((k : ℕ) → ¬ (IsEnabled w (event.Hop k))) → fs ≡ []
+no-flight : (s : ℕ) (w : WorldValue) (fs : List Flight) → s ≤ 32 → w.limit ≡ 64 → AreNear s fs → w.flights ≡ fs → ((k : ℕ) → ¬ (IsEnabled w (event.Packet (of_packet.Hop k)))) → fs ≡ []
 no-flight s w [] few limit near e n = refl
 no-flight s w (f ∷ fs) few limit near e n =
     let close = (near f (inl refl)).near in
@@ -332,7 +335,7 @@ no-packet : (s : ℕ) (w : WorldValue) (left : List PacketLine) → w.topology �
 no-packet s w [] t guests n = refl
 no-packet s w (line ∷ rest) t guests n =
     let g = guests line (inl refl) in
-    absurd (n (event.Arrive line.packet line.tag) (inl refl)
+    absurd (n (event.Packet (of_packet.Arrive line.packet line.tag)) (inl refl)
     (g.shaped, subst IsTag (sym g.untagged) tt, subst (λ (x : Layout). IsIn (edges_of x) (standing line.packet)) (sym t) g.edge))
 
 not-barred : (s : ℕ) (w : WorldValue) → s ≤ 32 → w.limit ≡ 64 → AreNear s w.flights → IsBarred w → ⊥
@@ -360,4 +363,4 @@ kept-end room dead n versions events v kept pols draws = record {
     none : left_behind events (document_of n).packets ≡ []
     none = no-packet (switch_count n) v (left_behind events (document_of n).packets) o.line.topology o.guests
         (λ e m. last-of (left_behind events (document_of n).packets) v (as-long v o.free.kept) (as-many v o.free.kept) o.free.present draws.over e
-        (in-left (arrival (left_behind events (document_of n).packets)) (event.Begin ∷ report (draining v.fleet.control.phase v.fleet.control.versions)) e m))
+        (in-left (arrival (left_behind events (document_of n).packets)) ((event.Controller of_controller.Begin) ∷ report (draining v.fleet.control.phase v.fleet.control.versions)) e m))

@@ -12,6 +12,9 @@ use Rattle.update_laws.proofs.Places.{Put, get-some, get-within, put-set}
 use Rattle.update_laws.proofs.Wiring.{some-is}
 use Rattle.world_core.specs.declared.event.Event.{Event}
 use Rattle.world_core.specs.declared.event.Event.TheVariants as event
+use Rattle.world_core.specs.declared.event.ControllerEvent.TheVariants as of_controller
+use Rattle.world_core.specs.declared.event.PacketEvent.TheVariants as of_packet
+use Rattle.world_core.specs.declared.event.SwitchEvent.TheVariants as of_switch
 use Rattle.world_core.specs.Ends.{HasSession}
 use Rattle.world_core.specs.Steps.{IsEnabled, Stands, Step}
 use Rattle.world_core.specs.Worlds.{WorldValue}
@@ -69,7 +72,7 @@ tried-moved s w v a =
       (
         (λ h. stands-same s w v _ a h),
         (λ h. stands-same s v w _ b h),
-        moved-both w v (applies_from s 0 (pending_at (slice_get w.fleet.ends s))) (event.Take s ∷ event.Send s ∷ []) (applies-moved s 0 (pending_at (slice_get w.fleet.ends s)) w v a) (
+        moved-both w v (applies_from s 0 (pending_at (slice_get w.fleet.ends s))) (event.Switch (of_switch.Take s) ∷ event.Controller (of_controller.Send s) ∷ []) (applies-moved s 0 (pending_at (slice_get w.fleet.ends s)) w v a) (
           (λ h. stands-same s w v _ a h),
           (λ h. stands-same s v w _ b h),
           (
@@ -84,7 +87,7 @@ tried-moved s w v a =
 kept-count : (s n : ℕ) (w v : WorldValue) → SameAt s w v → IsCount w s n → IsCount v s n
 kept-count s n w v a c = record {
   events = c.events;
-  enabled = subst (λ (o : Option End). AreEnabled v (event.Heard s ∷ event.Reply s ∷ (applies_from s 0 (pending_at o) ++ event.Take s ∷ event.Send s ∷ [])) c.events) (sym a.end_)
+  enabled = subst (λ (o : Option End). AreEnabled v (event.Controller (of_controller.Heard s) ∷ event.Switch (of_switch.Reply s) ∷ (applies_from s 0 (pending_at o) ++ event.Switch (of_switch.Take s) ∷ event.Controller (of_controller.Send s) ∷ [])) c.events) (sym a.end_)
       (enabled-moved w v (tried_at w s) c.events (tried-moved s w v a) c.enabled);
   count = c.count;
 }
@@ -124,35 +127,35 @@ changed-end w v p d old new e here halt sites s n = record {
   site = ap (λ (x : Fleet). slice_get x.control.sites s) e ∙ sites s n;
 }
 
-pub sent-others : (w v : WorldValue) (p : ℕ) → Step w (event.Send p) v → (s : ℕ) → s ≢ p → SameAt s w v
+pub sent-others : (w v : WorldValue) (p : ℕ) → Step w (event.Controller (of_controller.Send p)) v → (s : ℕ) → s ≢ p → SameAt s w v
 sent-others w v p h =
     let t = h.step in
     changed-end w v p t.control t.old _ (ap (λ (x : WorldValue). x.fleet) h.now ∙ t.now) t.here (ap (λ (x : Control). x.halt) t.sent.now)
     (λ s n. ap (λ (x : Control). slice_get x.sites s) t.sent.now ∙ (put-set p w.fleet.control.sites t.sent.site _ t.sent.here).others s n)
 
-pub taken-others : (w v : WorldValue) (p : ℕ) → Step w (event.Take p) v → (s : ℕ) → s ≢ p → SameAt s w v
+pub taken-others : (w v : WorldValue) (p : ℕ) → Step w (event.Switch (of_switch.Take p)) v → (s : ℕ) → s ≢ p → SameAt s w v
 taken-others w v p h = changed-end w v p w.fleet.control h.step.old _ (ap (λ (x : WorldValue). x.fleet) h.now ∙ h.step.now) h.step.here refl (λ s n. refl)
 
-pub applied-others : (w v : WorldValue) (p k : ℕ) → Step w (event.Apply p k) v → (s : ℕ) → s ≢ p → SameAt s w v
+pub applied-others : (w v : WorldValue) (p k : ℕ) → Step w (event.Switch (of_switch.Apply p k)) v → (s : ℕ) → s ≢ p → SameAt s w v
 applied-others w v p k h = changed-end w v p w.fleet.control h.step.old _ (ap (λ (x : WorldValue). x.fleet) h.now ∙ h.step.now) h.step.here refl (λ s n. refl)
 
-pub replied-others : (w v : WorldValue) (p : ℕ) → Step w (event.Reply p) v → (s : ℕ) → s ≢ p → SameAt s w v
+pub replied-others : (w v : WorldValue) (p : ℕ) → Step w (event.Switch (of_switch.Reply p)) v → (s : ℕ) → s ≢ p → SameAt s w v
 replied-others w v p h = changed-end w v p w.fleet.control h.step.old _ (ap (λ (x : WorldValue). x.fleet) h.now ∙ h.step.now) h.step.here refl (λ s n. refl)
 
 -- no event changes the topology
 pub step-topology : (w : WorldValue) (e : Event) (v : WorldValue) → Step w e v → v.topology ≡ w.topology
-step-topology w event.Begin v h = ap (λ (x : WorldValue). x.topology) h.now
-step-topology w (event.Send s) v h = ap (λ (x : WorldValue). x.topology) h.now
-step-topology w (event.Take s) v h = ap (λ (x : WorldValue). x.topology) h.now
-step-topology w (event.Apply s k) v h = ap (λ (x : WorldValue). x.topology) h.now
-step-topology w (event.Reply s) v h = ap (λ (x : WorldValue). x.topology) h.now
-step-topology w (event.Heard s) v h = ap (λ (x : WorldValue). x.topology) h.now
-step-topology w (event.Arrive pk tag) v h = ap (λ (x : WorldValue). x.topology) h.now
-step-topology w (event.Hop k) v h = ap (λ (x : WorldValue). x.topology) h.now
-step-topology w (event.Drained stamp) v h = ap (λ (x : WorldValue). x.topology) h.step.now
-step-topology w (event.Lost s) v h = ap (λ (x : WorldValue). x.topology) h.now
-step-topology w (event.Rejoin s) v h = ap (λ (x : WorldValue). x.topology) h.now
-step-topology w (event.Stuck k) v h = ap (λ (x : WorldValue). x.topology) h.now
+step-topology w (event.Controller of_controller.Begin) v h = ap (λ (x : WorldValue). x.topology) h.now
+step-topology w (event.Controller (of_controller.Send s)) v h = ap (λ (x : WorldValue). x.topology) h.now
+step-topology w (event.Switch (of_switch.Take s)) v h = ap (λ (x : WorldValue). x.topology) h.now
+step-topology w (event.Switch (of_switch.Apply s k)) v h = ap (λ (x : WorldValue). x.topology) h.now
+step-topology w (event.Switch (of_switch.Reply s)) v h = ap (λ (x : WorldValue). x.topology) h.now
+step-topology w (event.Controller (of_controller.Heard s)) v h = ap (λ (x : WorldValue). x.topology) h.now
+step-topology w (event.Packet (of_packet.Arrive pk tag)) v h = ap (λ (x : WorldValue). x.topology) h.now
+step-topology w (event.Packet (of_packet.Hop k)) v h = ap (λ (x : WorldValue). x.topology) h.now
+step-topology w (event.Controller (of_controller.Drained stamp)) v h = ap (λ (x : WorldValue). x.topology) h.step.now
+step-topology w (event.Controller (of_controller.Lost s)) v h = ap (λ (x : WorldValue). x.topology) h.now
+step-topology w (event.Controller (of_controller.Rejoin s)) v h = ap (λ (x : WorldValue). x.topology) h.now
+step-topology w (event.Packet (of_packet.Stuck k)) v h = ap (λ (x : WorldValue). x.topology) h.now
 step-topology w (event.Foreign s side got) v h = ap (λ (x : WorldValue). x.topology) h.now
 
 -- ---- sweeps by counts

@@ -8,6 +8,8 @@ use Rattle.update_laws.proofs.Places.{get-within}
 use Rattle.update_laws.proofs.Wiring.{some-is}
 use Rattle.world_core.specs.declared.event.Event.{Event}
 use Rattle.world_core.specs.declared.event.Event.TheVariants as event
+use Rattle.world_core.specs.declared.event.PacketEvent.TheVariants as of_packet
+use Rattle.world_core.specs.declared.event.SwitchEvent.TheVariants as of_switch
 use Rattle.world_core.specs.Settling.{NoneIs, hops_from}
 use Rattle.world_core.specs.Steps.{IsEnabled}
 use Rattle.world_core.specs.Worlds.{WorldValue}
@@ -78,11 +80,11 @@ passes-one w e a b h p es s = (e ∷ [], inl (h, [], refl, refl), p es s)
 pub passes-not : (w : WorldValue) (e : Event) (a : Sweep) → ¬ (IsEnabled w e) → Passes w (e ∷ []) a a
 passes-not w e a n es s = ([], inr (n, refl), subst (λ (xs : List Event). IsSweep xs a) (sym (append-none es)) s)
 
-all-can : (w : WorldValue) (place k n : ℕ) → ((j : ℕ) → j < k + n → IsEnabled w (event.Apply place j)) → AreEnabled w (applies_from place k n) (applies_from place k n)
+all-can : (w : WorldValue) (place k n : ℕ) → ((j : ℕ) → j < k + n → IsEnabled w (event.Switch (of_switch.Apply place j))) → AreEnabled w (applies_from place k n) (applies_from place k n)
 all-can w place k zero h = refl
 all-can w place k (suc n) h = inl (h k (omega arith), applies_from place (k + 1) n, refl, all-can w place (k + 1) n (λ j l. h j (omega (arith, l))))
 
-pub passes-all : (w : WorldValue) (place n : ℕ) (a b : Sweep) → ((j : ℕ) → j < n → IsEnabled w (event.Apply place j)) →
+pub passes-all : (w : WorldValue) (place n : ℕ) (a b : Sweep) → ((j : ℕ) → j < n → IsEnabled w (event.Switch (of_switch.Apply place j))) →
     ((es : List Event) → IsSweep es a → IsSweep (es ++ applies_from place 0 n) b) → Passes w (applies_from place 0 n) a b
 passes-all w place n a b h p es s = (applies_from place 0 n, all-can w place 0 n (λ j l. h j (omega (arith, l))), p es s)
 
@@ -95,15 +97,15 @@ tried-more w s (suc n) =
     ∙ sym (append_assoc (tried_at w s) (tried_from w (s + 1) n) (tried_at w (s + 1 + n)))
     ∙ ap (λ (k : ℕ). (tried_at w s ++ tried_from w (s + 1) n) ++ tried_at w k) (omega arith)
 
-hops-more : (k n : ℕ) → hops_from k (suc n) ≡ hops_from k n ++ event.Hop (k + n) ∷ []
-hops-more k zero = ap (λ (j : ℕ). event.Hop j ∷ []) (omega arith)
-hops-more k (suc n) = ap (λ (xs : List Event). event.Hop k ∷ xs) (hops-more (k + 1) n) ∙ ap (λ (j : ℕ). event.Hop k ∷ (hops_from (k + 1) n ++ event.Hop j ∷ [])) (omega arith)
+hops-more : (k n : ℕ) → hops_from k (suc n) ≡ hops_from k n ++ event.Packet (of_packet.Hop (k + n)) ∷ []
+hops-more k zero = ap (λ (j : ℕ). event.Packet (of_packet.Hop j) ∷ []) (omega arith)
+hops-more k (suc n) = ap (λ (xs : List Event). event.Packet (of_packet.Hop k) ∷ xs) (hops-more (k + 1) n) ∙ ap (λ (j : ℕ). event.Packet (of_packet.Hop k) ∷ (hops_from (k + 1) n ++ event.Packet (of_packet.Hop j) ∷ [])) (omega arith)
 
 pub tried-next : (w : WorldValue) (n : ℕ) → tried_from w 0 (n + 1) ≡ tried_from w 0 n ++ tried_at w n
 tried-next w n = ap (λ (k : ℕ). tried_from w 0 k) (let e : n + 1 ≡ suc n = omega arith in e) ∙ tried-more w 0 n ∙ ap (λ (k : ℕ). tried_from w 0 n ++ tried_at w k) (omega arith)
 
-pub hops-next : (n : ℕ) → hops_from 0 (n + 1) ≡ hops_from 0 n ++ event.Hop n ∷ []
-hops-next n = ap (λ (k : ℕ). hops_from 0 k) (let e : n + 1 ≡ suc n = omega arith in e) ∙ hops-more 0 n ∙ ap (λ (k : ℕ). hops_from 0 n ++ event.Hop k ∷ []) (omega arith)
+pub hops-next : (n : ℕ) → hops_from 0 (n + 1) ≡ hops_from 0 n ++ event.Packet (of_packet.Hop n) ∷ []
+hops-next n = ap (λ (k : ℕ). hops_from 0 k) (let e : n + 1 ≡ suc n = omega arith in e) ∙ hops-more 0 n ∙ ap (λ (k : ℕ). hops_from 0 n ++ event.Packet (of_packet.Hop k) ∷ []) (omega arith)
 
 -- nothing is passed yet
 pub new-sweep : (n : ℕ) → n < 2 ^ 64 - 1 → IsSweep [] (record { number = n; passed = 0; found = None })
@@ -115,15 +117,15 @@ length-applies : (place k n : ℕ) → length (applies_from place k n) ≡ n
 length-applies place k zero = refl
 length-applies place k (suc n) = ap (λ (m : ℕ). suc m) (length-applies place (k + 1) n)
 
-get-applies : (place k n i : ℕ) → i < n → slice_get (applies_from place k n) i ≡ Some (event.Apply place (k + i))
+get-applies : (place k n i : ℕ) → i < n → slice_get (applies_from place k n) i ≡ Some (event.Switch (of_switch.Apply place (k + i)))
 get-applies place k zero i l = absurd (omega (arith, l))
-get-applies place k (suc n) zero l = ap (λ (j : ℕ). Some (event.Apply place j)) (omega arith)
-get-applies place k (suc n) (suc i) l = get-applies place (k + 1) n i (omega (arith, l)) ∙ ap (λ (j : ℕ). Some (event.Apply place j)) (omega arith)
+get-applies place k (suc n) zero l = ap (λ (j : ℕ). Some (event.Switch (of_switch.Apply place j))) (omega arith)
+get-applies place k (suc n) (suc i) l = get-applies place (k + 1) n i (omega (arith, l)) ∙ ap (λ (j : ℕ). Some (event.Switch (of_switch.Apply place j))) (omega arith)
 
 -- the count stops at a number m that no number that is looked for reaches
 
 -- the event with the number is one of these
-pub reached : (es : List Event) (place count k : ℕ) (s t : Sweep) → IsSweep es s → s.passed + k ≡ s.number → k < count → t.number ≡ s.number → t.passed ≡ min (s.passed + count) (2 ^ 64 - 1) → t.found ≡ Some (event.Apply place k) →
+pub reached : (es : List Event) (place count k : ℕ) (s t : Sweep) → IsSweep es s → s.passed + k ≡ s.number → k < count → t.number ≡ s.number → t.passed ≡ min (s.passed + count) (2 ^ 64 - 1) → t.found ≡ Some (event.Switch (of_switch.Apply place k)) →
     IsSweep (es ++ applies_from place 0 count) t
 reached es place count k s t i e l a b c =
     let n = length-append es (applies_from place 0 count) in
@@ -133,7 +135,7 @@ reached es place count k s t i e l a b c =
     record {
       small = omega (arith, small, a);
       passed = omega (arith, n, m, passed, b);
-      found = c ∙ sym (get-right es (applies_from place 0 count) t.number k (omega (arith, passed, small, e, a)) ∙ get-applies place 0 count k l ∙ ap (λ (j : ℕ). Some (event.Apply place j)) (omega arith));
+      found = c ∙ sym (get-right es (applies_from place 0 count) t.number k (omega (arith, passed, small, e, a)) ∙ get-applies place 0 count k l ∙ ap (λ (j : ℕ). Some (event.Switch (of_switch.Apply place j))) (omega arith));
     }
 
 -- or it is not
@@ -168,14 +170,14 @@ pub is-enabled : (P : Type 0) (b : Bool) → (IsTrue b ↔ P) → b ≡ true →
 is-enabled P b h e = h.0 e
 
 -- a switch with a pending flow mod is there
-pub switch-there : (w : WorldValue) (place : ℕ) → IsEnabled w (event.Apply place 0) → place < length w.fleet.ends
+pub switch-there : (w : WorldValue) (place : ℕ) → IsEnabled w (event.Switch (of_switch.Apply place 0)) → place < length w.fleet.ends
 switch-there w place h = get-within place w.fleet.ends h.end_ h.here
 
 count-pending : (o : Option End) (s : SwitchValue) → IsSomeAnd o (λ e. s ≡ e.switch) → length s.pending ≡ pending_at o
 count-pending None s h = absurd h
 count-pending (Some e) s h = ap (λ (x : SwitchValue). length x.pending) h
 
-applies-can : (w : WorldValue) (place j : ℕ) (o : Option End) → slice_get w.fleet.ends place ≡ o → j < pending_at o → IsEnabled w (event.Apply place j)
+applies-can : (w : WorldValue) (place j : ℕ) (o : Option End) → slice_get w.fleet.ends place ≡ o → j < pending_at o → IsEnabled w (event.Switch (of_switch.Apply place j))
 applies-can w place j None e l = absurd (omega (arith, l))
 applies-can w place j (Some x) e l = record { end_ = x; here = e; is = l }
 
@@ -185,7 +187,7 @@ passes-pending w place n s a b h e p =
     let all : n ≡ pending_at (slice_get w.fleet.ends place) = e ∙ count-pending (slice_get w.fleet.ends place) s h in
     subst (λ (k : ℕ). Passes w (applies_from place 0 k) a b) all (passes-all w place n a b (λ j l. applies-can w place j (slice_get w.fleet.ends place) refl (omega (arith, l, all))) p)
 
-pub passes-no-pending : (w : WorldValue) (place : ℕ) (a : Sweep) → ¬ (IsEnabled w (event.Apply place 0)) → Passes w (applies_from place 0 (pending_at (slice_get w.fleet.ends place))) a a
+pub passes-no-pending : (w : WorldValue) (place : ℕ) (a : Sweep) → ¬ (IsEnabled w (event.Switch (of_switch.Apply place 0))) → Passes w (applies_from place 0 (pending_at (slice_get w.fleet.ends place))) a a
 passes-no-pending w place a n = subst (λ (k : ℕ). Passes w (applies_from place 0 k) a a) (sym none) (passes-none w a)
   where
     by_count : (k : ℕ) → pending_at (slice_get w.fleet.ends place) ≡ k → pending_at (slice_get w.fleet.ends place) ≡ 0

@@ -29,6 +29,9 @@ use Rattle.update_laws.proofs.Places.{Put, put-set, below-either}
 use Rattle.update_laws.proofs.Wiring.{some-is}
 use Rattle.world_core.specs.declared.event.Event.{Event}
 use Rattle.world_core.specs.declared.event.Event.TheVariants as event
+use Rattle.world_core.specs.declared.event.ControllerEvent.TheVariants as of_controller
+use Rattle.world_core.specs.declared.event.PacketEvent.TheVariants as of_packet
+use Rattle.world_core.specs.declared.event.SwitchEvent.TheVariants as of_switch
 use Rattle.world_core.specs.Laws.{HasRoom}
 use Rattle.world_core.specs.Steps.{InFleet, Step}
 use Rattle.world_core.specs.Worlds.{WorldValue, setting, IsKept}
@@ -205,9 +208,9 @@ pub record IsFree (w : WorldValue) : Type 0 where
 
 -- all events but the loss and the return of a session, a stuck copy, and bytes that are not the front of a channel
 abbrev pub IsDrivable : Event → Type 0
-IsDrivable (event.Lost s) = ⊥
-IsDrivable (event.Rejoin s) = ⊥
-IsDrivable (event.Stuck k) = ⊥
+IsDrivable (event.Controller (of_controller.Lost s)) = ⊥
+IsDrivable (event.Controller (of_controller.Rejoin s)) = ⊥
+IsDrivable (event.Packet (of_packet.Stuck k)) = ⊥
 IsDrivable (event.Foreign s side got) = ⊥
 IsDrivable _ = Unit {0}
 
@@ -258,51 +261,51 @@ heard-on w p g h mute k = hears-on (setting w) p w.fleet g h k.fleet mute
 
 -- so an event that is drawn leaves them, where no flow mod meets a full table
 pub free-step : HasRoom → (w : WorldValue) (e : Event) (v : WorldValue) → IsDrivable e → Step w e v → IsFree w → IsFree v
-free-step room w event.Begin v d s f =
-    free-in _ w v s f (step-keeps w event.Begin v s f.kept) (present-step w event.Begin v s refl f.present) (ap (λ (x : Fleet). x.control.halt) s.step.now ∙ f.running) (subst (λ (x : Fleet). AreMute x.ends) (sym s.step.now) f.mute)
-free-step room w (event.Send p) v d s f =
+free-step room w (event.Controller of_controller.Begin) v d s f =
+    free-in _ w v s f (step-keeps w (event.Controller of_controller.Begin) v s f.kept) (present-step w (event.Controller of_controller.Begin) v s refl f.present) (ap (λ (x : Fleet). x.control.halt) s.step.now ∙ f.running) (subst (λ (x : Fleet). AreMute x.ends) (sym s.step.now) f.mute)
+free-step room w (event.Controller (of_controller.Send p)) v d s f =
     let t = s.step in
-    free-in _ w v s f (step-keeps w (event.Send p) v s f.kept) (present-step w (event.Send p) v s refl f.present) (ap (λ (x : Fleet). x.control.halt) t.now ∙ ap (λ (x : Control). x.halt) t.sent.now ∙ f.running)
+    free-in _ w v s f (step-keeps w (event.Controller (of_controller.Send p)) v s f.kept) (present-step w (event.Controller (of_controller.Send p)) v s refl f.present) (ap (λ (x : Fleet). x.control.halt) t.now ∙ ap (λ (x : Control). x.halt) t.sent.now ∙ f.running)
     (subst (λ (x : Fleet). AreMute x.ends) (sym t.now) (mute-put p w.fleet.ends t.old (record t.old { there = t.old.there ++ t.message ∷ [] }) t.here (f.mute p t.old t.here) f.mute))
-free-step room w (event.Take p) v d s f =
-    let k = step-keeps w (event.Take p) v s f.kept in
-    free-in _ w v s f k (present-step w (event.Take p) v s refl f.present) (ap (λ (x : Fleet). x.control.halt) s.step.now ∙ f.running) (takes-mute w v p s f k)
-free-step room w (event.Apply p n) v d s f =
+free-step room w (event.Switch (of_switch.Take p)) v d s f =
+    let k = step-keeps w (event.Switch (of_switch.Take p)) v s f.kept in
+    free-in _ w v s f k (present-step w (event.Switch (of_switch.Take p)) v s refl f.present) (ap (λ (x : Fleet). x.control.halt) s.step.now ∙ f.running) (takes-mute w v p s f k)
+free-step room w (event.Switch (of_switch.Apply p n)) v d s f =
     let t = s.step in
     let back : told_back t.site.away t.answer t.old.back ≡ t.old.back = ap (λ (o : Option Message). told_back t.site.away o t.old.back) (room w p n v f.kept f.room s) ∙ untold t.site.away t.old.back in
-    free-in _ w v s f (step-keeps w (event.Apply p n) v s f.kept) (present-step w (event.Apply p n) v s refl f.present) (ap (λ (x : Fleet). x.control.halt) t.now ∙ f.running)
+    free-in _ w v s f (step-keeps w (event.Switch (of_switch.Apply p n)) v s f.kept) (present-step w (event.Switch (of_switch.Apply p n)) v s refl f.present) (ap (λ (x : Fleet). x.control.halt) t.now ∙ f.running)
     (subst (λ (x : Fleet). AreMute x.ends) (sym t.now) (mute-put p w.fleet.ends t.old (record t.old { back = told_back t.site.away t.answer t.old.back; switch = t.switch }) t.here
     (λ m i. f.mute p t.old t.here m (subst (λ (ms : List Message). IsIn ms m) back i)) f.mute))
-free-step room w (event.Reply p) v d s f =
+free-step room w (event.Switch (of_switch.Reply p)) v d s f =
     let t = s.step in
-    free-in _ w v s f (step-keeps w (event.Reply p) v s f.kept) (present-step w (event.Reply p) v s refl f.present) (ap (λ (x : Fleet). x.control.halt) t.now ∙ f.running)
+    free-in _ w v s f (step-keeps w (event.Switch (of_switch.Reply p)) v s f.kept) (present-step w (event.Switch (of_switch.Reply p)) v s refl f.present) (ap (λ (x : Fleet). x.control.halt) t.now ∙ f.running)
     (subst (λ (x : Fleet). AreMute x.ends) (sym t.now) (mute-put p w.fleet.ends t.old (record t.old { back = t.old.back ++ t.answer ∷ []; switch = t.switch }) t.here
     (λ m i r. elim (in-either t.old.back (t.answer ∷ []) m i) [
       | inl j ↦ f.mute p t.old t.here m j r
       | inr j ↦ no-error (to.BarrierReply t.step.xid) m (t.answer ∷ []) (ap (λ (y : Message). y ∷ []) t.step.reply) (λ y. y) j r
     ]) f.mute))
-free-step room w (event.Heard p) v d s f =
+free-step room w (event.Controller (of_controller.Heard p)) v d s f =
     let t = s.step in
-    free-in _ w v s f (step-keeps w (event.Heard p) v s f.kept) (present-step w (event.Heard p) v s refl f.present) (heard-on w p s.fleet t f.mute f.kept)
+    free-in _ w v s f (step-keeps w (event.Controller (of_controller.Heard p)) v s f.kept) (present-step w (event.Controller (of_controller.Heard p)) v s refl f.present) (heard-on w p s.fleet t f.mute f.kept)
     (subst (λ (x : Fleet). AreMute x.ends) (sym t.now) (mute-put p w.fleet.ends t.old (record t.old { back = t.rest }) t.here
     (λ m i. f.mute p t.old t.here m (subst (λ (ms : List Message). IsIn ms m) (sym t.front) (inr i))) f.mute))
-free-step room w (event.Arrive pk tag) v d s f = record {
-  kept = step-keeps w (event.Arrive pk tag) v s f.kept;
-  present = present-step w (event.Arrive pk tag) v s refl f.present;
+free-step room w (event.Packet (of_packet.Arrive pk tag)) v d s f = record {
+  kept = step-keeps w (event.Packet (of_packet.Arrive pk tag)) v s f.kept;
+  present = present-step w (event.Packet (of_packet.Arrive pk tag)) v s refl f.present;
   room = subst (λ (x : WorldValue). 130000 ≤ x.capacity) (sym s.now) f.room;
   running = ap (λ (x : WorldValue). x.fleet.control.halt) s.now ∙ f.running;
   mute = subst (λ (x : WorldValue). AreMute x.fleet.ends) (sym s.now) f.mute;
 }
-free-step room w (event.Hop n) v d s f = record {
-  kept = step-keeps w (event.Hop n) v s f.kept;
-  present = present-step w (event.Hop n) v s refl f.present;
+free-step room w (event.Packet (of_packet.Hop n)) v d s f = record {
+  kept = step-keeps w (event.Packet (of_packet.Hop n)) v s f.kept;
+  present = present-step w (event.Packet (of_packet.Hop n)) v s refl f.present;
   room = subst (λ (x : WorldValue). 130000 ≤ x.capacity) (sym s.now) f.room;
   running = ap (λ (x : WorldValue). x.fleet.control.halt) s.now ∙ f.running;
   mute = subst (λ (x : WorldValue). AreMute x.fleet.ends) (sym s.now) f.mute;
 }
-free-step room w (event.Drained stamp) v d s f =
-    free-in _ w v s.step f (step-keeps w (event.Drained stamp) v s f.kept) (present-step w (event.Drained stamp) v s refl f.present) (ap (λ (x : Fleet). x.control.halt) s.step.step.now ∙ f.running) (subst (λ (x : Fleet). AreMute x.ends) (sym s.step.step.now) f.mute)
-free-step room w (event.Lost p) v d s f = absurd d
-free-step room w (event.Rejoin p) v d s f = absurd d
-free-step room w (event.Stuck n) v d s f = absurd d
+free-step room w (event.Controller (of_controller.Drained stamp)) v d s f =
+    free-in _ w v s.step f (step-keeps w (event.Controller (of_controller.Drained stamp)) v s f.kept) (present-step w (event.Controller (of_controller.Drained stamp)) v s refl f.present) (ap (λ (x : Fleet). x.control.halt) s.step.step.now ∙ f.running) (subst (λ (x : Fleet). AreMute x.ends) (sym s.step.step.now) f.mute)
+free-step room w (event.Controller (of_controller.Lost p)) v d s f = absurd d
+free-step room w (event.Controller (of_controller.Rejoin p)) v d s f = absurd d
+free-step room w (event.Packet (of_packet.Stuck n)) v d s f = absurd d
 free-step room w (event.Foreign p side got) v d s f = absurd d

@@ -3,7 +3,7 @@ use Rattle.std.specs.Prelude.{ℕ, zero, suc, ◌+◌, ◌-◌, ◌*◌, ◌%◌
 use Rattle.rand_pcg.specs.Lcg.{Lcg, increment_of, started}
 use Rattle.rand_pcg.specs.Pcg.{multiplier_64}
 use Rattle.nk_values.specs.declared.packet.Packet.{Packet}
-use Rattle.document_text.specs.Terms.{Term}
+use Rattle.nk_syntax.specs.Terms.{Term}
 use Rattle.topology_model.specs.declared.line.TopoLine.{TopoLine}
 use Rattle.topology_model.specs.declared.line.TopoLine.TheVariants.{Switch, Link}
 use Rattle.topology_model.specs.Lines.{layout_of}

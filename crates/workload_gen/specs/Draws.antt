@@ -8,6 +8,9 @@ use Rattle.update_coordinator.specs.declared.phase.Phase.TheVariants.{Drain}
 use Rattle.update_laws.specs.Fleets.{End}
 use Rattle.world_core.specs.declared.event.Event.{Event}
 use Rattle.world_core.specs.declared.event.Event.TheVariants as event
+use Rattle.world_core.specs.declared.event.ControllerEvent.TheVariants as of_controller
+use Rattle.world_core.specs.declared.event.PacketEvent.TheVariants as of_packet
+use Rattle.world_core.specs.declared.event.SwitchEvent.TheVariants as of_switch
 use Rattle.world_core.specs.Settling.{NoneIs, hops_from}
 use Rattle.world_core.specs.Steps.{IsEnabled, Step}
 use Rattle.world_core.specs.Worlds.{WorldValue}
@@ -18,7 +21,7 @@ use Rattle.workload_gen.specs.Words.{next_word}
 -- a switch applies one of n flow mods, from a place on
 abbrev pub applies_from : ℕ → ℕ → ℕ → List Event
 applies_from s k zero = []
-applies_from s k (suc n) = event.Apply s k ∷ applies_from s (k + 1) n
+applies_from s k (suc n) = event.Switch (of_switch.Apply s k) ∷ applies_from s (k + 1) n
 
 abbrev pub pending_at : Option End → ℕ
 pending_at None = 0
@@ -26,7 +29,7 @@ pending_at (Some e) = length e.switch.pending
 
 -- at a switch: it is heard, it answers its barrier, it applies each flow mod that is pending, it takes a message, one is sent to it
 abbrev pub tried_at : WorldValue → ℕ → List Event
-tried_at w s = event.Heard s ∷ event.Reply s ∷ (applies_from s 0 (pending_at (slice_get w.fleet.ends s)) ++ event.Take s ∷ event.Send s ∷ [])
+tried_at w s = event.Controller (of_controller.Heard s) ∷ event.Switch (of_switch.Reply s) ∷ (applies_from s 0 (pending_at (slice_get w.fleet.ends s)) ++ event.Switch (of_switch.Take s) ∷ event.Controller (of_controller.Send s) ∷ [])
 
 -- at n switches from a place on
 abbrev pub tried_from : WorldValue → ℕ → ℕ → List Event
@@ -36,7 +39,7 @@ tried_from w s (suc n) = tried_at w s ++ tried_from w (s + 1) n
 -- the first of the packets that are left comes in
 abbrev pub arrival : List PacketLine → List Event
 arrival [] = []
-arrival (line ∷ lines) = event.Arrive line.packet line.tag ∷ []
+arrival (line ∷ lines) = event.Packet (of_packet.Arrive line.packet line.tag) ∷ []
 
 -- the stamp that is drained is that of the policy before
 abbrev pub draining : Phase → List Rows → Option ℕ
@@ -45,11 +48,11 @@ draining _ versions = None
 
 abbrev pub report : Option ℕ → List Event
 report None = []
-report (Some stamp) = event.Drained stamp ∷ []
+report (Some stamp) = event.Controller (of_controller.Drained stamp) ∷ []
 
 -- an arrival, the beginning of an update, and the report that a stamp is drained
 abbrev pub tried_last : List PacketLine → WorldValue → List Event
-tried_last lines w = arrival lines ++ event.Begin ∷ report (draining w.fleet.control.phase w.fleet.control.versions)
+tried_last lines w = arrival lines ++ (event.Controller of_controller.Begin) ∷ report (draining w.fleet.control.phase w.fleet.control.versions)
 
 -- all of them: the switches in their order, the copies in theirs, and these
 abbrev pub tried : List PacketLine → WorldValue → List Event
@@ -72,7 +75,7 @@ pub record IsDrawn (lines : List PacketLine) (w : WorldValue) (g : Lcg) (e : Eve
 
 -- the packets that are left behind an event
 abbrev pub left_by : Event → List PacketLine → List PacketLine
-left_by (event.Arrive pk tag) lines = drop 1 lines
+left_by (event.Packet (of_packet.Arrive pk tag)) lines = drop 1 lines
 left_by e lines = lines
 
 -- and behind some

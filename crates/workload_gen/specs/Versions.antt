@@ -1,7 +1,7 @@
 -- The policies of a document with their rows.
 use Rattle.std.specs.Prelude.{◌≡◌, ℕ, List, map, slice_get, Some}
-use Rattle.document_text.specs.Terms.{Term}
-use Rattle.document_text.specs.Views.{term_of}
+use Rattle.nk_syntax.specs.Terms.{Term}
+use Rattle.nk_syntax.specs.Views.{term_of}
 use Rattle.document_text.specs.Documents.{Doc}
 use Rattle.policy_rows.specs.declared.version.Version.{Version}
 use Rattle.policy_rows.specs.Numbers.{stamp_at, band_at}

@@ -1,12 +1,13 @@
 // How many events can happen at each switch, kept from turn to turn.
 ghost use Rattle.std.specs.Prelude.{◌≡◌, ◌≢◌, ℕ, IfOk, Some, length, slice_get};
 ghost use Rattle.world_core.specs.Steps.{Step};
+ghost use Rattle.world_core.specs.declared.event.Event.TheVariants as event;
 ghost use Rattle.world_core.specs.Worlds.{WorldValue};
 ghost use Rattle.workload_gen.specs.Counts.{AreCounts, IsCount};
 
 use crate::sweep::count_at;
 use std::alloc::{AllocError, Global};
-use world_core::{Event, World};
+use world_core::{ControllerEvent, Event, PacketEvent, SwitchEvent, World};
 
 /// The counts of all switches.
 pub(crate) fn count_all(alloc: Global, world: &World) -> Result<Vec<u64>, AllocError>
@@ -24,13 +25,42 @@ pub(crate) fn recount(counts: &mut [u64], world: &World, event: &Event)
     ensures { (w : WorldValue) → AreCounts w counts.old → Step w event.now world.now → AreCounts world.now counts.new }
 {
     match event {
-        Event::Send(place) => recount_at(counts, world, *place),
-        Event::Take(place) => recount_at(counts, world, *place),
-        Event::Apply(place, _) => recount_at(counts, world, *place),
-        Event::Reply(place) => recount_at(counts, world, *place),
-        Event::Arrive(_, _) => {}
-        Event::Hop(_) => {}
+        Event::Controller(control) => recount_control(counts, world, *control),
+        Event::Switch(act) => recount_switch(counts, world, *act),
+        Event::Packet(flow) => recount_packet(counts, world, flow),
+        Event::Foreign(_, _, _) => recount_all(counts, world),
+    }
+}
+
+// Counts anew where an event of the controller has led to this world.
+fn recount_control(counts: &mut [u64], world: &World, control: ControllerEvent)
+    ensures { (w : WorldValue) → AreCounts w counts.old → Step w (event.Controller control) world.now → AreCounts world.now counts.new }
+{
+    match control {
+        ControllerEvent::Send(place) => recount_at(counts, world, place),
         _ => recount_all(counts, world),
+    }
+}
+
+// Counts anew where an event of a switch has led to this world.
+fn recount_switch(counts: &mut [u64], world: &World, act: SwitchEvent)
+    ensures { (w : WorldValue) → AreCounts w counts.old → Step w (event.Switch act) world.now → AreCounts world.now counts.new }
+{
+    match act {
+        SwitchEvent::Take(place) => recount_at(counts, world, place),
+        SwitchEvent::Apply(place, _) => recount_at(counts, world, place),
+        SwitchEvent::Reply(place) => recount_at(counts, world, place),
+    }
+}
+
+// Counts anew where an event of a packet has led to this world: no switch changes, unless updates are halted.
+fn recount_packet(counts: &mut [u64], world: &World, flow: &PacketEvent)
+    ensures { (w : WorldValue) → AreCounts w counts.old → Step w (event.Packet flow.now) world.now → AreCounts world.now counts.new }
+{
+    match flow {
+        PacketEvent::Arrive(_, _) => {}
+        PacketEvent::Hop(_) => {}
+        PacketEvent::Stuck(_) => recount_all(counts, world),
     }
 }
 

@@ -13,7 +13,7 @@ use crate::words::next_word;
 use document_text::PacketLine;
 use rand_pcg::Lcg64Xsh32;
 use std::alloc::{AllocError, Global};
-use world_core::{Event, StepFault, World};
+use world_core::{Event, PacketEvent, StepFault, World};
 
 /// Lets these packets come in and does the updates of a world by drawn events, until none can happen, and gives the
 /// events. In each turn one word is drawn, and of the events that can happen the one with the number that the word
@@ -69,7 +69,7 @@ fn left_by<'a>(event: &Event, packets: &'a [PacketLine]) -> &'a [PacketLine]
     ensures { result.now ≡ left_by event.now packets.now }
 {
     match event {
-        Event::Arrive(_, _) => match packets.split_first() {
+        Event::Packet(PacketEvent::Arrive(_, _)) => match packets.split_first() {
             Some((_, rest)) => rest,
             None => packets,
         },

@@ -2,13 +2,13 @@
 ghost use Rattle.std.specs.Prelude.{◌≡◌, ◌≤◌, ◌++◌, IfOk, OnOk, map};
 ghost use Rattle.nk_values.specs.Lits.{lit_field, lit_value};
 ghost use Rattle.nk_values.specs.Ranges.{IsLiteralOf};
-ghost use Rattle.document_text.specs.Views.{term_of};
+ghost use Rattle.nk_syntax.specs.Views.{term_of};
 ghost use Rattle.workload_gen.specs.Documents.{policies};
 ghost use Rattle.workload_gen.specs.Words.{behind};
 ghost use Rattle.workload_laws.specs.Workload.{exit, hop, hops_at, workload};
 
 use crate::words::number_by;
-use document_text::{Pol, Pols, Pred};
+use nk_syntax::{Pol, Pols, Pred};
 use nk_values::{Field, Lit};
 use rand_pcg::Lcg64Xsh32;
 use std::alloc::{AllocError, Global};
@@ -98,7 +98,7 @@ fn exit(switch: u16, destination: u16) -> u16
     }
 }
 
-ghost use Rattle.document_text.specs.Terms.{Assign, Filter, Test};
+ghost use Rattle.nk_syntax.specs.Terms.{Assign, Filter, Test};
 
 fn test(field: Field, number: u16) -> Pol
     requires { IsLiteralOf field number }

@@ -9,7 +9,7 @@ ghost use Rattle.workload_gen.specs.Sweeps.{IsSweep, Passes};
 
 use document_text::PacketLine;
 use update_coordinator::Phase;
-use world_core::{Event, World};
+use world_core::{ControllerEvent, Event, PacketEvent, SwitchEvent, World};
 
 /// A sweep over the events that can happen: how many it has passed, and the one with a number, from 0, if it has
 /// passed it. The count stops at the greatest number of 64 bits.
@@ -89,11 +89,11 @@ impl Sweep {
         ensures number { self.new.number ≡ self.old.number }
         ensures passed { Passes world.now (tried_at world.now place) self.old self.new }
     {
-        self.event(world, Event::Heard(place));
-        self.event(world, Event::Reply(place));
+        self.event(world, Event::Controller(ControllerEvent::Heard(place)));
+        self.event(world, Event::Switch(SwitchEvent::Reply(place)));
         self.pending(world, place);
-        self.event(world, Event::Take(place));
-        self.event(world, Event::Send(place));
+        self.event(world, Event::Switch(SwitchEvent::Take(place)));
+        self.event(world, Event::Controller(ControllerEvent::Send(place)));
     }
 
     // Passes the hops of the copies in flight.
@@ -102,7 +102,7 @@ impl Sweep {
         ensures passed { Passes world.now (hops_from 0 (length world.now.flights)) self.old self.new }
     {
         for place in 0..world.flights().len() {
-            self.event(world, Event::Hop(place));
+            self.event(world, Event::Packet(PacketEvent::Hop(place)));
         }
     }
 
@@ -112,7 +112,7 @@ impl Sweep {
         ensures passed { Passes world.now (tried_last packets.now world.now) self.old self.new }
     {
         self.arrival(world, packets);
-        self.event(world, Event::Begin);
+        self.event(world, Event::Controller(ControllerEvent::Begin));
         self.drain(world);
     }
 
@@ -122,7 +122,10 @@ impl Sweep {
         ensures passed { Passes world.now (arrival packets.now) self.old self.new }
     {
         if let Some(line) = packets.first() {
-            self.event(world, Event::Arrive(line.packet, line.tag));
+            self.event(
+                world,
+                Event::Packet(PacketEvent::Arrive(line.packet, line.tag)),
+            );
         }
     }
 
@@ -132,7 +135,7 @@ impl Sweep {
         ensures passed { Passes world.now (report (draining world.now.fleet.control.phase world.now.fleet.control.versions)) self.old self.new }
     {
         if let Some(stamp) = draining(world) {
-            self.event(world, Event::Drained(stamp));
+            self.event(world, Event::Controller(ControllerEvent::Drained(stamp)));
         }
     }
 
@@ -151,7 +154,7 @@ impl Sweep {
         ensures number { self.new.number ≡ self.old.number }
         ensures passed { Passes world.now (applies_from place 0 (pending_at (slice_get world.now.fleet.ends place))) self.old self.new }
     {
-        if world.enabled(&Event::Apply(place, 0)) {
+        if world.enabled(&Event::Switch(SwitchEvent::Apply(place, 0))) {
             self.pass_all(place, world.switch(place).pending());
         }
     }
@@ -174,7 +177,7 @@ impl Sweep {
     {
         let count = count as u64;
         if let Some(behind) = self.reached(count) {
-            self.found = Some(Event::Apply(place, behind as usize));
+            self.found = Some(Event::Switch(SwitchEvent::Apply(place, behind as usize)));
         }
         self.passed = self.passed.saturating_add(count);
     }

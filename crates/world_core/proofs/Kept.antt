@@ -27,6 +27,9 @@ use Rattle.update_laws.proofs.Traffic.{hop-traffic, arrive-traffic}
 use Rattle.update_laws.proofs.Wiring.{some-is}
 use Rattle.world_core.specs.declared.event.Event.{Event}
 use Rattle.world_core.specs.declared.event.Event.TheVariants as event
+use Rattle.world_core.specs.declared.event.ControllerEvent.TheVariants as of_controller
+use Rattle.world_core.specs.declared.event.PacketEvent.TheVariants as of_packet
+use Rattle.world_core.specs.declared.event.SwitchEvent.TheVariants as of_switch
 use Rattle.world_core.specs.Worlds.{WorldValue, setting, Keeps, IsKept}
 use Rattle.world_core.proofs.Sessions.{stopped, loss-phase}
 use Rattle.world_core.proofs.Tables.{step-distinct}
@@ -169,18 +172,18 @@ lost-keeps s w v h k = elim h.step [
 ]
 
 pub step-keeps : (w : WorldValue) (e : Event) (v : WorldValue) → Step w e v → IsKept w → IsKept v
-step-keeps w event.Begin v h k = in-fleet Begins Begin w v h k h.step (begun-keeps w h.fleet h.step)
-step-keeps w (event.Send s) v h k = in-fleet (SendsAt s) (Send s) w v h k h.step (same-phase w h.fleet (sent-phase s w.fleet h.fleet h.step))
-step-keeps w (event.Take s) v h k = in-fleet (TakesAt s) (Take s) w v h k h.step (same-phase w h.fleet (ap (λ (x : Fleet). x.control.phase) h.step.now))
-step-keeps w (event.Apply s n) v h k = in-fleet (AppliesAt s n) (Apply s n) w v h k h.step (same-phase w h.fleet (ap (λ (x : Fleet). x.control.phase) h.step.now))
-step-keeps w (event.Reply s) v h k = in-fleet (RepliesAt s) (Answer s) w v h k h.step (same-phase w h.fleet (ap (λ (x : Fleet). x.control.phase) h.step.now))
-step-keeps w (event.Heard s) v h k = in-fleet (HearsAt s) (Hear s) w v h k h.step (heard-traffic s w h.fleet h.step)
-step-keeps w (event.Arrive pk tag) v h k = arrive-keeps pk tag w v h k
-step-keeps w (event.Hop n) v h k = hop-keeps n w v h k
-step-keeps w (event.Drained stamp) v h k = in-fleet (Drains stamp) (Drained stamp) w v h.step k h.step.step (drained-keeps stamp w h.step.fleet h.step.step h.none)
-step-keeps w (event.Lost s) v h k = lost-keeps s w v h k
-step-keeps w (event.Rejoin s) v h k = in-fleet (ReturnsAt s 0) (Return s 0) w v h k h.step (same-phase w h.fleet (ap (λ (x : Fleet). x.control.phase) h.step.now ∙ ap (λ (x : Control). x.phase) h.step.back.now))
-step-keeps w (event.Stuck n) v h k = subst (λ (x : WorldValue). IsKept x) (sym h.now) (halt-keeps (cause.Undrained h.stuck.flight.history) w k)
+step-keeps w (event.Controller of_controller.Begin) v h k = in-fleet Begins Begin w v h k h.step (begun-keeps w h.fleet h.step)
+step-keeps w (event.Controller (of_controller.Send s)) v h k = in-fleet (SendsAt s) (Send s) w v h k h.step (same-phase w h.fleet (sent-phase s w.fleet h.fleet h.step))
+step-keeps w (event.Switch (of_switch.Take s)) v h k = in-fleet (TakesAt s) (Take s) w v h k h.step (same-phase w h.fleet (ap (λ (x : Fleet). x.control.phase) h.step.now))
+step-keeps w (event.Switch (of_switch.Apply s n)) v h k = in-fleet (AppliesAt s n) (Apply s n) w v h k h.step (same-phase w h.fleet (ap (λ (x : Fleet). x.control.phase) h.step.now))
+step-keeps w (event.Switch (of_switch.Reply s)) v h k = in-fleet (RepliesAt s) (Answer s) w v h k h.step (same-phase w h.fleet (ap (λ (x : Fleet). x.control.phase) h.step.now))
+step-keeps w (event.Controller (of_controller.Heard s)) v h k = in-fleet (HearsAt s) (Hear s) w v h k h.step (heard-traffic s w h.fleet h.step)
+step-keeps w (event.Packet (of_packet.Arrive pk tag)) v h k = arrive-keeps pk tag w v h k
+step-keeps w (event.Packet (of_packet.Hop n)) v h k = hop-keeps n w v h k
+step-keeps w (event.Controller (of_controller.Drained stamp)) v h k = in-fleet (Drains stamp) (Drained stamp) w v h.step k h.step.step (drained-keeps stamp w h.step.fleet h.step.step h.none)
+step-keeps w (event.Controller (of_controller.Lost s)) v h k = lost-keeps s w v h k
+step-keeps w (event.Controller (of_controller.Rejoin s)) v h k = in-fleet (ReturnsAt s 0) (Return s 0) w v h k h.step (same-phase w h.fleet (ap (λ (x : Fleet). x.control.phase) h.step.now ∙ ap (λ (x : Control). x.phase) h.step.back.now))
+step-keeps w (event.Packet (of_packet.Stuck n)) v h k = subst (λ (x : WorldValue). IsKept x) (sym h.now) (halt-keeps (cause.Undrained h.stuck.flight.history) w k)
 step-keeps w (event.Foreign s side got) v h k = subst (λ (x : WorldValue). IsKept x) (sym h.now) (halt-keeps (foreign_cause side got h.may.1.end_) w k)
 
 pub run-keeps : (w : WorldValue) (es : List Event) (v : WorldValue) → Runs w es v → IsKept w → IsKept v

@@ -17,6 +17,9 @@ use Rattle.update_laws.proofs.Places.{Put, put-set, get-map, below-either}
 use Rattle.update_laws.proofs.Wiring.{some-is}
 use Rattle.world_core.specs.declared.event.Event.{Event}
 use Rattle.world_core.specs.declared.event.Event.TheVariants as event
+use Rattle.world_core.specs.declared.event.ControllerEvent.TheVariants as of_controller
+use Rattle.world_core.specs.declared.event.PacketEvent.TheVariants as of_packet
+use Rattle.world_core.specs.declared.event.SwitchEvent.TheVariants as of_switch
 use Rattle.world_core.specs.Laws.{is_loss}
 use Rattle.world_core.specs.Steps.{Step}
 use Rattle.world_core.specs.Worlds.{WorldValue}
@@ -80,25 +83,25 @@ present-step w e v s n p = to e s n
     by-control {c} q h = as-before c v.fleet.control q h
 
     to : (e : Event) → Step w e v → is_loss e ≡ false → ArePresent v.fleet.control.sites
-    to event.Begin s n = by-control (ap (λ (x : WorldValue). x.fleet.control) s.now ∙ ap (λ (x : Fleet). x.control) s.step.now) (phase-present _ w.fleet.control p)
-    to (event.Send place) s n =
+    to (event.Controller of_controller.Begin) s n = by-control (ap (λ (x : WorldValue). x.fleet.control) s.now ∙ ap (λ (x : Fleet). x.control) s.step.now) (phase-present _ w.fleet.control p)
+    to (event.Controller (of_controller.Send place)) s n =
         let t = s.step.sent in
         by-control (ap (λ (x : WorldValue). x.fleet.control) s.now ∙ ap (λ (x : Fleet). x.control) s.step.now ∙ t.now) (put-present place w.fleet.control.sites t.site (went t.order t.site) t.here (went-away t.order t.site) p)
-    to (event.Take place) s n = by-control (ap (λ (x : WorldValue). x.fleet.control) s.now ∙ ap (λ (x : Fleet). x.control) s.step.now) p
-    to (event.Apply place k) s n = by-control (ap (λ (x : WorldValue). x.fleet.control) s.now ∙ ap (λ (x : Fleet). x.control) s.step.now) p
-    to (event.Reply place) s n = by-control (ap (λ (x : WorldValue). x.fleet.control) s.now ∙ ap (λ (x : Fleet). x.control) s.step.now) p
-    to (event.Heard place) s n =
+    to (event.Switch (of_switch.Take place)) s n = by-control (ap (λ (x : WorldValue). x.fleet.control) s.now ∙ ap (λ (x : Fleet). x.control) s.step.now) p
+    to (event.Switch (of_switch.Apply place k)) s n = by-control (ap (λ (x : WorldValue). x.fleet.control) s.now ∙ ap (λ (x : Fleet). x.control) s.step.now) p
+    to (event.Switch (of_switch.Reply place)) s n = by-control (ap (λ (x : WorldValue). x.fleet.control) s.now ∙ ap (λ (x : Fleet). x.control) s.step.now) p
+    to (event.Controller (of_controller.Heard place)) s n =
         let t = s.step.heard in
         by-control (ap (λ (x : WorldValue). x.fleet.control) s.now ∙ ap (λ (x : Fleet). x.control) s.step.now)
         (moved-present place t.site.sw s.step.move _ s.step.control t.now
         (put-present place w.fleet.control.sites t.site (met (due place w.fleet.control) s.step.move (told s.step.message t.site)) t.here (met-away (due place w.fleet.control) s.step.move (told s.step.message t.site)) p))
-    to (event.Arrive pk tag) s n = by-control (ap (λ (x : WorldValue). x.fleet.control) s.now) p
-    to (event.Hop k) s n = by-control (ap (λ (x : WorldValue). x.fleet.control) s.now) p
-    to (event.Drained stamp) s n = by-control (ap (λ (x : WorldValue). x.fleet.control) s.step.now ∙ ap (λ (x : Fleet). x.control) s.step.step.now) (phase-present _ w.fleet.control p)
-    to (event.Lost place) s n = absurd (let no : true ≡ false = n in cc)
-    to (event.Rejoin place) s n =
+    to (event.Packet (of_packet.Arrive pk tag)) s n = by-control (ap (λ (x : WorldValue). x.fleet.control) s.now) p
+    to (event.Packet (of_packet.Hop k)) s n = by-control (ap (λ (x : WorldValue). x.fleet.control) s.now) p
+    to (event.Controller (of_controller.Drained stamp)) s n = by-control (ap (λ (x : WorldValue). x.fleet.control) s.step.now ∙ ap (λ (x : Fleet). x.control) s.step.step.now) (phase-present _ w.fleet.control p)
+    to (event.Controller (of_controller.Lost place)) s n = absurd (let no : true ≡ false = n in cc)
+    to (event.Controller (of_controller.Rejoin place)) s n =
         let t = s.step.back in
         by-control (ap (λ (x : WorldValue). x.fleet.control) s.now ∙ ap (λ (x : Fleet). x.control) s.step.now ∙ t.now)
         (put-present place w.fleet.control.sites t.site (returned t.site) t.here (sym (p place t.site t.here)) p)
-    to (event.Stuck k) s n = by-control (ap (λ (x : WorldValue). x.fleet.control) s.now) p
+    to (event.Packet (of_packet.Stuck k)) s n = by-control (ap (λ (x : WorldValue). x.fleet.control) s.now) p
     to (event.Foreign place side got) s n = by-control (ap (λ (x : WorldValue). x.fleet.control) s.now) p

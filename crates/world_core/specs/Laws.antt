@@ -15,6 +15,9 @@ use Rattle.update_laws.specs.Traffic.{Arrived, IsGood, IsLanded}
 use Rattle.world_core.specs.declared.settings.Settings.{Settings}
 use Rattle.world_core.specs.declared.event.Event.{Event}
 use Rattle.world_core.specs.declared.event.Event.TheVariants as event
+use Rattle.world_core.specs.declared.event.ControllerEvent.TheVariants as of_controller
+use Rattle.world_core.specs.declared.event.PacketEvent.TheVariants as of_packet
+use Rattle.world_core.specs.declared.event.SwitchEvent.TheVariants as of_switch
 use Rattle.world_core.specs.Worlds.{WorldValue, setting, start, IsKept}
 use Rattle.world_core.specs.Settling.{Follows}
 use Rattle.world_core.specs.Steps.{InFleet, IsEnabled, Step, Runs}
@@ -41,7 +44,7 @@ HaltsStay = (w : WorldValue) (e : Event) (v : WorldValue) → w.fleet.control.ha
 
 -- how many of these events are losses of sessions
 abbrev pub is_loss : Event → Bool
-is_loss (event.Lost s) = true
+is_loss (event.Controller (of_controller.Lost s)) = true
 is_loss _ = false
 
 abbrev pub counted : Bool → ℕ → ℕ
@@ -58,19 +61,19 @@ LossesCount = (w : WorldValue) (events : List Event) (v : WorldValue) → Runs w
 
 -- The loss that halts it comes behind all of those.
 abbrev pub LastLossHalts : Type 0
-LastLossHalts = (w : WorldValue) (place : ℕ) (v : WorldValue) → Step w (event.Lost place) v → v.fleet.control.halt ≢ None → w.fleet.control.rejoins ≡ 0
+LastLossHalts = (w : WorldValue) (place : ℕ) (v : WorldValue) → Step w (event.Controller (of_controller.Lost place)) v → v.fleet.control.halt ≢ None → w.fleet.control.rejoins ≡ 0
 
 -- nothing can happen but arrivals, and what would halt the coordinator or lose a session
 pub record IsStill (w : WorldValue) : Type 0 where
-  pub heard : (s : ℕ) → ¬ (IsEnabled w (event.Heard s))
-  pub reply : (s : ℕ) → ¬ (IsEnabled w (event.Reply s))
-  pub apply : (s k : ℕ) → ¬ (IsEnabled w (event.Apply s k))
-  pub take : (s : ℕ) → ¬ (IsEnabled w (event.Take s))
-  pub send : (s : ℕ) → ¬ (IsEnabled w (event.Send s))
-  pub begin : ¬ (IsEnabled w event.Begin)
-  pub drained : (stamp : ℕ) → ¬ (IsEnabled w (event.Drained stamp))
-  pub hop : (k : ℕ) → ¬ (IsEnabled w (event.Hop k))
-  pub rejoin : (s : ℕ) → ¬ (IsEnabled w (event.Rejoin s))
+  pub heard : (s : ℕ) → ¬ (IsEnabled w (event.Controller (of_controller.Heard s)))
+  pub reply : (s : ℕ) → ¬ (IsEnabled w (event.Switch (of_switch.Reply s)))
+  pub apply : (s k : ℕ) → ¬ (IsEnabled w (event.Switch (of_switch.Apply s k)))
+  pub take : (s : ℕ) → ¬ (IsEnabled w (event.Switch (of_switch.Take s)))
+  pub send : (s : ℕ) → ¬ (IsEnabled w (event.Controller (of_controller.Send s)))
+  pub begin : ¬ (IsEnabled w (event.Controller of_controller.Begin))
+  pub drained : (stamp : ℕ) → ¬ (IsEnabled w (event.Controller (of_controller.Drained stamp)))
+  pub hop : (k : ℕ) → ¬ (IsEnabled w (event.Packet (of_packet.Hop k)))
+  pub rejoin : (s : ℕ) → ¬ (IsEnabled w (event.Controller (of_controller.Rejoin s)))
 
 -- a copy with the stamp that is to be drained took as many hops as it may
 pub record IsBarred (w : WorldValue) : Type 0 where

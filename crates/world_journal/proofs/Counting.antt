@@ -7,6 +7,8 @@ use Rattle.update_coordinator.specs.declared.cause.Side.{Side}
 use Rattle.update_coordinator.specs.declared.cause.Side.TheVariants as side
 use Rattle.world_core.specs.declared.event.Event.{Event}
 use Rattle.world_core.specs.declared.event.Event.TheVariants as event
+use Rattle.world_core.specs.declared.event.ControllerEvent.TheVariants as of_controller
+use Rattle.world_core.specs.declared.event.SwitchEvent.TheVariants as of_switch
 use Rattle.world_journal.specs.declared.entry.Entry.{Entry}
 use Rattle.world_journal.specs.Journals.{HeldValue, entry, is_return, is_told, told, told_at, told_before, events_of}
 use Rattle.world_journal.specs.Makers.{is_rejoin}
@@ -65,17 +67,17 @@ counts-told side counts journal w e t next stays tells h within more =
     (more ∙ sym (before-more t side journal w e ∙ on-more t side e (told_before t side journal) (no-return t e stays) (tells t ∙ same)))
     (λ s k other got. h s k got ∙ sym (before-more s side journal w e ∙ on-same s side e (told_before s side journal) (no-return s e stays) (tells s ∙ other)))
 
-none-told : (s : ℕ) (side : Side) (t : ℕ) → is_told s side (event.Rejoin t) ≡ false
+none-told : (s : ℕ) (side : Side) (t : ℕ) → is_told s side (event.Controller (of_controller.Rejoin t)) ≡ false
 none-told s side.Controller t = refl
 none-told s side.Switch t = refl
 
 -- switch t returned
-counts-return : (side : Side) (counts : List ℕ) (journal : List Entry) (w t : ℕ) → AreCounts side counts journal → t < length counts → AreCounts side (slice_set counts t 0) (journal ++ entry w (event.Rejoin t) ∷ [])
+counts-return : (side : Side) (counts : List ℕ) (journal : List Entry) (w t : ℕ) → AreCounts side counts journal → t < length counts → AreCounts side (slice_set counts t 0) (journal ++ entry w (event.Controller (of_controller.Rejoin t)) ∷ [])
 counts-return side counts journal w t h within =
     let same : (t == t) ≡ true = grind (arith, nat_tests) in
-    counts-set side counts (journal ++ entry w (event.Rejoin t) ∷ []) t 0 within
-    (sym (before-more t side journal w (event.Rejoin t) ∙ on-return t side (event.Rejoin t) (told_before t side journal) same))
-    (λ s k other got. h s k got ∙ sym (before-more s side journal w (event.Rejoin t) ∙ on-same s side (event.Rejoin t) (told_before s side journal) other (none-told s side t)))
+    counts-set side counts (journal ++ entry w (event.Controller (of_controller.Rejoin t)) ∷ []) t 0 within
+    (sym (before-more t side journal w (event.Controller (of_controller.Rejoin t)) ∙ on-return t side (event.Controller (of_controller.Rejoin t)) (told_before t side journal) same))
+    (λ s k other got. h s k got ∙ sym (before-more s side journal w (event.Controller (of_controller.Rejoin t)) ∙ on-same s side (event.Controller (of_controller.Rejoin t)) (told_before s side journal) other (none-told s side t)))
 
 -- ---- the counts of both sides
 
@@ -114,8 +116,8 @@ counts-heard n journal now to_told back_told w e at t count next h is same tells
       to_many = length-set to_told t next ∙ h.to_many;
       back_many = h.back_many;
       to_counts = subst (λ es. AreCounts side.Controller (slice_set to_told t next) es) (sym one)
-          (counts-told side.Controller to_told journal w (event.Heard t) t next refl (λ s. refl) h.to_counts (omega (arith, place, h.to_many)) (one-more t at side.Controller journal count next same counted more));
-      back_counts = subst (λ es. AreCounts side.Switch back_told es) (sym one) (counts-same side.Switch back_told journal w (event.Heard t) refl (λ s. refl) h.back_counts);
+          (counts-told side.Controller to_told journal w (event.Controller (of_controller.Heard t)) t next refl (λ s. refl) h.to_counts (omega (arith, place, h.to_many)) (one-more t at side.Controller journal count next same counted more));
+      back_counts = subst (λ es. AreCounts side.Switch back_told es) (sym one) (counts-same side.Switch back_told journal w (event.Controller (of_controller.Heard t)) refl (λ s. refl) h.back_counts);
     }
 
 -- a switch took one
@@ -125,13 +127,13 @@ counts-taken n journal now to_told back_told w e at t count next h is same tells
     let one = subst (λ (x : Event). now ≡ journal ++ entry w x ∷ []) (sym (is-taken e t (subst (λ x. told_at e ≡ Some (x, t)) same tells))) is in record {
       to_many = h.to_many;
       back_many = length-set back_told t next ∙ h.back_many;
-      to_counts = subst (λ es. AreCounts side.Controller to_told es) (sym one) (counts-same side.Controller to_told journal w (event.Take t) refl (λ s. refl) h.to_counts);
+      to_counts = subst (λ es. AreCounts side.Controller to_told es) (sym one) (counts-same side.Controller to_told journal w (event.Switch (of_switch.Take t)) refl (λ s. refl) h.to_counts);
       back_counts = subst (λ es. AreCounts side.Switch (slice_set back_told t next) es) (sym one)
-          (counts-told side.Switch back_told journal w (event.Take t) t next refl (λ s. refl) h.back_counts (omega (arith, place, h.back_many)) (one-more t at side.Switch journal count next same counted more));
+          (counts-told side.Switch back_told journal w (event.Switch (of_switch.Take t)) t next refl (λ s. refl) h.back_counts (omega (arith, place, h.back_many)) (one-more t at side.Switch journal count next same counted more));
     }
 
 -- a switch returned
-pub counts-returned : (n : ℕ) (journal now : List Entry) (to_told back_told : List ℕ) (w t : ℕ) → HasCounts n journal to_told back_told → now ≡ journal ++ entry w (event.Rejoin t) ∷ [] → t < n → HasCounts n now (slice_set to_told t 0) (slice_set back_told t 0)
+pub counts-returned : (n : ℕ) (journal now : List Entry) (to_told back_told : List ℕ) (w t : ℕ) → HasCounts n journal to_told back_told → now ≡ journal ++ entry w (event.Controller (of_controller.Rejoin t)) ∷ [] → t < n → HasCounts n now (slice_set to_told t 0) (slice_set back_told t 0)
 counts-returned n journal now to_told back_told w t h is place = record {
   to_many = length-set to_told t 0 ∙ h.to_many;
   back_many = length-set back_told t 0 ∙ h.back_many;

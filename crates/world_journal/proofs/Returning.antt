@@ -8,6 +8,9 @@ use Rattle.std.proofs.lemmas.Bool.Decides.{nat_tests}
 use Rattle.update_coordinator.specs.declared.cause.Side.{Side}
 use Rattle.world_core.specs.declared.event.Event.{Event}
 use Rattle.world_core.specs.declared.event.Event.TheVariants as event
+use Rattle.world_core.specs.declared.event.ControllerEvent.TheVariants as of_controller
+use Rattle.world_core.specs.declared.event.PacketEvent.TheVariants as of_packet
+use Rattle.world_core.specs.declared.event.SwitchEvent.TheVariants as of_switch
 use Rattle.world_journal.specs.declared.entry.Entry.{Entry}
 use Rattle.world_journal.specs.Journals.{HeldValue, MetBy, entry, events_of, is_return, is_told, session, since, told}
 use Rattle.world_journal.specs.Arriving.{is_arrival}
@@ -41,18 +44,18 @@ get-replicate (suc n) (suc i) x y h = get-replicate n i x y h
 -- ---- one event more
 
 pub no-return : (s : ℕ) (e : Event) → is_rejoin e ≡ false → is_return s e ≡ false
-no-return s event.Begin f = refl
-no-return s (event.Send t) f = refl
-no-return s (event.Take t) f = refl
-no-return s (event.Apply t k) f = refl
-no-return s (event.Reply t) f = refl
-no-return s (event.Heard t) f = refl
-no-return s (event.Arrive pk tag) f = refl
-no-return s (event.Hop k) f = refl
-no-return s (event.Drained stamp) f = refl
-no-return s (event.Lost t) f = refl
-no-return s (event.Rejoin t) f = cc
-no-return s (event.Stuck k) f = refl
+no-return s (event.Controller of_controller.Begin) f = refl
+no-return s (event.Controller (of_controller.Send t)) f = refl
+no-return s (event.Switch (of_switch.Take t)) f = refl
+no-return s (event.Switch (of_switch.Apply t k)) f = refl
+no-return s (event.Switch (of_switch.Reply t)) f = refl
+no-return s (event.Controller (of_controller.Heard t)) f = refl
+no-return s (event.Packet (of_packet.Arrive pk tag)) f = refl
+no-return s (event.Packet (of_packet.Hop k)) f = refl
+no-return s (event.Controller (of_controller.Drained stamp)) f = refl
+no-return s (event.Controller (of_controller.Lost t)) f = refl
+no-return s (event.Controller (of_controller.Rejoin t)) f = cc
+no-return s (event.Packet (of_packet.Stuck k)) f = refl
 no-return s (event.Foreign t side got) f = refl
 
 session-more : (s : ℕ) (es : List Event) (e : Event) → session s (es ++ e ∷ []) ≡ session s es + session s (e ∷ [])
@@ -121,7 +124,7 @@ told-last s side es e = told-by s side es e (is_return s e) refl
 numbers-same : (numbers : List ℕ) (journal : List Entry) (w : ℕ) (e : Event) → is_rejoin e ≡ false → AreNumbers numbers journal → AreNumbers numbers (journal ++ entry w e ∷ [])
 numbers-same numbers journal w e stays h = λ s number at. h s number at ∙ sym (ap (session s) (events-more journal (entry w e)) ∙ session-same s (events_of journal) e (no-return s e stays))
 
-returns-here : (s : ℕ) → is_return s (event.Rejoin s) ≡ true
+returns-here : (s : ℕ) → is_return s (event.Controller (of_controller.Rejoin s)) ≡ true
 returns-here s = grind (arith, nat_tests)
 
 -- what was put there
@@ -130,25 +133,25 @@ set-get [] i x v h = cc
 set-get (y ∷ ys) zero x v h = refl
 set-get (y ∷ ys) (suc i) x v h = set-get ys i x v h
 
-next-number : (journal : List Entry) (w s : ℕ) → session s (events_of (journal ++ entry w (event.Rejoin s) ∷ [])) ≡ session s (events_of journal) + 1
-next-number journal w s = ap (session s) (events-more journal (entry w (event.Rejoin s))) ∙ session-next s (events_of journal) (event.Rejoin s) (returns-here s)
+next-number : (journal : List Entry) (w s : ℕ) → session s (events_of (journal ++ entry w (event.Controller (of_controller.Rejoin s)) ∷ [])) ≡ session s (events_of journal) + 1
+next-number journal w s = ap (session s) (events-more journal (entry w (event.Controller (of_controller.Rejoin s)))) ∙ session-next s (events_of journal) (event.Controller (of_controller.Rejoin s)) (returns-here s)
 
-same-number : (journal : List Entry) (w s t : ℕ) → is_return t (event.Rejoin s) ≡ false → session t (events_of (journal ++ entry w (event.Rejoin s) ∷ [])) ≡ session t (events_of journal)
-same-number journal w s t stays = ap (session t) (events-more journal (entry w (event.Rejoin s))) ∙ session-same t (events_of journal) (event.Rejoin s) stays
+same-number : (journal : List Entry) (w s t : ℕ) → is_return t (event.Controller (of_controller.Rejoin s)) ≡ false → session t (events_of (journal ++ entry w (event.Controller (of_controller.Rejoin s)) ∷ [])) ≡ session t (events_of journal)
+same-number journal w s t stays = ap (session t) (events-more journal (entry w (event.Controller (of_controller.Rejoin s)))) ∙ session-same t (events_of journal) (event.Controller (of_controller.Rejoin s)) stays
 
-numbers-other : (numbers : List ℕ) (journal : List Entry) (w s next t k : ℕ) → AreNumbers numbers journal → (s == t) ≡ false → ((s ≡ t) × (next ≡ k)) ⊎ (slice_get numbers t ≡ Some k) → k ≡ session t (events_of (journal ++ entry w (event.Rejoin s) ∷ []))
+numbers-other : (numbers : List ℕ) (journal : List Entry) (w s next t k : ℕ) → AreNumbers numbers journal → (s == t) ≡ false → ((s ≡ t) × (next ≡ k)) ⊎ (slice_get numbers t ≡ Some k) → k ≡ session t (events_of (journal ++ entry w (event.Controller (of_controller.Rejoin s)) ∷ []))
 numbers-other numbers journal w s next t k h stays (inl e) = absurd (grind (arith, nat_tests))
 numbers-other numbers journal w s next t k h stays (inr at) = h t k at ∙ sym (same-number journal w s t stays)
 
 numbers-case : (numbers : List ℕ) (journal : List Entry) (w s number next t k : ℕ) → AreNumbers numbers journal → slice_get numbers s ≡ Some number → next ≡ number + 1 → slice_get (slice_set numbers s next) t ≡ Some k → (b : Bool) → (s == t) ≡ b
-    → k ≡ session t (events_of (journal ++ entry w (event.Rejoin s) ∷ []))
+    → k ≡ session t (events_of (journal ++ entry w (event.Controller (of_controller.Rejoin s)) ∷ []))
 numbers-case numbers journal w s number next t k h at more now true is =
     let same : s ≡ t = grind (arith, nat_tests) in
     let mine : next ≡ k = some-is next k (sym (set-get numbers s number next at) ∙ subst (λ x. slice_get (slice_set numbers s next) x ≡ Some k) (sym same) now) in
-    subst (λ x. k ≡ session x (events_of (journal ++ entry w (event.Rejoin s) ∷ []))) same (sym mine ∙ more ∙ ap (λ n. n + 1) (h s number at) ∙ sym (next-number journal w s))
+    subst (λ x. k ≡ session x (events_of (journal ++ entry w (event.Controller (of_controller.Rejoin s)) ∷ []))) same (sym mine ∙ more ∙ ap (λ n. n + 1) (h s number at) ∙ sym (next-number journal w s))
 numbers-case numbers journal w s number next t k h at more now false is = numbers-other numbers journal w s next t k h is (get-set numbers s next t k now)
 
-numbers-next : (numbers : List ℕ) (journal : List Entry) (w s number next : ℕ) → AreNumbers numbers journal → slice_get numbers s ≡ Some number → next ≡ number + 1 → AreNumbers (slice_set numbers s next) (journal ++ entry w (event.Rejoin s) ∷ [])
+numbers-next : (numbers : List ℕ) (journal : List Entry) (w s number next : ℕ) → AreNumbers numbers journal → slice_get numbers s ≡ Some number → next ≡ number + 1 → AreNumbers (slice_set numbers s next) (journal ++ entry w (event.Controller (of_controller.Rejoin s)) ∷ [])
 numbers-next numbers journal w s number next h at more = λ t k now. numbers-case numbers journal w s number next t k h at more now (s == t) refl
 
 out-case : {E : Type 0} (n : ℕ) (named : E → ℕ) (received : E → Option (List ℕ)) (ends : List (Option E)) (s : ℕ) (v : Option E) (t : ℕ) (e : E) → AreOut n named received ends → ((x : E) → v ≡ Some x → IsNewEnd n named received s x) → ((s ≡ t) × (v ≡ Some e)) ⊎ (slice_get ends t ≡ Some (Some e)) → IsNewEnd n named received t e
@@ -204,7 +207,7 @@ sessions-call n named received old new numbers to_ends back_ends w e Q (Err x) h
 
 -- switch s returned over a new pair
 pub sessions-next : {E : Type 0} (n : ℕ) (named : E → ℕ) (received : E → Option (List ℕ)) (journal now : List Entry) (numbers : List ℕ) (to_ends back_ends : List (Option E)) (w s number next : ℕ) (here there : E)
-    → HasSessions n named received journal numbers to_ends back_ends → now ≡ journal ++ entry w (event.Rejoin s) ∷ [] → slice_get numbers s ≡ Some number → next ≡ number + 1
+    → HasSessions n named received journal numbers to_ends back_ends → now ≡ journal ++ entry w (event.Controller (of_controller.Rejoin s)) ∷ [] → slice_get numbers s ≡ Some number → next ≡ number + 1
     → IsNewEnd n named received s here → IsNewEnd n named received s there → HasSessions n named received now (slice_set numbers s next) (slice_set to_ends s (Some here)) (slice_set back_ends s (Some there))
 sessions-next n named received journal now numbers to_ends back_ends w s number next here there h is at more to back = record {
   many = length-set numbers s next ∙ h.many;
@@ -242,18 +245,18 @@ sessions-taken-back n named received journal numbers to_ends back_ends s v none 
 
 -- an event for which an end is kept is no arrival and no return
 pub met-plain : {E : Type 0} (n : ℕ) (named faults : E → ℕ) (received : E → Option (List ℕ)) (journal : List Entry) (e : Event) (end : E) → MetBy n named faults received journal e end → (is_arrival e ≡ false) × (is_rejoin e ≡ false)
-met-plain n named faults received journal event.Begin end met = absurd met
-met-plain n named faults received journal (event.Send t) end met = absurd met
-met-plain n named faults received journal (event.Take t) end met = absurd met
-met-plain n named faults received journal (event.Apply t k) end met = absurd met
-met-plain n named faults received journal (event.Reply t) end met = absurd met
-met-plain n named faults received journal (event.Heard t) end met = absurd met
-met-plain n named faults received journal (event.Arrive pk tag) end met = absurd met
-met-plain n named faults received journal (event.Hop k) end met = absurd met
-met-plain n named faults received journal (event.Drained stamp) end met = absurd met
-met-plain n named faults received journal (event.Lost t) end met = (refl, refl)
-met-plain n named faults received journal (event.Rejoin t) end met = absurd met
-met-plain n named faults received journal (event.Stuck k) end met = absurd met
+met-plain n named faults received journal (event.Controller of_controller.Begin) end met = absurd met
+met-plain n named faults received journal (event.Controller (of_controller.Send t)) end met = absurd met
+met-plain n named faults received journal (event.Switch (of_switch.Take t)) end met = absurd met
+met-plain n named faults received journal (event.Switch (of_switch.Apply t k)) end met = absurd met
+met-plain n named faults received journal (event.Switch (of_switch.Reply t)) end met = absurd met
+met-plain n named faults received journal (event.Controller (of_controller.Heard t)) end met = absurd met
+met-plain n named faults received journal (event.Packet (of_packet.Arrive pk tag)) end met = absurd met
+met-plain n named faults received journal (event.Packet (of_packet.Hop k)) end met = absurd met
+met-plain n named faults received journal (event.Controller (of_controller.Drained stamp)) end met = absurd met
+met-plain n named faults received journal (event.Controller (of_controller.Lost t)) end met = (refl, refl)
+met-plain n named faults received journal (event.Controller (of_controller.Rejoin t)) end met = absurd met
+met-plain n named faults received journal (event.Packet (of_packet.Stuck k)) end met = absurd met
 met-plain n named faults received journal (event.Foreign t side got) end met = (refl, refl)
 
 -- the number of a session, by what a run keeps of it

@@ -6,6 +6,9 @@ use Rattle.update_laws.specs.Fleets.{Fleet}
 use Rattle.update_laws.specs.Traffic.{Arrived}
 use Rattle.world_core.specs.declared.event.Event.{Event}
 use Rattle.world_core.specs.declared.event.Event.TheVariants as event
+use Rattle.world_core.specs.declared.event.ControllerEvent.TheVariants as of_controller
+use Rattle.world_core.specs.declared.event.PacketEvent.TheVariants as of_packet
+use Rattle.world_core.specs.declared.event.SwitchEvent.TheVariants as of_switch
 use Rattle.world_core.specs.Worlds.{WorldValue}
 use Rattle.world_core.specs.Steps.{Step, Runs}
 use Rattle.world_journal.specs.declared.line.Line.{Line}
@@ -18,21 +21,21 @@ same-count : (w v : WorldValue) (f : Fleet) → v ≡ record w { fleet = f } →
 same-count w v f now same = ap switches now ∙ same
 
 pub step-count : (w : WorldValue) (e : Event) (v : WorldValue) → Step w e v → switches v ≡ switches w
-step-count w event.Begin v s = same-count w v s.fleet s.now (ap (λ (f : Fleet). length f.ends) s.step.now)
-step-count w (event.Send p) v s = same-count w v s.fleet s.now (ap (λ (f : Fleet). length f.ends) s.step.now ∙ length-set w.fleet.ends p _)
-step-count w (event.Take p) v s = same-count w v s.fleet s.now (ap (λ (f : Fleet). length f.ends) s.step.now ∙ length-set w.fleet.ends p _)
-step-count w (event.Apply p k) v s = same-count w v s.fleet s.now (ap (λ (f : Fleet). length f.ends) s.step.now ∙ length-set w.fleet.ends p _)
-step-count w (event.Reply p) v s = same-count w v s.fleet s.now (ap (λ (f : Fleet). length f.ends) s.step.now ∙ length-set w.fleet.ends p _)
-step-count w (event.Heard p) v s = same-count w v s.fleet s.now (ap (λ (f : Fleet). length f.ends) s.step.now ∙ length-set w.fleet.ends p _)
-step-count w (event.Arrive pk tag) v s = ap switches s.now
-step-count w (event.Hop k) v s = ap switches s.now
-step-count w (event.Drained stamp) v s = same-count w v s.step.fleet s.step.now (ap (λ (f : Fleet). length f.ends) s.step.step.now)
-step-count w (event.Lost p) v s = elim s.step [
+step-count w (event.Controller of_controller.Begin) v s = same-count w v s.fleet s.now (ap (λ (f : Fleet). length f.ends) s.step.now)
+step-count w (event.Controller (of_controller.Send p)) v s = same-count w v s.fleet s.now (ap (λ (f : Fleet). length f.ends) s.step.now ∙ length-set w.fleet.ends p _)
+step-count w (event.Switch (of_switch.Take p)) v s = same-count w v s.fleet s.now (ap (λ (f : Fleet). length f.ends) s.step.now ∙ length-set w.fleet.ends p _)
+step-count w (event.Switch (of_switch.Apply p k)) v s = same-count w v s.fleet s.now (ap (λ (f : Fleet). length f.ends) s.step.now ∙ length-set w.fleet.ends p _)
+step-count w (event.Switch (of_switch.Reply p)) v s = same-count w v s.fleet s.now (ap (λ (f : Fleet). length f.ends) s.step.now ∙ length-set w.fleet.ends p _)
+step-count w (event.Controller (of_controller.Heard p)) v s = same-count w v s.fleet s.now (ap (λ (f : Fleet). length f.ends) s.step.now ∙ length-set w.fleet.ends p _)
+step-count w (event.Packet (of_packet.Arrive pk tag)) v s = ap switches s.now
+step-count w (event.Packet (of_packet.Hop k)) v s = ap switches s.now
+step-count w (event.Controller (of_controller.Drained stamp)) v s = same-count w v s.step.fleet s.step.now (ap (λ (f : Fleet). length f.ends) s.step.step.now)
+step-count w (event.Controller (of_controller.Lost p)) v s = elim s.step [
   | inl t ↦ same-count w v s.fleet s.now (ap (λ (f : Fleet). length f.ends) t.now ∙ length-set w.fleet.ends p _)
   | inr t ↦ same-count w v s.fleet s.now (ap (λ (f : Fleet). length f.ends) t.now)
 ]
-step-count w (event.Rejoin p) v s = same-count w v s.fleet s.now (ap (λ (f : Fleet). length f.ends) s.step.now ∙ length-set w.fleet.ends p _)
-step-count w (event.Stuck k) v s = ap switches s.now
+step-count w (event.Controller (of_controller.Rejoin p)) v s = same-count w v s.fleet s.now (ap (λ (f : Fleet). length f.ends) s.step.now ∙ length-set w.fleet.ends p _)
+step-count w (event.Packet (of_packet.Stuck k)) v s = ap switches s.now
 step-count w (event.Foreign p side got) v s = ap switches s.now
 
 pub runs-count : (w : WorldValue) (es : List Event) (v : WorldValue) → Runs w es v → switches v ≡ switches w
@@ -58,23 +61,23 @@ lines-same : (w v : WorldValue) → v.arrivals ≡ w.arrivals → lines_of v.arr
 lines-same w v e = ap lines_of e
 
 pub step-lines : (w : WorldValue) (e : Event) (v : WorldValue) → Step w e v → is_arrival e ≡ false → lines_of v.arrivals ≡ lines_of w.arrivals
-step-lines w event.Begin v s plain = lines-same w v (ap (λ (x : WorldValue). x.arrivals) s.now)
-step-lines w (event.Send p) v s plain = lines-same w v (ap (λ (x : WorldValue). x.arrivals) s.now)
-step-lines w (event.Take p) v s plain = lines-same w v (ap (λ (x : WorldValue). x.arrivals) s.now)
-step-lines w (event.Apply p k) v s plain = lines-same w v (ap (λ (x : WorldValue). x.arrivals) s.now)
-step-lines w (event.Reply p) v s plain = lines-same w v (ap (λ (x : WorldValue). x.arrivals) s.now)
-step-lines w (event.Heard p) v s plain = lines-same w v (ap (λ (x : WorldValue). x.arrivals) s.now)
-step-lines w (event.Arrive pk tag) v s plain = cc
-step-lines w (event.Hop k) v s plain =
+step-lines w (event.Controller of_controller.Begin) v s plain = lines-same w v (ap (λ (x : WorldValue). x.arrivals) s.now)
+step-lines w (event.Controller (of_controller.Send p)) v s plain = lines-same w v (ap (λ (x : WorldValue). x.arrivals) s.now)
+step-lines w (event.Switch (of_switch.Take p)) v s plain = lines-same w v (ap (λ (x : WorldValue). x.arrivals) s.now)
+step-lines w (event.Switch (of_switch.Apply p k)) v s plain = lines-same w v (ap (λ (x : WorldValue). x.arrivals) s.now)
+step-lines w (event.Switch (of_switch.Reply p)) v s plain = lines-same w v (ap (λ (x : WorldValue). x.arrivals) s.now)
+step-lines w (event.Controller (of_controller.Heard p)) v s plain = lines-same w v (ap (λ (x : WorldValue). x.arrivals) s.now)
+step-lines w (event.Packet (of_packet.Arrive pk tag)) v s plain = cc
+step-lines w (event.Packet (of_packet.Hop k)) v s plain =
     ap (λ (x : WorldValue). lines_of x.arrivals) s.now
     ∙ lines-set w.arrivals s.may.flight.arrival s.arrival (record s.arrival { finished = s.arrival.finished ++ s.finished }) s.of refl
-step-lines w (event.Drained stamp) v s plain = lines-same w v (ap (λ (x : WorldValue). x.arrivals) s.step.now)
-step-lines w (event.Lost p) v s plain = lines-same w v (ap (λ (x : WorldValue). x.arrivals) s.now)
-step-lines w (event.Rejoin p) v s plain = lines-same w v (ap (λ (x : WorldValue). x.arrivals) s.now)
-step-lines w (event.Stuck k) v s plain = lines-same w v (ap (λ (x : WorldValue). x.arrivals) s.now)
+step-lines w (event.Controller (of_controller.Drained stamp)) v s plain = lines-same w v (ap (λ (x : WorldValue). x.arrivals) s.step.now)
+step-lines w (event.Controller (of_controller.Lost p)) v s plain = lines-same w v (ap (λ (x : WorldValue). x.arrivals) s.now)
+step-lines w (event.Controller (of_controller.Rejoin p)) v s plain = lines-same w v (ap (λ (x : WorldValue). x.arrivals) s.now)
+step-lines w (event.Packet (of_packet.Stuck k)) v s plain = lines-same w v (ap (λ (x : WorldValue). x.arrivals) s.now)
 step-lines w (event.Foreign p side got) v s plain = lines-same w v (ap (λ (x : WorldValue). x.arrivals) s.now)
 
-pub arrival-line : (w : WorldValue) (pk : Packet) (tag : Option ℕ) (v : WorldValue) → Step w (event.Arrive pk tag) v → lines_of v.arrivals ≡ lines_of w.arrivals ++ record { packet = pk; tag = tag } ∷ []
+pub arrival-line : (w : WorldValue) (pk : Packet) (tag : Option ℕ) (v : WorldValue) → Step w (event.Packet (of_packet.Arrive pk tag)) v → lines_of v.arrivals ≡ lines_of w.arrivals ++ record { packet = pk; tag = tag } ∷ []
 arrival-line w pk tag v s = ap (λ (x : WorldValue). lines_of x.arrivals) s.now ∙ lines-more w.arrivals _
 
 -- a call that did such a step or left all as it was

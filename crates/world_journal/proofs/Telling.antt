@@ -4,6 +4,9 @@ use Rattle.update_coordinator.specs.declared.cause.Side.{Side}
 use Rattle.update_coordinator.specs.declared.cause.Side.TheVariants as side
 use Rattle.world_core.specs.declared.event.Event.{Event}
 use Rattle.world_core.specs.declared.event.Event.TheVariants as event
+use Rattle.world_core.specs.declared.event.ControllerEvent.TheVariants as of_controller
+use Rattle.world_core.specs.declared.event.PacketEvent.TheVariants as of_packet
+use Rattle.world_core.specs.declared.event.SwitchEvent.TheVariants as of_switch
 use Rattle.world_journal.specs.declared.entry.Entry.{Entry}
 use Rattle.world_journal.specs.Journals.{MetBy, is_told, told_at}
 
@@ -11,33 +14,33 @@ some-is : {X : Type 0} (x y : X) → Some x ≡ Some y → x ≡ y
 some-is x y e = cc
 
 pub tells-none-to : (e : Event) → told_at e ≡ None → (s : ℕ) → is_told s side.Controller e ≡ false
-tells-none-to (event.Heard t) none s = cc
-tells-none-to event.Begin none s = refl
-tells-none-to (event.Send t) none s = refl
-tells-none-to (event.Take t) none s = refl
-tells-none-to (event.Apply t k) none s = refl
-tells-none-to (event.Reply t) none s = refl
-tells-none-to (event.Arrive pk tag) none s = refl
-tells-none-to (event.Hop k) none s = refl
-tells-none-to (event.Drained stamp) none s = refl
-tells-none-to (event.Lost t) none s = refl
-tells-none-to (event.Rejoin t) none s = refl
-tells-none-to (event.Stuck k) none s = refl
+tells-none-to (event.Controller (of_controller.Heard t)) none s = cc
+tells-none-to (event.Controller of_controller.Begin) none s = refl
+tells-none-to (event.Controller (of_controller.Send t)) none s = refl
+tells-none-to (event.Switch (of_switch.Take t)) none s = refl
+tells-none-to (event.Switch (of_switch.Apply t k)) none s = refl
+tells-none-to (event.Switch (of_switch.Reply t)) none s = refl
+tells-none-to (event.Packet (of_packet.Arrive pk tag)) none s = refl
+tells-none-to (event.Packet (of_packet.Hop k)) none s = refl
+tells-none-to (event.Controller (of_controller.Drained stamp)) none s = refl
+tells-none-to (event.Controller (of_controller.Lost t)) none s = refl
+tells-none-to (event.Controller (of_controller.Rejoin t)) none s = refl
+tells-none-to (event.Packet (of_packet.Stuck k)) none s = refl
 tells-none-to (event.Foreign t side got) none s = refl
 
 pub tells-none-back : (e : Event) → told_at e ≡ None → (s : ℕ) → is_told s side.Switch e ≡ false
-tells-none-back (event.Take t) none s = cc
-tells-none-back event.Begin none s = refl
-tells-none-back (event.Send t) none s = refl
-tells-none-back (event.Heard t) none s = refl
-tells-none-back (event.Apply t k) none s = refl
-tells-none-back (event.Reply t) none s = refl
-tells-none-back (event.Arrive pk tag) none s = refl
-tells-none-back (event.Hop k) none s = refl
-tells-none-back (event.Drained stamp) none s = refl
-tells-none-back (event.Lost t) none s = refl
-tells-none-back (event.Rejoin t) none s = refl
-tells-none-back (event.Stuck k) none s = refl
+tells-none-back (event.Switch (of_switch.Take t)) none s = cc
+tells-none-back (event.Controller of_controller.Begin) none s = refl
+tells-none-back (event.Controller (of_controller.Send t)) none s = refl
+tells-none-back (event.Controller (of_controller.Heard t)) none s = refl
+tells-none-back (event.Switch (of_switch.Apply t k)) none s = refl
+tells-none-back (event.Switch (of_switch.Reply t)) none s = refl
+tells-none-back (event.Packet (of_packet.Arrive pk tag)) none s = refl
+tells-none-back (event.Packet (of_packet.Hop k)) none s = refl
+tells-none-back (event.Controller (of_controller.Drained stamp)) none s = refl
+tells-none-back (event.Controller (of_controller.Lost t)) none s = refl
+tells-none-back (event.Controller (of_controller.Rejoin t)) none s = refl
+tells-none-back (event.Packet (of_packet.Stuck k)) none s = refl
 tells-none-back (event.Foreign t side got) none s = refl
 
 first-is : {X Y : Type 0} (p q : X × Y) → Some p ≡ Some q → p.0 ≡ q.0
@@ -49,48 +52,48 @@ second-is p q e = ap (λ r. r.1) (some-is p q e)
 no-sides : (P : Type 0) → side.Controller ≡ side.Switch → P
 no-sides P e = absurd (cc)
 
-pub is-heard : (e : Event) (t : ℕ) → told_at e ≡ Some (side.Controller, t) → event.Heard t ≡ e
-is-heard (event.Heard s) t is = ap (λ (n : ℕ). event.Heard n) (sym (second-is (side.Controller, s) (side.Controller, t) is))
-is-heard (event.Take s) t is = no-sides _ (sym (first-is (side.Switch, s) (side.Controller, t) is))
-is-heard event.Begin t is = absurd (cc)
-is-heard (event.Send s) t is = absurd (cc)
-is-heard (event.Apply s k) t is = absurd (cc)
-is-heard (event.Reply s) t is = absurd (cc)
-is-heard (event.Arrive pk tag) t is = absurd (cc)
-is-heard (event.Hop k) t is = absurd (cc)
-is-heard (event.Drained stamp) t is = absurd (cc)
-is-heard (event.Lost s) t is = absurd (cc)
-is-heard (event.Rejoin s) t is = absurd (cc)
-is-heard (event.Stuck k) t is = absurd (cc)
+pub is-heard : (e : Event) (t : ℕ) → told_at e ≡ Some (side.Controller, t) → event.Controller (of_controller.Heard t) ≡ e
+is-heard (event.Controller (of_controller.Heard s)) t is = ap (λ (n : ℕ). event.Controller (of_controller.Heard n)) (sym (second-is (side.Controller, s) (side.Controller, t) is))
+is-heard (event.Switch (of_switch.Take s)) t is = no-sides _ (sym (first-is (side.Switch, s) (side.Controller, t) is))
+is-heard (event.Controller of_controller.Begin) t is = absurd (cc)
+is-heard (event.Controller (of_controller.Send s)) t is = absurd (cc)
+is-heard (event.Switch (of_switch.Apply s k)) t is = absurd (cc)
+is-heard (event.Switch (of_switch.Reply s)) t is = absurd (cc)
+is-heard (event.Packet (of_packet.Arrive pk tag)) t is = absurd (cc)
+is-heard (event.Packet (of_packet.Hop k)) t is = absurd (cc)
+is-heard (event.Controller (of_controller.Drained stamp)) t is = absurd (cc)
+is-heard (event.Controller (of_controller.Lost s)) t is = absurd (cc)
+is-heard (event.Controller (of_controller.Rejoin s)) t is = absurd (cc)
+is-heard (event.Packet (of_packet.Stuck k)) t is = absurd (cc)
 is-heard (event.Foreign s side got) t is = absurd (cc)
 
-pub is-taken : (e : Event) (t : ℕ) → told_at e ≡ Some (side.Switch, t) → event.Take t ≡ e
-is-taken (event.Take s) t is = ap (λ (n : ℕ). event.Take n) (sym (second-is (side.Switch, s) (side.Switch, t) is))
-is-taken (event.Heard s) t is = no-sides _ (first-is (side.Controller, s) (side.Switch, t) is)
-is-taken event.Begin t is = absurd (cc)
-is-taken (event.Send s) t is = absurd (cc)
-is-taken (event.Apply s k) t is = absurd (cc)
-is-taken (event.Reply s) t is = absurd (cc)
-is-taken (event.Arrive pk tag) t is = absurd (cc)
-is-taken (event.Hop k) t is = absurd (cc)
-is-taken (event.Drained stamp) t is = absurd (cc)
-is-taken (event.Lost s) t is = absurd (cc)
-is-taken (event.Rejoin s) t is = absurd (cc)
-is-taken (event.Stuck k) t is = absurd (cc)
+pub is-taken : (e : Event) (t : ℕ) → told_at e ≡ Some (side.Switch, t) → event.Switch (of_switch.Take t) ≡ e
+is-taken (event.Switch (of_switch.Take s)) t is = ap (λ (n : ℕ). event.Switch (of_switch.Take n)) (sym (second-is (side.Switch, s) (side.Switch, t) is))
+is-taken (event.Controller (of_controller.Heard s)) t is = no-sides _ (first-is (side.Controller, s) (side.Switch, t) is)
+is-taken (event.Controller of_controller.Begin) t is = absurd (cc)
+is-taken (event.Controller (of_controller.Send s)) t is = absurd (cc)
+is-taken (event.Switch (of_switch.Apply s k)) t is = absurd (cc)
+is-taken (event.Switch (of_switch.Reply s)) t is = absurd (cc)
+is-taken (event.Packet (of_packet.Arrive pk tag)) t is = absurd (cc)
+is-taken (event.Packet (of_packet.Hop k)) t is = absurd (cc)
+is-taken (event.Controller (of_controller.Drained stamp)) t is = absurd (cc)
+is-taken (event.Controller (of_controller.Lost s)) t is = absurd (cc)
+is-taken (event.Controller (of_controller.Rejoin s)) t is = absurd (cc)
+is-taken (event.Packet (of_packet.Stuck k)) t is = absurd (cc)
 is-taken (event.Foreign s side got) t is = absurd (cc)
 
 -- an event for which an end is kept tells no message
 pub met-silent : {E : Type 0} (n : ℕ) (named faults : E → ℕ) (received : E → Option (List ℕ)) (journal : List Entry) (e : Event) (end : E) → MetBy n named faults received journal e end → told_at e ≡ None
-met-silent n named faults received journal event.Begin end met = absurd met
-met-silent n named faults received journal (event.Send t) end met = absurd met
-met-silent n named faults received journal (event.Take t) end met = absurd met
-met-silent n named faults received journal (event.Apply t k) end met = absurd met
-met-silent n named faults received journal (event.Reply t) end met = absurd met
-met-silent n named faults received journal (event.Heard t) end met = absurd met
-met-silent n named faults received journal (event.Arrive pk tag) end met = absurd met
-met-silent n named faults received journal (event.Hop k) end met = absurd met
-met-silent n named faults received journal (event.Drained stamp) end met = absurd met
-met-silent n named faults received journal (event.Lost t) end met = refl
-met-silent n named faults received journal (event.Rejoin t) end met = absurd met
-met-silent n named faults received journal (event.Stuck k) end met = absurd met
+met-silent n named faults received journal (event.Controller of_controller.Begin) end met = absurd met
+met-silent n named faults received journal (event.Controller (of_controller.Send t)) end met = absurd met
+met-silent n named faults received journal (event.Switch (of_switch.Take t)) end met = absurd met
+met-silent n named faults received journal (event.Switch (of_switch.Apply t k)) end met = absurd met
+met-silent n named faults received journal (event.Switch (of_switch.Reply t)) end met = absurd met
+met-silent n named faults received journal (event.Controller (of_controller.Heard t)) end met = absurd met
+met-silent n named faults received journal (event.Packet (of_packet.Arrive pk tag)) end met = absurd met
+met-silent n named faults received journal (event.Packet (of_packet.Hop k)) end met = absurd met
+met-silent n named faults received journal (event.Controller (of_controller.Drained stamp)) end met = absurd met
+met-silent n named faults received journal (event.Controller (of_controller.Lost t)) end met = refl
+met-silent n named faults received journal (event.Controller (of_controller.Rejoin t)) end met = absurd met
+met-silent n named faults received journal (event.Packet (of_packet.Stuck k)) end met = absurd met
 met-silent n named faults received journal (event.Foreign t side got) end met = refl

@@ -6,6 +6,7 @@ use Rattle.update_coordinator.specs.declared.phase.Phase.{Phase}
 use Rattle.update_laws.specs.Traffic.{Arrived}
 use Rattle.world_core.specs.declared.event.Event.{Event}
 use Rattle.world_core.specs.declared.event.Event.TheVariants as event
+use Rattle.world_core.specs.declared.event.PacketEvent.TheVariants as of_packet
 use Rattle.world_core.specs.Worlds.{WorldValue}
 use Rattle.world_journal.specs.declared.line.Line.{Line}
 
@@ -16,7 +17,7 @@ abbrev pub lines_of : List Arrived → List Line
 lines_of arrivals = map line_of arrivals
 
 abbrev pub is_arrival : Event → Bool
-is_arrival (event.Arrive pk tag) = true
+is_arrival (event.Packet (of_packet.Arrive pk tag)) = true
 is_arrival _ = false
 
 -- the lines that are marked

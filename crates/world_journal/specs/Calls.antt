@@ -6,6 +6,9 @@ use Rattle.update_coordinator.specs.declared.cause.Side.{Side}
 use Rattle.update_coordinator.specs.declared.cause.Side.TheVariants as side
 use Rattle.world_core.specs.declared.event.Event.{Event}
 use Rattle.world_core.specs.declared.event.Event.TheVariants as event
+use Rattle.world_core.specs.declared.event.ControllerEvent.TheVariants as of_controller
+use Rattle.world_core.specs.declared.event.PacketEvent.TheVariants as of_packet
+use Rattle.world_core.specs.declared.event.SwitchEvent.TheVariants as of_switch
 use Rattle.world_core.specs.Worlds.{WorldValue}
 use Rattle.world_core.specs.Channels.{newest_at, sent_at}
 use Rattle.world_core.specs.Ends.{channel, IsFront}
@@ -68,29 +71,29 @@ pub record Arrives {E : Type 0} (w : ℕ) (lines : List Line) (place : ℕ) (old
   pub line : Line
   pub here : slice_get lines place ≡ Some line
   pub first : slice_get old.arrived place ≡ Some false
-  pub step : Step old.held.world (event.Arrive line.packet line.tag) new.held.world
-  pub journal : new.held.journal ≡ old.held.journal ++ entry w (event.Arrive line.packet line.tag) ∷ []
+  pub step : Step old.held.world (event.Packet (of_packet.Arrive line.packet line.tag)) new.held.world
+  pub journal : new.held.journal ≡ old.held.journal ++ entry w (event.Packet (of_packet.Arrive line.packet line.tag)) ∷ []
   pub ends : new.held.ends ≡ old.held.ends
   pub arrived : new.arrived ≡ slice_set old.arrived place true
   pub rest : IsBeside (record old { arrived = new.arrived }) new
 
 -- no packet of a line at this place can come in
 abbrev pub IsBarred : WorldValue → List Line → ℕ → Type 0
-IsBarred w lines place = (line : Line) → slice_get lines place ≡ Some line → ¬ IsEnabled w (event.Arrive line.packet line.tag)
+IsBarred w lines place = (line : Line) → slice_get lines place ≡ Some line → ¬ IsEnabled w (event.Packet (of_packet.Arrive line.packet line.tag))
 
 -- The step that this side of switch s makes by itself, if one is enabled: a session sends; a switch applies the first pending flow mod, or else answers its barrier.
 abbrev pub Advances : {E : Type 0} → ℕ → Side → ℕ → RunValue E → RunValue E → Option Kind → Type 0
-Advances w side.Controller s old new None = (¬ IsEnabled old.held.world (event.Send s)) × (new ≡ old)
-Advances w side.Controller s old new (Some kind.Send) = Made w (event.Send s) old new
-Advances w side.Switch s old new None = (¬ IsEnabled old.held.world (event.Apply s 0)) × (¬ IsEnabled old.held.world (event.Reply s)) × (new ≡ old)
-Advances w side.Switch s old new (Some kind.Apply) = Made w (event.Apply s 0) old new
-Advances w side.Switch s old new (Some kind.Reply) = (¬ IsEnabled old.held.world (event.Apply s 0)) × Made w (event.Reply s) old new
+Advances w side.Controller s old new None = (¬ IsEnabled old.held.world (event.Controller (of_controller.Send s))) × (new ≡ old)
+Advances w side.Controller s old new (Some kind.Send) = Made w (event.Controller (of_controller.Send s)) old new
+Advances w side.Switch s old new None = (¬ IsEnabled old.held.world (event.Switch (of_switch.Apply s 0))) × (¬ IsEnabled old.held.world (event.Switch (of_switch.Reply s))) × (new ≡ old)
+Advances w side.Switch s old new (Some kind.Apply) = Made w (event.Switch (of_switch.Apply s 0)) old new
+Advances w side.Switch s old new (Some kind.Reply) = (¬ IsEnabled old.held.world (event.Switch (of_switch.Apply s 0))) × Made w (event.Switch (of_switch.Reply s)) old new
 Advances w _ s old new _ = ⊥
 
 -- the step of a message that is received at this side
 abbrev pub receipt : Side → ℕ → Event
-receipt side.Controller s = event.Heard s
-receipt side.Switch s = event.Take s
+receipt side.Controller s = event.Controller (of_controller.Heard s)
+receipt side.Switch s = event.Switch (of_switch.Take s)
 
 abbrev pub receipt_kind : Side → Kind
 receipt_kind side.Controller = kind.Heard
@@ -203,12 +206,12 @@ Tells n name w side s bytes k end old new told = (IsPresent n s name old × Tell
 -- The session was lost and the end kept, and nothing waits for the workers of the switch any more.
 pub record Drops {E : Type 0} (w s : ℕ) (end : E) (old new : RunValue E) : Type 0 where
   pub between : RunValue E
-  pub step : Cuts w (event.Lost s) end old between
+  pub step : Cuts w (event.Controller (of_controller.Lost s)) end old between
   pub now : new ≡ dropping between s
 
 -- what is answered where the end of the present session failed
 abbrev pub LosesNow : {E : Type 0} → ℕ → ℕ → E → RunValue E → RunValue E → Told E → Type 0
-LosesNow w s end old new (Back e None) = (e ≡ end) × (¬ IsEnabled old.held.world (event.Lost s)) × (new ≡ old)
+LosesNow w s end old new (Back e None) = (e ≡ end) × (¬ IsEnabled old.held.world (event.Controller (of_controller.Lost s))) × (new ≡ old)
 LosesNow w s end old new (Back e (Some made)) = ⊥
 LosesNow w s end old new Kept = Drops w s end old new
 LosesNow w s end old new (Memory e) = (e ≡ end) × (new ≡ old)
@@ -226,5 +229,5 @@ Shuts side s old new shut.Stop = Stops old s × (new ≡ old)
 -- The caller made switch s return, and both ends of a pair are laid out for its workers.
 pub record Returns {E : Type 0} (w s : ℕ) (pair : E × E) (old new : RunValue E) : Type 0 where
   pub between : RunValue E
-  pub step : Made w (event.Rejoin s) old between
+  pub step : Made w (event.Controller (of_controller.Rejoin s)) old between
   pub now : new ≡ laying between s pair

@@ -5,6 +5,8 @@ use Rattle.update_coordinator.specs.declared.cause.Side.{Side}
 use Rattle.update_coordinator.specs.declared.cause.Side.TheVariants as side
 use Rattle.world_core.specs.declared.event.Event.{Event}
 use Rattle.world_core.specs.declared.event.Event.TheVariants as event
+use Rattle.world_core.specs.declared.event.ControllerEvent.TheVariants as of_controller
+use Rattle.world_core.specs.declared.event.SwitchEvent.TheVariants as of_switch
 use Rattle.world_core.specs.Worlds.{WorldValue}
 use Rattle.world_core.specs.Steps.{Runs}
 use Rattle.worker_desk.specs.Streams.{TellsWhereKnown}
@@ -25,7 +27,7 @@ switches w = length w.fleet.ends
 
 -- whether switch s returns
 abbrev pub is_return : ℕ → Event → Bool
-is_return s (event.Rejoin t) = t == s
+is_return s (event.Controller (of_controller.Rejoin t)) = t == s
 is_return s _ = false
 
 -- the number of the present session with switch s: how often it returned
@@ -46,14 +48,14 @@ since s (e ∷ es) = if session s es == 0 then (if is_return s e then es else e 
 
 -- whether a message was told at this side of switch s
 abbrev pub is_told : ℕ → Side → Event → Bool
-is_told s side.Controller (event.Heard t) = t == s
-is_told s side.Switch (event.Take t) = t == s
+is_told s side.Controller (event.Controller (of_controller.Heard t)) = t == s
+is_told s side.Switch (event.Switch (of_switch.Take t)) = t == s
 is_told s _ _ = false
 
 -- the side of a switch at which a message was told, if one was
 abbrev pub told_at : Event → Option (Side × ℕ)
-told_at (event.Heard s) = Some (side.Controller, s)
-told_at (event.Take s) = Some (side.Switch, s)
+told_at (event.Controller (of_controller.Heard s)) = Some (side.Controller, s)
+told_at (event.Switch (of_switch.Take s)) = Some (side.Switch, s)
 told_at _ = None
 
 -- how many were told there in the present session
@@ -65,7 +67,7 @@ told_before s side journal = told s side (events_of journal)
 
 -- What holds of the end that is kept for an event behind these entries: it is of the present session with that switch; at a lost session it had failed; at foreign bytes they came next in its stream, where that is known.
 abbrev pub MetBy : {E : Type 0} → ℕ → (E → ℕ) → (E → ℕ) → (E → Option (List ℕ)) → List Entry → Event → E → Type 0
-MetBy n named faults received before (event.Lost s) end = (named end ≡ present_name n s before) × (0 < faults end)
+MetBy n named faults received before (event.Controller (of_controller.Lost s)) end = (named end ≡ present_name n s before) × (0 < faults end)
 MetBy n named faults received before (event.Foreign s side got) end = (named end ≡ present_name n s before) × TellsWhereKnown (received end) (told_before s side before) got
 MetBy n named faults received before _ end = ⊥
 

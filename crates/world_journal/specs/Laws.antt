@@ -3,6 +3,8 @@ use Rattle.std.specs.Prelude.{◌≡◌, ℕ, Some, true, slice_get}
 use Rattle.openflow_wire.specs.declared.message.Message.TheVariants as to
 use Rattle.update_coordinator.specs.declared.cause.Side.TheVariants as side
 use Rattle.world_core.specs.declared.event.Event.TheVariants as event
+use Rattle.world_core.specs.declared.event.ControllerEvent.TheVariants as of_controller
+use Rattle.world_core.specs.declared.event.SwitchEvent.TheVariants as of_switch
 use Rattle.world_core.specs.Worlds.{WorldValue}
 use Rattle.world_core.specs.Ends.{new_end}
 use Rattle.world_core.specs.Channels.{newest_at}
@@ -12,8 +14,8 @@ use Rattle.world_journal.specs.Runs.{RunValue, waits}
 
 -- What a session sends and what a switch answers is always put on the channel.
 pub record SentIsPut : Type 0 where
-  pub sent : (w v : WorldValue) (s : ℕ) → Step w (event.Send s) v → has_put side.Controller s w v ≡ true
-  pub replied : (w v : WorldValue) (s : ℕ) → Step w (event.Reply s) v → has_put side.Switch s w v ≡ true
+  pub sent : (w v : WorldValue) (s : ℕ) → Step w (event.Controller (of_controller.Send s)) v → has_put side.Controller s w v ≡ true
+  pub replied : (w v : WorldValue) (s : ℕ) → Step w (event.Switch (of_switch.Reply s)) v → has_put side.Switch s w v ≡ true
 
 -- Where a switch has not begun, its HELLO waits, and is handed out first.
 pub record HelloWaits (E : Type 0) : Type 0 where

@@ -2,6 +2,8 @@
 use Rattle.std.specs.Prelude.{◌≡◌, ◌≢◌, ◌⊎◌, ℕ, ◌+◌, ◌<◌, ◌≤◌, true, false, List, length, Some, slice_get}
 use Rattle.world_core.specs.declared.event.Event.{Event}
 use Rattle.world_core.specs.declared.event.Event.TheVariants as event
+use Rattle.world_core.specs.declared.event.ControllerEvent.TheVariants as of_controller
+use Rattle.world_core.specs.declared.event.PacketEvent.TheVariants as of_packet
 use Rattle.world_core.specs.Steps.{IsEnabled}
 use Rattle.world_journal.specs.Arriving.{last_phase}
 use Rattle.world_journal.specs.Calls.{Made, Arrives, IsBarred, Returns}
@@ -22,20 +24,20 @@ ComesIn w lines place old new Stop = ((old.closed ≡ true) ⊎ (length lines �
 
 -- A copy takes a hop; or none may take one now; or the run was closed.
 abbrev pub HopsOn : {E : Type 0} → ℕ → RunValue E → RunValue E → Did → Type 0
-HopsOn w old new Step = (old.closed ≡ false) × ((k : ℕ) × Made w (event.Hop k) old new)
-HopsOn w old new Nothing = (old.closed ≡ false) × ((k : ℕ) → ¬ IsEnabled old.held.world (event.Hop k)) × (new ≡ old)
+HopsOn w old new Step = (old.closed ≡ false) × ((k : ℕ) × Made w (event.Packet (of_packet.Hop k)) old new)
+HopsOn w old new Nothing = (old.closed ≡ false) × ((k : ℕ) → ¬ IsEnabled old.held.world (event.Packet (of_packet.Hop k))) × (new ≡ old)
 HopsOn w old new Stop = (old.closed ≡ true) × (new ≡ old)
 
 -- an update begins, or something is told of a drain
 abbrev pub IsUpdate : Event → Type 0
-IsUpdate event.Begin = Unit {0}
-IsUpdate (event.Drained stamp) = Unit {0}
-IsUpdate (event.Stuck k) = Unit {0}
+IsUpdate (event.Controller of_controller.Begin) = Unit {0}
+IsUpdate (event.Controller (of_controller.Drained stamp)) = Unit {0}
+IsUpdate (event.Packet (of_packet.Stuck k)) = Unit {0}
 IsUpdate _ = ⊥
 
 -- Switch s is to return: it is away, and not all updates are done.
 abbrev pub IsMissing : {E : Type 0} → ℕ → RunValue E → Type 0
-IsMissing s run = IsEnabled run.held.world (event.Rejoin s) × (run.held.world.fleet.control.phase ≢ last_phase run.held.world)
+IsMissing s run = IsEnabled run.held.world (event.Controller (of_controller.Rejoin s)) × (run.held.world.fleet.control.phase ≢ last_phase run.held.world)
 
 -- it is one of n switches, and is to return over a pair with this name
 pub record IsAbsence {E : Type 0} (n : ℕ) (run : RunValue E) (a : Absence) : Type 0 where

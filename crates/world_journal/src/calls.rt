@@ -40,7 +40,7 @@ use outside_net::Link;
 use std::alloc::{AllocError, Global};
 use update_coordinator::Side;
 use worker_desk::{Given, Kind, Made, Shut, Told};
-use world_core::{Event, StepFault, World};
+use world_core::{ControllerEvent, Event, StepFault, SwitchEvent, World};
 
 impl<L: RunName, E: Link> Run<L, E> {
     /// What the worker of this seat is to do next: to stop, to begin a new session, to send, to receive, or nothing. A
@@ -237,15 +237,23 @@ fn advance<L: RunName, E: Link>(
     ensures err { OnErr result (run.new ≡ run.old) }
 {
     match side {
-        Side::Controller => match run.step(alloc, seat, Event::Send(s)) {
+        Side::Controller => match run.step(
+            alloc,
+            seat,
+            Event::Controller(ControllerEvent::Send(s)),
+        ) {
             Ok(()) => Ok(Some(Kind::Send)),
             Err(StepFault::Memory) => Err(AllocError),
             Err(StepFault::NotEnabled) => Ok(None),
         },
-        Side::Switch => match run.step(alloc, seat, Event::Apply(s, 0)) {
+        Side::Switch => match run.step(alloc, seat, Event::Switch(SwitchEvent::Apply(s, 0))) {
             Ok(()) => Ok(Some(Kind::Apply)),
             Err(StepFault::Memory) => Err(AllocError),
-            Err(StepFault::NotEnabled) => match run.step(alloc, seat, Event::Reply(s)) {
+            Err(StepFault::NotEnabled) => match run.step(
+                alloc,
+                seat,
+                Event::Switch(SwitchEvent::Reply(s)),
+            ) {
                 Ok(()) => Ok(Some(Kind::Reply)),
                 Err(StepFault::Memory) => Err(AllocError),
                 Err(StepFault::NotEnabled) => Ok(None),
@@ -270,8 +278,8 @@ fn receipt(side: Side, s: usize) -> Event
     ensures { result ≡ receipt side s }
 {
     match side {
-        Side::Controller => Event::Heard(s),
-        Side::Switch => Event::Take(s),
+        Side::Controller => Event::Controller(ControllerEvent::Heard(s)),
+        Side::Switch => Event::Switch(SwitchEvent::Take(s)),
     }
 }
 
@@ -391,7 +399,12 @@ fn lose_at<L: RunName, E: Link>(
     ensures answer { LosesNow seat.old.worker s end run.old run.new result }
     ensures back { GivesBack end result }
 {
-    match run.cut(alloc, seat, Event::Lost(s), end) {
+    match run.cut(
+        alloc,
+        seat,
+        Event::Controller(ControllerEvent::Lost(s)),
+        end,
+    ) {
         Ok(()) => {
             run.drop_waiting(s);
             Told::Kept

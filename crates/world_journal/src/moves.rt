@@ -1,6 +1,7 @@
 // What the workers that bring packets in ask of a run.
 ghost use Rattle.std.specs.Prelude.{◌≡◌, ℕ, IfOk, IfSome, IfNone, OnErr};
 ghost use Rattle.world_core.specs.declared.event.Event.TheVariants as event;
+ghost use Rattle.world_core.specs.declared.event.PacketEvent.TheVariants as of_packet;
 ghost use Rattle.world_core.specs.Steps.{IsEnabled};
 ghost use Rattle.world_journal.specs.Journals.{switches};
 ghost use Rattle.world_journal.specs.Makers.{IsTraffic};
@@ -12,7 +13,7 @@ use crate::run::Run;
 use crate::seat::Seat;
 use outside_net::Link;
 use std::alloc::{AllocError, Global};
-use world_core::{Event, StepFault, World};
+use world_core::{Event, PacketEvent, StepFault, World};
 
 /// What came of a call.
 #[derive(Clone, Copy, Debug, PartialEq, Eq)]
@@ -66,7 +67,7 @@ impl<L: RunName, E: Link> Run<L, E> {
         let Some(place) = first_hop(self.world()) else {
             return Ok(Did::Nothing);
         };
-        match self.step(alloc, seat, Event::Hop(place)) {
+        match self.step(alloc, seat, Event::Packet(PacketEvent::Hop(place))) {
             Ok(()) => Ok(Did::Step),
             Err(StepFault::NotEnabled) => Ok(Did::Nothing),
             Err(StepFault::Memory) => Err(AllocError),
@@ -76,11 +77,11 @@ impl<L: RunName, E: Link> Run<L, E> {
 
 // The first copy that may take another hop.
 fn first_hop(world: &World) -> Option<usize>
-    ensures some { IfSome result (λ place. IsEnabled world.now (event.Hop place)) }
-    ensures none { IfNone result ((k : ℕ) → ¬ IsEnabled world.now (event.Hop k)) }
+    ensures some { IfSome result (λ place. IsEnabled world.now (event.Packet (of_packet.Hop place))) }
+    ensures none { IfNone result ((k : ℕ) → ¬ IsEnabled world.now (event.Packet (of_packet.Hop k))) }
 {
     for place in 0..world.flights().len() {
-        if world.enabled(&Event::Hop(place)) {
+        if world.enabled(&Event::Packet(PacketEvent::Hop(place))) {
             return Some(place);
         }
     }

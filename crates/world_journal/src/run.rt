@@ -1,5 +1,5 @@
 // What lies under the one lock of a run.
-ghost use Rattle.std.specs.Prelude.{◌≡◌, ◌↔◌, IfOk, IsTrue, None, replicate, true};
+ghost use Rattle.std.specs.Prelude.{◌≡◌, ◌↔◌, IfOk, IsTrue, None, replicate, slice_get, true};
 ghost use Rattle.world_core.specs.Worlds.{WorldValue};
 ghost use Rattle.world_journal.specs.Arriving.{AreSpent, IsSettled, last_phase};
 
@@ -14,7 +14,7 @@ use std::alloc::{AllocError, Global};
 use std::marker::Model;
 use std::sync::ledger::Share;
 use update_coordinator::{Phase, Side};
-use world_core::{Event, StepFault, World};
+use world_core::{Event, PacketEvent, StepFault, World};
 
 /// Why a run gave no journal.
 #[derive(Clone, Copy, Debug, PartialEq, Eq)]
@@ -194,7 +194,7 @@ impl<L: RunName, E: Link> Run<L, E> {
         ensures err { OnErr result ((self.new ≡ self.old) × (seat.new.share.amount ≡ seat.old.share.amount)) }
     {
         let Line { packet, tag } = self.lines[place];
-        self.held.step(alloc, seat, Event::Arrive(packet, tag))?;
+        self.held.step(alloc, seat, Event::Packet(PacketEvent::Arrive(packet, tag)))?;
         self.arrived[place] = true;
         self.left -= 1;
         Ok(())
@@ -206,7 +206,7 @@ impl<L: RunName, E: Link> Run<L, E> {
         ensures some { IfSome result (λ _. place < length L.lines) }
         ensures none { IfNone result (length L.lines ≤ place) }
     {
-        self.arrived.get(place).copied()
+        mark_at(&self.arrived, place)
     }
 
     /// The world.
@@ -397,4 +397,14 @@ fn are_spent(world: &World) -> bool
 {
     let most = world.hops();
     world.flights().iter().all(|flight| flight.hops >= most)
+}
+
+// The mark at a place, if there is one.
+fn mark_at(marks: &[bool], place: usize) -> Option<bool>
+    ensures { result ≡ slice_get marks.now place }
+{
+    match marks.get(place) {
+        Some(mark) => Some(*mark),
+        None => None,
+    }
 }

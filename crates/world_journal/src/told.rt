@@ -13,7 +13,7 @@ use crate::seat::Seat;
 use outside_net::Link;
 use std::alloc::Global;
 use update_coordinator::Side;
-use world_core::{Event, StepFault};
+use world_core::{ControllerEvent, Event, StepFault, SwitchEvent};
 
 impl<L: RunName, E: Link> Run<L, E> {
     /// How many messages were told at this side of a switch in its present session.
@@ -82,8 +82,8 @@ pub(crate) fn told_at(event: &Event) -> Option<(Side, usize)>
     ensures { result ≡ told_at event.now }
 {
     match event {
-        Event::Heard(s) => Some((Side::Controller, *s)),
-        Event::Take(s) => Some((Side::Switch, *s)),
+        Event::Controller(ControllerEvent::Heard(s)) => Some((Side::Controller, *s)),
+        Event::Switch(SwitchEvent::Take(s)) => Some((Side::Switch, *s)),
         _ => None,
     }
 }

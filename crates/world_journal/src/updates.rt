@@ -2,6 +2,8 @@
 ghost use Rattle.std.specs.Prelude.{◌≡◌, ◌≢◌, ◌<◌, ◌+◌, ◌↔◌, ℕ, IfOk, IfSome, IfNone, IsTrue, OnErr};
 ghost use Rattle.world_core.specs.declared.event.Event.{Event as EventValue};
 ghost use Rattle.world_core.specs.declared.event.Event.TheVariants as event;
+ghost use Rattle.world_core.specs.declared.event.ControllerEvent.TheVariants as of_controller;
+ghost use Rattle.world_core.specs.declared.event.PacketEvent.TheVariants as of_packet;
 ghost use Rattle.world_core.specs.Steps.{IsEnabled};
 ghost use Rattle.world_journal.specs.Arriving.{last_phase};
 ghost use Rattle.world_journal.specs.Calls.{IsUnmoved};
@@ -16,7 +18,7 @@ use crate::run::{Run, is_last};
 use crate::seat::Seat;
 use outside_net::Link;
 use std::alloc::{AllocError, Global};
-use world_core::{Event, StepFault, World};
+use world_core::{ControllerEvent, Event, PacketEvent, StepFault, World};
 
 /// A switch that is to return, and the name of the pair over which it does.
 #[derive(Clone, Copy, Debug, PartialEq, Eq)]
@@ -129,18 +131,18 @@ impl<L: RunName, E: Link> Run<L, E> {
 
 // Whether a switch is to return.
 fn is_missing(world: &World, place: usize) -> bool
-    ensures { IsTrue result ↔ (IsEnabled world.now (event.Rejoin place) × (world.now.fleet.control.phase ≢ last_phase world.now)) }
+    ensures { IsTrue result ↔ (IsEnabled world.now (event.Controller (of_controller.Rejoin place)) × (world.now.fleet.control.phase ≢ last_phase world.now)) }
 {
-    !is_last(world) && world.enabled(&Event::Rejoin(place))
+    !is_last(world) && world.enabled(&Event::Controller(ControllerEvent::Rejoin(place)))
 }
 
 // The first copy that bars the drain and can go no further.
 fn first_stuck(world: &World) -> Option<usize>
-    ensures some { IfSome result (λ place. IsEnabled world.now (event.Stuck place)) }
-    ensures none { IfNone result ((k : ℕ) → ¬ IsEnabled world.now (event.Stuck k)) }
+    ensures some { IfSome result (λ place. IsEnabled world.now (event.Packet (of_packet.Stuck place))) }
+    ensures none { IfNone result ((k : ℕ) → ¬ IsEnabled world.now (event.Packet (of_packet.Stuck k))) }
 {
     for place in 0..world.flights().len() {
-        if world.enabled(&Event::Stuck(place)) {
+        if world.enabled(&Event::Packet(PacketEvent::Stuck(place))) {
             return Some(place);
         }
     }
@@ -153,13 +155,13 @@ fn next_update(world: &World) -> Option<Event>
     ensures some { IfSome result (λ e. IsEnabled world.now e) }
     ensures none { IfNone result ((e : EventValue) → IsUpdate e → ¬ IsEnabled world.now e) }
 {
-    if world.enabled(&Event::Begin) {
-        return Some(Event::Begin);
+    if world.enabled(&Event::Controller(ControllerEvent::Begin)) {
+        return Some(Event::Controller(ControllerEvent::Begin));
     }
     let stamp = world.coordinator().draining()?;
-    if world.enabled(&Event::Drained(stamp)) {
-        return Some(Event::Drained(stamp));
+    if world.enabled(&Event::Controller(ControllerEvent::Drained(stamp))) {
+        return Some(Event::Controller(ControllerEvent::Drained(stamp)));
     }
     let place = first_stuck(world)?;
-    Some(Event::Stuck(place))
+    Some(Event::Packet(PacketEvent::Stuck(place)))
 }

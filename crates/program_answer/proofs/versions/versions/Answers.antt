@@ -1,7 +1,7 @@
 use Rattle.std.proofs.Common.{◌+◌, ◌<◌, ◌≡◌, List, length, get_or, take, sym, subst}
-use Rattle.document_text.specs.Pol.{Pol}
-use Rattle.document_text.specs.Terms.{Term}
-use Rattle.document_text.specs.Views.{term_of}
+use Rattle.nk_syntax.specs.declared.pol.Pol.{Pol}
+use Rattle.nk_syntax.specs.Terms.{Term}
+use Rattle.nk_syntax.specs.Views.{term_of}
 use Rattle.fdd_compile.specs.Named.{AreFewNamed, TermNames}
 use Rattle.policy_rows.specs.declared.version.Version.{Version}
 use Rattle.program_answer.specs.Versions.{AreVersions}

@@ -1,5 +1,5 @@
 use Rattle.std.proofs.Common.{◌<◌, ◌≤◌, ◌≡◌, List, length, get_or, refl, subst}
-use Rattle.document_text.specs.Pol.{Pol}
+use Rattle.nk_syntax.specs.declared.pol.Pol.{Pol}
 use Rattle.document_text.specs.Answers.{doc_of}
 use Rattle.workload_gen.proofs.Readying.{all-versions, is-workload, so-far-next, versions-start}
 use Rattle.workload_gen.proofs.compiling.versions.Goals as goal

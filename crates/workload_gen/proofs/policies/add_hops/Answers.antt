@@ -1,9 +1,9 @@
 use Rattle.std.proofs.Common.{◌++◌, [], ◌∷◌, List, map, ap, ◌∙◌}
 use Rattle.std.specs.declared.vec.Vec.{Vec}
 use Rattle.std.specs.declared.alloc.Global.{Global}
-use Rattle.document_text.specs.Pol.{Pol}
-use Rattle.document_text.specs.Terms.{Term}
-use Rattle.document_text.specs.Views.{term_of}
+use Rattle.nk_syntax.specs.declared.pol.Pol.{Pol}
+use Rattle.nk_syntax.specs.Terms.{Term}
+use Rattle.nk_syntax.specs.Views.{term_of}
 use Rattle.workload_gen.proofs.Building.{map-more, hops-up, hops-skip}
 use Rattle.workload_gen.proofs.policies.add_hops.Goals.{then-destination-blocked+in_ok-hop+in_ok-push, else-destination-blocked}
 use Rattle.workload_gen.proofs.policies.add_hops.Goals as goal

@@ -1,6 +1,6 @@
 use Rattle.std.proofs.Common.{◌≡◌, ◌++◌, ◌-◌, ◌==◌, map, not}
 use Rattle.std.specs.Prelude.{filter}
-use Rattle.document_text.specs.Views.{term_of}
+use Rattle.nk_syntax.specs.Views.{term_of}
 use Rattle.workload_laws.specs.Workload.{hop, numbers}
 use Rattle.workload_gen.proofs.policies.add_hops.Given as goal
 

@@ -1,6 +1,6 @@
 use Rattle.std.proofs.Common.{List, ℕ, map, ap, ◌∙◌}
-use Rattle.document_text.specs.Pol.{Pol}
-use Rattle.document_text.specs.Views.{term_of}
+use Rattle.nk_syntax.specs.declared.pol.Pol.{Pol}
+use Rattle.nk_syntax.specs.Views.{term_of}
 use Rattle.workload_laws.specs.Workload.{workload}
 use Rattle.workload_gen.proofs.Building.{map-more, policies-more, words-more}
 use Rattle.workload_gen.proofs.policies.policies.Goals as goal

@@ -1,5 +1,5 @@
 use Rattle.std.proofs.Common.{◌≡◌, ◌++◌, ◌-◌, map}
-use Rattle.document_text.specs.Views.{term_of}
+use Rattle.nk_syntax.specs.Views.{term_of}
 use Rattle.workload_gen.specs.Documents.{policies}
 use Rattle.workload_gen.specs.Words.{behind}
 use Rattle.workload_gen.proofs.policies.policies.Given as goal

@@ -1,7 +1,7 @@
 use Rattle.std.proofs.Common.{◌≡◌, ◌-◌, ℕ, List, ap, ◌∙◌, arith}
 use Rattle.std.specs.List.{flat_map}
-use Rattle.document_text.specs.Terms.{Term, Sum}
-use Rattle.document_text.specs.Views.{term_row}
+use Rattle.nk_syntax.specs.Terms.{Term, Sum}
+use Rattle.nk_syntax.specs.Views.{term_row}
 use Rattle.topology_model.proofs.Rows.{sum_of-row}
 use Rattle.workload_laws.specs.Workload.{hops_at, numbers}
 use Rattle.workload_gen.proofs.Building.{switches-up}

@@ -1,6 +1,6 @@
 use Rattle.std.proofs.Common.{◌≡◌, ◌-◌, map}
 use Rattle.std.specs.List.{flat_map}
-use Rattle.document_text.specs.Views.{term_of}
+use Rattle.nk_syntax.specs.Views.{term_of}
 use Rattle.workload_laws.specs.Workload.{hops_at, numbers}
 use Rattle.workload_gen.proofs.policies.policy.Given as goal
 

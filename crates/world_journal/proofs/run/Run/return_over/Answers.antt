@@ -3,6 +3,7 @@ use Rattle.std.proofs.lemmas.Grind.{common_steps}
 use Rattle.std.proofs.lemmas.List.{length-set}
 use Rattle.std.proofs.lemmas.Option.{slice_get_read}
 use Rattle.world_core.specs.declared.event.Event.TheVariants as event
+use Rattle.world_core.specs.declared.event.ControllerEvent.TheVariants as of_controller
 use Rattle.world_journal.specs.Journals.{switches}
 use Rattle.world_journal.proofs.Counting.{counts-returned}
 use Rattle.world_journal.proofs.Marks.{arrived-same}
@@ -20,7 +21,7 @@ invariant_of-self-2 g c =
     let place = name-place (switches g.L.RunName.start) c.args.s _ c.requires.place in (
       c.self.invariant.0,
       arrived-same g.L.RunName.lines c.self.inside.arrived.items c.self.inside.held.world.arrivals c.step.new.self.world.arrivals c.self.invariant.1
-          (step-lines c.self.inside.held.world (event.Rejoin c.args.s) c.step.new.self.world c.in_ok-step.ensures.world refl),
+          (step-lines c.self.inside.held.world (event.Controller (of_controller.Rejoin c.args.s)) c.step.new.self.world c.in_ok-step.ensures.world refl),
       c.self.invariant.2,
       c.self.invariant.3,
       c.self.invariant.4,
