@@ -23,7 +23,8 @@ use Rattle.std.below.std_heap.proofs.GlobalAllocator.TheSendSync as heaps
 use Rattle.nk_values.specs.contracts.lit.Lit as lit
 use Rattle.nk_values.proofs.lit.Lit.TheSendSync as lits
 use Rattle.topology_model.proofs.topology.Topology.TheSendSync as topologies
-use Rattle.world_journal.proofs.Passing.{coordinator-send, flights-send, arrival-send}
+use Rattle.update_coordinator.proofs.Crossing.{coordinator-send}
+use Rattle.world_journal.proofs.Passing.{flights-send, arrival-send}
 use Rattle.world_core.specs.contracts.end.End as end_
 use Rattle.world_core.proofs.end.End.TheSendSync as ends
 use Rattle.world_core.specs.contracts.arrival.Arrival as arrival

@@ -8,6 +8,5 @@ pub mod Numbers
 pub mod Passing
 pub mod Searching
 pub mod Returning
-pub mod Sharing
 pub mod Staying
 pub mod Telling
