@@ -7,6 +7,7 @@ pub mod Marks
 pub mod Numbers
 pub mod Passing
 pub mod Searching
+pub mod Roles
 pub mod Returning
 pub mod Staying
 pub mod Telling

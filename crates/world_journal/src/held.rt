@@ -1,7 +1,7 @@
 // A world beside the journal of what happened to it.
 use crate::entry::Entry;
 use crate::name::RunName;
-use crate::seat::Seat;
+use crate::seat::{Role, Seat};
 use outside_net::Link;
 use std::alloc::Global;
 use std::marker::Model;
@@ -65,7 +65,12 @@ impl<L: RunName, E: Link> Held<L, E> {
             ends: Vec::new(alloc),
             book,
         };
-        (held, Seat { worker: 0, share })
+        let seat = Seat {
+            worker: 0,
+            role: Role::Caller,
+            share,
+        };
+        (held, seat)
     }
 
     /// Does an event that this worker may make, but for those for which an end is kept, and notes it.

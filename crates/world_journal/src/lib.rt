@@ -25,7 +25,7 @@ pub use moves::Did;
 pub use name::RunName;
 pub use run::{Run, RunFault};
 pub use run_desk::RunDesk;
-pub use seat::Seat;
+pub use seat::{Role, Seat};
 pub use update_coordinator::Side;
 pub use updates::{Absence, Update};
 pub use worker_desk::Desk;
