@@ -45,10 +45,10 @@ pub enum CutFault<E: Link> {
 
 impl<L: RunName, E: Link> Held<L, E> {
     ghost use Rattle.std.specs.Prelude.{◌≡◌, ◌<◌, ◌+◌, ◌++◌, ◌∷◌, [], false, OnOk, OnErr, IfErr, Err, length};
-    ghost use Rattle.world_core.specs.Steps.{Step, IsEnabled};
+    ghost use Rattle.world_core.specs.Steps.{Step, IsEnabled, Runs};
     ghost use Rattle.world_core.specs.declared.fault.StepFault.TheVariants as faults;
     ghost use Rattle.world_journal.specs.Makers.{MayMake, is_cut};
-    ghost use Rattle.world_journal.specs.Journals.{HeldValue, IsJournal, entry, MetBy, switches};
+    ghost use Rattle.world_journal.specs.Journals.{HeldValue, IsJournal, entry, events_of, MetBy, switches};
     ghost use Rattle.world_journal.specs.Cuts.{HandsBack, Refuses};
 
     /// A world at its start, with an empty journal, and the caller's seat, which has all parts.
@@ -169,9 +169,10 @@ impl<L: RunName, E: Link> Held<L, E> {
         &self.world
     }
 
-    /// The journal.
+    /// The journal, which led to the world.
     pub fn journal(&self) -> &[Entry]
-        ensures { result.now ≡ self.now.journal }
+        ensures journal { result.now ≡ self.now.journal }
+        ensures history { Runs L.start (events_of self.now.journal) self.now.world }
     {
         &self.journal
     }
