@@ -1,4 +1,5 @@
 mod Lasts
 mod Gathering
 mod Driving
+mod Sharing
 mod Crossing

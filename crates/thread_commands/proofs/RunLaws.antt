@@ -107,8 +107,8 @@ lines_more [] l = refl
 lines_more (x ∷ ls) l = ap (λ (xs : List Line). line_of x ∷ xs) (lines_more ls l)
 
 -- the world that the call made is the document's
-pub starts_as : (d : Document) (versions : List Version) (w : WorldValue) (hops capacity rejoins : ℕ) → w ≡ start d.topology versions (record { hops = hops; capacity = capacity; rejoins = rejoins; overlap = None }) → hops ≡ d.settings.hops → capacity ≡ d.settings.capacity → rejoins ≡ d.settings.rejoins → w ≡ start_of (doc_of d) versions
-starts_as d versions w hops capacity rejoins a b c e = a ∙ (λ i. start d.topology versions (record { hops = b i; capacity = c i; rejoins = e i; overlap = None }))
+pub starts_as : (d : Document) (versions : List Version) (w : WorldValue) (hops capacity rejoins : ℕ) → w ≡ start d.topology versions (record { hops = hops; capacity = capacity; rejoins = rejoins }) → hops ≡ d.settings.hops → capacity ≡ d.settings.capacity → rejoins ≡ d.settings.rejoins → w ≡ start_of (doc_of d) versions
+starts_as d versions w hops capacity rejoins a b c e = a ∙ (λ i. start d.topology versions (record { hops = b i; capacity = c i; rejoins = e i }))
 
 -- ---- of a source
 

@@ -95,7 +95,6 @@ where
         hops,
         capacity: settings.capacity as usize,
         rejoins: settings.rejoins as usize,
-        overlap: None,
     };
     let world = World::start(alloc, versions, topology, settings)?;
     let ends = match make_pairs(alloc, net, count) {

@@ -158,7 +158,7 @@ fn next_update(world: &World) -> Option<Event>
     if world.enabled(&Event::Controller(ControllerEvent::Begin)) {
         return Some(Event::Controller(ControllerEvent::Begin));
     }
-    let stamp = world.coordinator().leaving()?;
+    let stamp = world.coordinator().draining()?;
     if world.enabled(&Event::Controller(ControllerEvent::Drained(stamp))) {
         return Some(Event::Controller(ControllerEvent::Drained(stamp)));
     }
