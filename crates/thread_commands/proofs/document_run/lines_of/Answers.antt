@@ -4,7 +4,7 @@ use Rattle.document_text.specs.declared.document.PacketLine.{PacketLine}
 use Rattle.world_journal.specs.declared.line.Line.{Line}
 use Rattle.thread_commands.specs.Run.{line_of}
 use Rattle.thread_commands.proofs.RunLaws.{lines_more}
-use Rattle.thread_commands.proofs.run.lines_of.Goals as goal
+use Rattle.thread_commands.proofs.document_run.lines_of.Goals as goal
 
 pub loop-packet-preserved : goal.loop-packet-preserved
 loop-packet-preserved c =
