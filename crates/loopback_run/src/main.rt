@@ -1,6 +1,5 @@
 //! Runs the document of standard input over loopback TCP. It prints what is the same in all runs: the status, the last
-//! phase and how many packets came in; or, with the argument `journal`, the whole report, and with the argument `watch` that
-//! of a watched run.
+//! phase and how many packets came in; or, with the argument `journal`, the whole report.
 #![tactic(auto)]
 
 use controller_program::{Status, nkctl};
@@ -19,15 +18,9 @@ fn main(rt: HostRuntime) -> io::Result<()> {
     let alloc = rt.alloc();
     let mut sink = MemorySink::new(alloc, usize::MAX, Vec::new(alloc));
     let mut source = StdSource::new(rt.stdin());
-    let mut word = [0u8; 16];
-    let length = rt.arg(1, &mut word).unwrap_or(0);
-    let command = match &word[..length] {
-        b"watch" => "watch",
-        _ => "run",
-    };
-    let status = call(rt, command, &mut source, &mut sink)?;
+    let status = run(rt, &mut source, &mut sink)?;
     let report = str::from_utf8(sink.bytes()).unwrap_or("");
-    if length > 0 {
+    if rt.arg(1, &mut [0u8; 16]).is_ok() {
         return print!(rt; "{report}");
     }
     println!(rt; "{} {status:?}", status.number())?;
@@ -42,7 +35,7 @@ fn main(rt: HostRuntime) -> io::Result<()> {
 }
 
 // The call of the program.
-fn call<
+fn run<
     R: Wait
         + Threads
         + Clock
@@ -55,11 +48,11 @@ fn call<
         + Sync
         + 'static,
     S: Source,
->(rt: R, command: &str, source: &mut S, sink: &mut MemorySink) -> Result<Status, AllocError> {
+>(rt: R, source: &mut S, sink: &mut MemorySink) -> Result<Status, AllocError> {
     let alloc = rt.alloc();
     let mut words = Vec::new(alloc);
     words.push("nkctl".to_string(alloc)?)?;
-    words.push(command.to_string(alloc)?)?;
+    words.push("run".to_string(alloc)?)?;
     let mut net = TcpNet::new(rt);
     let mut threads = ThreadSpawner::new(alloc, rt);
     let mut reporter = LineReporter::new(rt);

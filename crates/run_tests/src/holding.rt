@@ -1,5 +1,4 @@
 // A gate that holds one worker until another has gone on.
-use controller_program::Onlooker;
 use std::sync::{Mutex, Wait};
 use std::thread;
 use worker_desk::{Gate, Kind, Place};
@@ -81,8 +80,6 @@ impl<R: Wait> Holding<R> {
         }
     }
 }
-
-impl<R: Wait + Drop> Onlooker for Holding<R> {}
 
 impl<R: Wait + Drop> Gate for Holding<R> {
     fn pass(&self, worker: usize, place: Place) {

@@ -5,11 +5,9 @@ pub mod Giving
 pub mod Growing
 pub mod Marks
 pub mod Numbers
-pub mod Onward
 pub mod Passing
-pub mod Posting
-pub mod Returning
-pub mod Roles
 pub mod Searching
+pub mod Returning
+pub mod Sharing
 pub mod Staying
 pub mod Telling

@@ -1,2 +1,0 @@
-pub mod Reads
-pub use Rattle.report_text.specs.Reports
