@@ -1,4 +1,4 @@
-"""Reports, as `nkctl simulate`, `run` and `audit` print them."""
+"""Reports, as `nkctl simulate`, `run`, `watch` and `audit` print them."""
 
 from __future__ import annotations
 
@@ -27,12 +27,18 @@ class Report:
     halt: Optional[str] = None
     arrivals: List[Arrival] = field(default_factory=list)
     audit: List[str] = field(default_factory=list)
+    seen: List[Tuple[int, str]] = field(default_factory=list)
 
     @property
     def phase_words(self) -> Tuple:
         """The phase as its name and its numbers."""
-        name, *numbers = self.phase.split()
-        return (name, *map(int, numbers))
+        return phase_words(self.phase)
+
+
+def phase_words(text: str) -> Tuple:
+    """A phase as its name and its numbers."""
+    name, *numbers = text.split()
+    return (name, *map(int, numbers))
 
 
 def read_arrival(words: List[str]) -> Arrival:
@@ -60,6 +66,9 @@ def add_line(report: Report, line: str) -> None:
         lines.append(rest)
     elif word == "audit":
         report.audit.append(rest)
+    elif word == "seen":
+        count, _, phase = rest.partition(" ")
+        report.seen.append((int(count), phase))
     else:
         raise ValueError(line)
 

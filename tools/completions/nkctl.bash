@@ -1,7 +1,7 @@
 # Completion of nkctl for bash: source this file, or put it into /usr/share/bash-completion/completions as nkctl.
 _nkctl() {
   local word=${COMP_WORDS[COMP_CWORD]} before=${COMP_WORDS[COMP_CWORD - 1]}
-  local commands="rules trace simulate run equiv audit check drive generate"
+  local commands="rules trace simulate run watch equiv audit check drive generate"
   COMPREPLY=()
   if [ "$COMP_CWORD" -eq 1 ]; then
     mapfile -t COMPREPLY < <(compgen -W "$commands --try --build-only --help --version" -- "$word")

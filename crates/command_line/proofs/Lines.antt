@@ -91,15 +91,15 @@ more-words name x zs p e = stray name x p (first-none _ _ (first-none _ _ e))
 
 -- ---- the word of the program's first level
 
-turn-other : (w : Text) → bytes_eq (codes "rules") w ≡ false → bytes_eq (codes "trace") w ≡ false → bytes_eq (codes "simulate") w ≡ false → bytes_eq (codes "equiv") w ≡ false → bytes_eq (codes "audit") w ≡ false → bytes_eq (codes "run") w ≡ false → bytes_eq (codes "generate") w ≡ false → bytes_eq (codes "drive") w ≡ false
+turn-other : (w : Text) → bytes_eq (codes "rules") w ≡ false → bytes_eq (codes "trace") w ≡ false → bytes_eq (codes "simulate") w ≡ false → bytes_eq (codes "equiv") w ≡ false → bytes_eq (codes "audit") w ≡ false → bytes_eq (codes "run") w ≡ false → bytes_eq (codes "watch") w ≡ false → bytes_eq (codes "generate") w ≡ false → bytes_eq (codes "drive") w ≡ false
     → bytes_eq w (45 ∷ 45 ∷ []) ≡ false → long_of w ≡ None → short_of w ≡ None → turn_fault (built form).top (names_of (built form)) (walk_from nothing_held) w ≡ stray_fault (built form).top
 unfolding clap_on_literals
-turn-other w a b c q u d f g h i j = rw (a, b, c, q, u, d, f, g, h, i, j)
+turn-other w a b c q u d o f g h i j = rw (a, b, c, q, u, d, o, f, g, h, i, j)
 
-other-word : (n w : Text) (rest : List Text) → bytes_eq (codes "rules") w ≡ false → bytes_eq (codes "trace") w ≡ false → bytes_eq (codes "simulate") w ≡ false → bytes_eq (codes "equiv") w ≡ false → bytes_eq (codes "audit") w ≡ false → bytes_eq (codes "run") w ≡ false → bytes_eq (codes "generate") w ≡ false → bytes_eq (codes "drive") w ≡ false → is_plain w ≡ true
+other-word : (n w : Text) (rest : List Text) → bytes_eq (codes "rules") w ≡ false → bytes_eq (codes "trace") w ≡ false → bytes_eq (codes "simulate") w ≡ false → bytes_eq (codes "equiv") w ≡ false → bytes_eq (codes "audit") w ≡ false → bytes_eq (codes "run") w ≡ false → bytes_eq (codes "watch") w ≡ false → bytes_eq (codes "generate") w ≡ false → bytes_eq (codes "drive") w ≡ false → is_plain w ≡ true
     → fault_of form (n ∷ w ∷ rest) ≡ [] → ⊥
 unfolding clap_on_literals
-other-word n w rest a b c q u d f g p e = no-kinds _ _ (sym (turn-other w a b c q u d f g (not-dashes w p) (not-long w p) (not-short w p)) ∙ first-none _ _ (first-none _ _ e))
+other-word n w rest a b c q u d o f g p e = no-kinds _ _ (sym (turn-other w a b c q u d o f g (not-dashes w p) (not-long w p) (not-short w p)) ∙ first-none _ _ (first-none _ _ e))
 
 -- what is refused behind the word of a subcommand
 behind : (n name x : Text) (zs : List Text) → (walked [] (names_of (built form)) (walk_from nothing_held) name).stopped ≡ Some (name, []) → fault_of form (n ∷ name ∷ x ∷ zs) ≡ [] → entered_fault (built form) (Some (name, x ∷ zs)) ≡ []
@@ -136,6 +136,11 @@ pub run-alone : (n : Text) (rest : List Text) → list_all is_plain rest ≡ tru
 unfolding clap_on_literals
 run-alone n [] p e = refl
 run-alone n (x ∷ zs) p e = absurd (more-words (codes "run") x zs (and-first _ _ p) (behind n (codes "run") x zs refl e))
+
+pub watch-alone : (n : Text) (rest : List Text) → list_all is_plain rest ≡ true → fault_of form (n ∷ codes "watch" ∷ rest) ≡ [] → rest ≡ []
+unfolding clap_on_literals
+watch-alone n [] p e = refl
+watch-alone n (x ∷ zs) p e = absurd (more-words (codes "watch") x zs (and-first _ _ p) (behind n (codes "watch") x zs refl e))
 
 -- ---- behind `generate`
 
@@ -213,6 +218,7 @@ pub data Taken (w : Text) (rest : List Text) : Type 0 where
   for_equiv : w ≡ codes "equiv" → rest ≡ [] → Taken w rest
   for_audit : w ≡ codes "audit" → rest ≡ [] → Taken w rest
   for_run : w ≡ codes "run" → rest ≡ [] → Taken w rest
+  for_watch : w ≡ codes "watch" → rest ≡ [] → Taken w rest
   for_generate : (x : Text) → w ≡ codes "generate" → rest ≡ x ∷ [] → is_plain x ≡ true → Taken w rest
   for_drive : (x : Text) → w ≡ codes "drive" → rest ≡ x ∷ [] → is_plain x ≡ true → Taken w rest
 
@@ -222,18 +228,19 @@ is-word a w e = sym ((bytes_eq-Decides a w).0 e)
 with-word : (n w a : Text) (rest : List Text) → w ≡ a → fault_of form (n ∷ w ∷ rest) ≡ [] → fault_of form (n ∷ a ∷ rest) ≡ []
 with-word n w a rest e f = subst (λ (v : Text). fault_of form (n ∷ v ∷ rest) ≡ []) e f
 
-taken-by : (n w : Text) (rest : List Text) (a b c q u d f g : Bool) → bytes_eq (codes "rules") w ≡ a → bytes_eq (codes "trace") w ≡ b → bytes_eq (codes "simulate") w ≡ c → bytes_eq (codes "equiv") w ≡ q → bytes_eq (codes "audit") w ≡ u → bytes_eq (codes "run") w ≡ d → bytes_eq (codes "generate") w ≡ f → bytes_eq (codes "drive") w ≡ g
+taken-by : (n w : Text) (rest : List Text) (a b c q u d o f g : Bool) → bytes_eq (codes "rules") w ≡ a → bytes_eq (codes "trace") w ≡ b → bytes_eq (codes "simulate") w ≡ c → bytes_eq (codes "equiv") w ≡ q → bytes_eq (codes "audit") w ≡ u → bytes_eq (codes "run") w ≡ d → bytes_eq (codes "watch") w ≡ o → bytes_eq (codes "generate") w ≡ f → bytes_eq (codes "drive") w ≡ g
     → is_plain w ≡ true → list_all is_plain rest ≡ true → fault_of form (n ∷ w ∷ rest) ≡ [] → Taken w rest
-taken-by n w rest true b c q u d f g ea eb ec eq eu ed ef eg p l e = let is = is-word _ w ea in for_rules is (rules-alone n rest l (with-word n w _ rest is e))
-taken-by n w rest false true c q u d f g ea eb ec eq eu ed ef eg p l e = let is = is-word _ w eb in for_trace is (trace-alone n rest l (with-word n w _ rest is e))
-taken-by n w rest false false true q u d f g ea eb ec eq eu ed ef eg p l e = let is = is-word _ w ec in for_simulate is (simulate-alone n rest l (with-word n w _ rest is e))
-taken-by n w rest false false false true u d f g ea eb ec eq eu ed ef eg p l e = let is = is-word _ w eq in for_equiv is (equiv-alone n rest l (with-word n w _ rest is e))
-taken-by n w rest false false false false true d f g ea eb ec eq eu ed ef eg p l e = let is = is-word _ w eu in for_audit is (audit-alone n rest l (with-word n w _ rest is e))
-taken-by n w rest false false false false false true f g ea eb ec eq eu ed ef eg p l e = let is = is-word _ w ed in for_run is (run-alone n rest l (with-word n w _ rest is e))
-taken-by n w rest false false false false false false true g ea eb ec eq eu ed ef eg p l e = let is = is-word _ w ef in let h = number-alone n rest l (with-word n w _ rest is e) in for_generate h.0 is h.1 h.2
-taken-by n w rest false false false false false false false true ea eb ec eq eu ed ef eg p l e = let is = is-word _ w eg in let h = base-alone n rest l (with-word n w _ rest is e) in for_drive h.0 is h.1 h.2
-taken-by n w rest false false false false false false false false ea eb ec eq eu ed ef eg p l e = absurd (other-word n w rest ea eb ec eq eu ed ef eg p e)
+taken-by n w rest true b c q u d o f g ea eb ec eq eu ed eo ef eg p l e = let is = is-word _ w ea in for_rules is (rules-alone n rest l (with-word n w _ rest is e))
+taken-by n w rest false true c q u d o f g ea eb ec eq eu ed eo ef eg p l e = let is = is-word _ w eb in for_trace is (trace-alone n rest l (with-word n w _ rest is e))
+taken-by n w rest false false true q u d o f g ea eb ec eq eu ed eo ef eg p l e = let is = is-word _ w ec in for_simulate is (simulate-alone n rest l (with-word n w _ rest is e))
+taken-by n w rest false false false true u d o f g ea eb ec eq eu ed eo ef eg p l e = let is = is-word _ w eq in for_equiv is (equiv-alone n rest l (with-word n w _ rest is e))
+taken-by n w rest false false false false true d o f g ea eb ec eq eu ed eo ef eg p l e = let is = is-word _ w eu in for_audit is (audit-alone n rest l (with-word n w _ rest is e))
+taken-by n w rest false false false false false true o f g ea eb ec eq eu ed eo ef eg p l e = let is = is-word _ w ed in for_run is (run-alone n rest l (with-word n w _ rest is e))
+taken-by n w rest false false false false false false true f g ea eb ec eq eu ed eo ef eg p l e = let is = is-word _ w eo in for_watch is (watch-alone n rest l (with-word n w _ rest is e))
+taken-by n w rest false false false false false false false true g ea eb ec eq eu ed eo ef eg p l e = let is = is-word _ w ef in let h = number-alone n rest l (with-word n w _ rest is e) in for_generate h.0 is h.1 h.2
+taken-by n w rest false false false false false false false false true ea eb ec eq eu ed eo ef eg p l e = let is = is-word _ w eg in let h = base-alone n rest l (with-word n w _ rest is e) in for_drive h.0 is h.1 h.2
+taken-by n w rest false false false false false false false false false ea eb ec eq eu ed eo ef eg p l e = absurd (other-word n w rest ea eb ec eq eu ed eo ef eg p e)
 
 -- Words that are taken are these.
 pub taken : (n w : Text) (rest : List Text) → list_all is_plain (w ∷ rest) ≡ true → fault_of form (n ∷ w ∷ rest) ≡ [] → Taken w rest
-taken n w rest p e = taken-by n w rest _ _ _ _ _ _ _ _ refl refl refl refl refl refl refl refl (and-first _ _ p) (and-second _ _ p) e
+taken n w rest p e = taken-by n w rest _ _ _ _ _ _ _ _ _ refl refl refl refl refl refl refl refl refl (and-first _ _ p) (and-second _ _ p) e

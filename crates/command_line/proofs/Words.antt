@@ -9,10 +9,10 @@ use Rattle.clap.specs.Simple.{subcommand_of}
 use Rattle.clap.proofs.OnLiterals.{clap_on_literals}
 use Rattle.netkat_parser.specs.Numbers.{at_most}
 use Rattle.command_line.specs.declared.command.Command.{Command}
-use Rattle.command_line.specs.declared.command.Command.TheVariants.{Rules, Trace, Simulate, Equiv, Audit, Run, Drive, Generate}
+use Rattle.command_line.specs.declared.command.Command.TheVariants.{Rules, Trace, Simulate, Equiv, Audit, Run, Watch, Drive, Generate}
 use Rattle.command_line.specs.Commands.{base_port, is_plain, workload_number, Asks, IsCommandLine, IsPlain, OneCommand}
 use Rattle.command_line.specs.Form.{asked_by, form}
-use Rattle.command_line.proofs.Lines.{Taken, for_rules, for_trace, for_simulate, for_equiv, for_audit, for_run, for_generate, for_drive, taken, base-found, base-faultless, number-found, number-faultless}
+use Rattle.command_line.proofs.Lines.{Taken, for_rules, for_trace, for_simulate, for_equiv, for_audit, for_run, for_watch, for_generate, for_drive, taken, base-found, base-faultless, number-found, number-faultless}
 
 -- ---- numbers begin with a digit
 
@@ -72,6 +72,10 @@ faultless-run : (n : Text) → fault_of form (n ∷ codes "run" ∷ []) ≡ []
 unfolding clap_on_literals
 faultless-run n = refl
 
+faultless-watch : (n : Text) → fault_of form (n ∷ codes "watch" ∷ []) ≡ []
+unfolding clap_on_literals
+faultless-watch n = refl
+
 found-rules : (n : Text) → option_and_then asked_by (subcommand_of form (n ∷ codes "rules" ∷ [])) ≡ Some Rules
 unfolding clap_on_literals
 found-rules n = refl
@@ -96,6 +100,10 @@ found-run : (n : Text) → option_and_then asked_by (subcommand_of form (n ∷ c
 unfolding clap_on_literals
 found-run n = refl
 
+found-watch : (n : Text) → option_and_then asked_by (subcommand_of form (n ∷ codes "watch" ∷ [])) ≡ Some Watch
+unfolding clap_on_literals
+found-watch n = refl
+
 -- words that ask for something have no fault
 pub faultless : (c : Command) (ws : List (String Global)) → Asks c ws → fault_of form (map string_bytes ws) ≡ []
 faultless Rules ws h = ap (fault_of form) h.1 ∙ faultless-rules h.0
@@ -104,6 +112,7 @@ faultless Simulate ws h = ap (fault_of form) h.1 ∙ faultless-simulate h.0
 faultless Equiv ws h = ap (fault_of form) h.1 ∙ faultless-equiv h.0
 faultless Audit ws h = ap (fault_of form) h.1 ∙ faultless-audit h.0
 faultless Run ws h = ap (fault_of form) h.1 ∙ faultless-run h.0
+faultless Watch ws h = ap (fault_of form) h.1 ∙ faultless-watch h.0
 faultless (Drive n) ws h = ap (fault_of form) h.2 ∙ base-faultless h.0 h.1 (plain-port h.1 n h.3)
 faultless (Generate n) ws h = ap (fault_of form) h.2 ∙ number-faultless h.0 h.1 (plain-number h.1 n h.3)
 
@@ -119,6 +128,7 @@ found Simulate ws h = ap taken-for h.1 ∙ found-simulate h.0
 found Equiv ws h = ap taken-for h.1 ∙ found-equiv h.0
 found Audit ws h = ap taken-for h.1 ∙ found-audit h.0
 found Run ws h = ap taken-for h.1 ∙ found-run h.0
+found Watch ws h = ap taken-for h.1 ∙ found-watch h.0
 found (Drive n) ws h = ap taken-for h.2 ∙ base-found h.0 h.1 (plain-port h.1 n h.3) ∙ ap (option_map Drive) h.3
 found (Generate n) ws h = ap taken-for h.2 ∙ number-found h.0 h.1 (plain-number h.1 n h.3) ∙ ap (option_map Generate) h.3
 
@@ -146,6 +156,7 @@ asks-taken ws n w rest e (for_simulate is none) = asks-alone ws n w (codes "simu
 asks-taken ws n w rest e (for_equiv is none) = asks-alone ws n w (codes "equiv") rest Equiv e is none (found-equiv n) (λ f. (n, f))
 asks-taken ws n w rest e (for_audit is none) = asks-alone ws n w (codes "audit") rest Audit e is none (found-audit n) (λ f. (n, f))
 asks-taken ws n w rest e (for_run is none) = asks-alone ws n w (codes "run") rest Run e is none (found-run n) (λ f. (n, f))
+asks-taken ws n w rest e (for_watch is none) = asks-alone ws n w (codes "watch") rest Watch e is none (found-watch n) (λ f. (n, f))
 asks-taken ws n w rest e (for_generate x is one p) =
     let f : n ∷ w ∷ rest ≡ n ∷ codes "generate" ∷ x ∷ [] = ap₂ (λ a b. n ∷ a ∷ b) is one in
     subst (λ (o : Option Command). IfSome o (λ c. Asks c ws)) (sym (ap taken-for f ∙ number-found n x p))
@@ -175,6 +186,7 @@ texts-plain Simulate ws h = ap (λ (t : List Text). list_all is_plain (drop 1 t)
 texts-plain Equiv ws h = ap (λ (t : List Text). list_all is_plain (drop 1 t)) h.1
 texts-plain Audit ws h = ap (λ (t : List Text). list_all is_plain (drop 1 t)) h.1
 texts-plain Run ws h = ap (λ (t : List Text). list_all is_plain (drop 1 t)) h.1
+texts-plain Watch ws h = ap (λ (t : List Text). list_all is_plain (drop 1 t)) h.1
 texts-plain (Drive n) ws h = ap (λ (t : List Text). list_all is_plain (drop 1 t)) h.2 ∙ ap (λ (b : Bool). b && true) (plain-port h.1 n h.3)
 texts-plain (Generate n) ws h = ap (λ (t : List Text). list_all is_plain (drop 1 t)) h.2 ∙ ap (λ (b : Bool). b && true) (plain-number h.1 n h.3)
 

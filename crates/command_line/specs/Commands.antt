@@ -3,7 +3,7 @@ use Rattle.std.specs.Prelude.{◌≡◌, ◌==◌, ℕ, Bool, true, not, nat_eq,
 use Rattle.std.specs.declared.alloc.Global.{Global}
 use Rattle.netkat_parser.specs.Numbers.{numeral, at_most}
 use Rattle.command_line.specs.declared.command.Command.{Command}
-use Rattle.command_line.specs.declared.command.Command.TheVariants.{Rules, Trace, Simulate, Equiv, Audit, Run, Drive, Generate}
+use Rattle.command_line.specs.declared.command.Command.TheVariants.{Rules, Trace, Simulate, Equiv, Audit, Run, Watch, Drive, Generate}
 
 -- the word does not begin with a dash
 abbrev pub is_plain : List ℕ → Bool
@@ -41,6 +41,7 @@ Asks Simulate = IsName (codes "simulate")
 Asks Equiv = IsName (codes "equiv")
 Asks Audit = IsName (codes "audit")
 Asks Run = IsName (codes "run")
+Asks Watch = IsName (codes "watch")
 Asks (Drive n) = IsFromPort n
 Asks (Generate n) = IsNumbered n
 
@@ -56,6 +57,7 @@ IsReader Simulate = Unit {0}
 IsReader Equiv = Unit {0}
 IsReader Audit = Unit {0}
 IsReader Run = Unit {0}
+IsReader Watch = Unit {0}
 IsReader (Drive n) = Unit {0}
 IsReader (Generate n) = ⊥
 

@@ -23,6 +23,7 @@ pub fn form<'a>(alloc: Global) -> Result<Command<'a>, AllocError>
         .subcommand(Command::new(alloc, "equiv"))?
         .subcommand(Command::new(alloc, "audit"))?
         .subcommand(Command::new(alloc, "run"))?
+        .subcommand(Command::new(alloc, "watch"))?
         .subcommand(generate)?
         .subcommand(drive)
 }

@@ -15,6 +15,8 @@ pub enum Command {
     Audit,
     /// A run of the policies, with a thread for each session and each switch.
     Run,
+    /// A run of the policies, and what one reader saw of it meanwhile.
+    Watch,
     /// A drive of switches outside, whose ports begin with this one.
     Drive(u16),
     /// The workload of a number from 1 to 1,000.

@@ -49,6 +49,7 @@ fn command_of(matches: &ArgMatches) -> Option<Command>
         "equiv" => Some(Command::Equiv),
         "audit" => Some(Command::Audit),
         "run" => Some(Command::Run),
+        "watch" => Some(Command::Watch),
         "generate" => number_of(inner.get_str("number")?).map(Command::Generate),
         "drive" => base_of(inner.get_str("base")?).map(Command::Drive),
         _ => None,

@@ -3,7 +3,7 @@ use Rattle.std.proofs.Common.{◌≡◌, ◌≢◌, ◌⊎◌, inl, inr, ℕ, Li
 use Rattle.std.specs.Io.KnownBytes.{Appends}
 use Rattle.outside_io.specs.Lists.{TakesAtMost, AppendsPrefix}
 use Rattle.command_line.specs.declared.command.Command.{Command}
-use Rattle.command_line.specs.declared.command.Command.TheVariants.{Rules, Trace, Simulate, Equiv, Audit, Run, Drive, Generate}
+use Rattle.command_line.specs.declared.command.Command.TheVariants.{Rules, Trace, Simulate, Equiv, Audit, Run, Watch, Drive, Generate}
 use Rattle.command_line.specs.Commands.{Asks, IsReader}
 use Rattle.command_line.proofs.Words.{one_command_asked}
 use Rattle.value_text.specs.declared.fault.Fault.{Fault}
@@ -55,6 +55,7 @@ accepted-by Simulate c s text i a = known-more _ _ c.source.left.before (λ xs r
 accepted-by Equiv c s text i a = known-more _ _ c.source.left.before (λ xs r. record { document = r.document; read = r.read; first = r.compared.first; second = r.compared.second; two = r.compared.two; meant = r.compared.meant }) a.read.bytes
 accepted-by Audit c s text i a = known-more _ _ c.source.left.before (λ xs r. record { document = r.document; versions = r.versions; is = r.accepted }) a.read.bytes
 accepted-by Run c s text i a = known-more _ _ c.source.left.before (λ xs r. record { document = r.document; versions = r.versions; is = r.accepted }) a.read.bytes
+accepted-by Watch c s text i a = known-more _ _ c.source.left.before (λ xs r. record { document = r.document; versions = r.versions; is = r.accepted }) a.read.bytes
 accepted-by (Drive n) c s text i a = known-more _ _ c.source.left.before (λ xs r. record { document = r.document; versions = r.versions; is = r.accepted }) a.read.bytes
 accepted-by (Generate n) c s text i a = absurd i
 
@@ -65,6 +66,7 @@ faultless-by Simulate c s text other a = a.read.faultless
 faultless-by Equiv c s text other a = a.read.faultless
 faultless-by Audit c s text other a = a.read.faultless
 faultless-by Run c s text other a = a.read.faultless
+faultless-by Watch c s text other a = a.read.faultless
 faultless-by (Drive n) c s text other a = a.read.faultless
 faultless-by (Generate n) c s text other a = other (λ i. i)
 
@@ -133,6 +135,7 @@ no-usage Simulate c stop = stop
 no-usage Equiv c stop = stop
 no-usage Audit c stop = stop
 no-usage Run c stop = stop
+no-usage Watch c stop = stop
 no-usage (Drive n) c stop = stop
 no-usage (Generate n) c stop = stop
 
@@ -180,6 +183,16 @@ stop-reads Run c fault.Net h n = h.read.faultless
 stop-reads Run c fault.NoThread h n = h.read.faultless
 stop-reads Run c fault.Report h n = absurd h
 stop-reads Run c fault.Usage h n = absurd h
+stop-reads Watch c (fault.Line line column f) h n = h.faultless
+stop-reads Watch c (fault.NotEnabled line) h n = h.faultless
+stop-reads Watch c (fault.NotTwo line) h n = h.faultless
+stop-reads Watch c (fault.Compile policy f) h n = h.faultless
+stop-reads Watch c (fault.Emit policy f) h n = h.faultless
+stop-reads Watch c fault.Read h n = absurd (n refl)
+stop-reads Watch c fault.Net h n = h.read.faultless
+stop-reads Watch c fault.NoThread h n = h.read.faultless
+stop-reads Watch c fault.Report h n = absurd h
+stop-reads Watch c fault.Usage h n = absurd h
 stop-reads (Drive n) c (fault.Line line column f) h m = h.faultless
 stop-reads (Drive n) c (fault.NotEnabled line) h m = h.faultless
 stop-reads (Drive n) c (fault.NotTwo line) h m = h.faultless
@@ -221,6 +234,16 @@ stop-refuses Run c fault.Net h still = known-more _ _ c.source.left.before (λ x
 stop-refuses Run c fault.NoThread h still = known-more _ _ c.source.left.before (λ xs accepted n. absurd (n accepted)) h.read.bytes
 stop-refuses Run c fault.Report h still = absurd h
 stop-refuses Run c fault.Usage h still = absurd h
+stop-refuses Watch c (fault.Line line column f) h still = if-known c.source.left.before _ (λ xs n. refl)
+stop-refuses Watch c (fault.NotEnabled line) h still = if-known c.source.left.before _ (λ xs n. refl)
+stop-refuses Watch c (fault.NotTwo line) h still = if-known c.source.left.before _ (λ xs n. refl)
+stop-refuses Watch c (fault.Compile policy f) h still = if-known c.source.left.before _ (λ xs n. refl)
+stop-refuses Watch c (fault.Emit policy f) h still = if-known c.source.left.before _ (λ xs n. refl)
+stop-refuses Watch c fault.Read h still = absurd (still h)
+stop-refuses Watch c fault.Net h still = known-more _ _ c.source.left.before (λ xs accepted n. absurd (n accepted)) h.read.bytes
+stop-refuses Watch c fault.NoThread h still = known-more _ _ c.source.left.before (λ xs accepted n. absurd (n accepted)) h.read.bytes
+stop-refuses Watch c fault.Report h still = absurd h
+stop-refuses Watch c fault.Usage h still = absurd h
 stop-refuses (Drive n) c (fault.Line line column f) h still = if-known c.source.left.before _ (λ xs m. refl)
 stop-refuses (Drive n) c (fault.NotEnabled line) h still = if-known c.source.left.before _ (λ xs m. refl)
 stop-refuses (Drive n) c (fault.NotTwo line) h still = if-known c.source.left.before _ (λ xs m. refl)

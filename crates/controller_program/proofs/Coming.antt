@@ -2,7 +2,7 @@
 use Rattle.std.proofs.Common.{◌≡◌, ◌≢◌, ◌∙◌, refl, sym, subst, ℕ, Bool, true, false, List, String, Result, Ok, Err, IfOk, IfErr}
 use Rattle.std.specs.declared.alloc.Global.{Global}
 use Rattle.command_line.specs.declared.command.Command.{Command}
-use Rattle.command_line.specs.declared.command.Command.TheVariants.{Rules, Trace, Simulate, Equiv, Audit, Run, Drive, Generate}
+use Rattle.command_line.specs.declared.command.Command.TheVariants.{Rules, Trace, Simulate, Equiv, Audit, Run, Watch, Drive, Generate}
 use Rattle.command_line.specs.Commands.{Asks, IsCommandLine, IsReader}
 use Rattle.command_line.proofs.Words.{one_command_asked}
 use Rattle.value_text.specs.declared.fault.Fault.TheVariants as fault
@@ -23,6 +23,7 @@ use Rattle.plain_commands.specs.Rules.{IsRulesAnswer}
 use Rattle.plain_commands.specs.Simulate.{IsSimulateAnswer, IsSimulateRefused}
 use Rattle.plain_commands.specs.Trace.{IsTraceAnswer}
 use Rattle.thread_commands.specs.Run.{IsRunAnswer, RunStops}
+use Rattle.thread_commands.specs.Watch.{IsWatchAnswer}
 use Rattle.controller_program.specs.Called.{Called}
 use Rattle.controller_program.specs.Calls.{IsLine}
 use Rattle.controller_program.specs.Commands.{IsAny, IsAnswer, IsThreaded, IsThreadless}
@@ -83,6 +84,11 @@ to_run c (Ok a) o e = o
 to_run c (Err (error.Fault f)) o e = e
 to_run c (Err error.Memory) o e = e
 
+pub to_watch : {Q : Type 0} (c : Called Q) (r : Result Answer AnswerError) → IfOk r (λ a. IsWatchAnswer c.source c.net a.status a.text) → IfErr r (RunStops c.source c.net.faults c.threads) → AnswersTo Watch c r
+to_watch c (Ok a) o e = o
+to_watch c (Err (error.Fault f)) o e = e
+to_watch c (Err error.Memory) o e = e
+
 pub to_drive : {Q : Type 0} (n : ℕ) (c : Called Q) (r : Result Answer AnswerError) → IfOk r (λ a. IsDriveAnswer c.reporter.stamped c.source c.net.broken a.status a.text) → IfErr r (DriveStops c.source c.net.faults c.threads c.reporter.faults) → AnswersTo (Drive n) c r
 to_drive n c (Ok a) o e = o
 to_drive n c (Err (error.Fault f)) o e = e
@@ -108,6 +114,7 @@ same_source Audit c d (Ok a) t e h = subst (λ (s : SourceSeen). IsAuditAnswer s
 same_source Audit c d (Err (error.Fault f)) t e h = subst (λ (s : SourceSeen). StopsBy IsSimulateRefused s f) e h
 same_source Audit c d (Err error.Memory) t e h = subst (λ (s : SourceSeen). IsSame s.faults) e h
 same_source Run c d r t e h = absurd t
+same_source Watch c d r t e h = absurd t
 same_source (Drive n) c d r t e h = absurd t
 same_source (Generate n) c d (Ok a) t e h = h
 same_source (Generate n) c d (Err (error.Fault f)) t e h = absurd h
@@ -122,7 +129,7 @@ no_line Takes words n l = n (l.0, l.2)
 no-threads : (k : Command) (words : List (String Global)) → IsThreaded k → Asks k words → ¬ (IsLine IsThreadless words)
 no-threads k words needs asks l = needs (subst IsThreadless (one_command_asked l.0 k words l.2 asks) l.1)
 
--- without threads a run is no command, and no drive is one
+-- without threads a run is no command, watched or not, and no drive is one
 pub plain_by : {Q : Type 0} (k : Command) (c : Called Q) (r : Result Answer AnswerError) → Asks k c.words → (IsThreadless k → AnswersTo k c r) → (IsThreaded k → r ≡ Err (error.Fault fault.Usage)) → (¬ (IsThreadless k × IsReader k) → IsSame c.source.faults) → Answers IsThreadless c r
 plain_by Rules c r asks to run same = by Rules tt asks (to tt) (λ n. same (λ p. n p.1))
 plain_by Trace c r asks to run same = by Trace tt asks (to tt) (λ n. same (λ p. n p.1))
@@ -130,21 +137,26 @@ plain_by Simulate c r asks to run same = by Simulate tt asks (to tt) (λ n. same
 plain_by Equiv c r asks to run same = by Equiv tt asks (to tt) (λ n. same (λ p. n p.1))
 plain_by Audit c r asks to run same = by Audit tt asks (to tt) (λ n. same (λ p. n p.1))
 plain_by Run c r asks to run same = none (no-threads Run c.words (λ t. t) asks) (run (λ t. t)) (same (λ p. p.0))
+plain_by Watch c r asks to run same = none (no-threads Watch c.words (λ t. t) asks) (run (λ t. t)) (same (λ p. p.0))
 plain_by (Drive n) c r asks to run same = none (no-threads (Drive n) c.words (λ t. t) asks) (run (λ t. t)) (same (λ p. p.0))
 plain_by (Generate n) c r asks to run same = by (Generate n) tt asks (to tt) (λ m. same (λ p. m p.1))
 
-pub other_by : {Q : Type 0} (k : Command) (c : Called Q) (r : Result Answer AnswerError) → k ≢ Run → ((n : ℕ) → k ≢ Drive n) → Asks k c.words → (IsThreadless k → AnswersTo k c r) → (¬ (IsThreadless k × IsReader k) → IsSame c.source.faults) → Answers IsAny c r
-other_by Rules c r other less asks to same = by Rules tt asks (to tt) (λ n. same (λ p. n p.1))
-other_by Trace c r other less asks to same = by Trace tt asks (to tt) (λ n. same (λ p. n p.1))
-other_by Simulate c r other less asks to same = by Simulate tt asks (to tt) (λ n. same (λ p. n p.1))
-other_by Equiv c r other less asks to same = by Equiv tt asks (to tt) (λ n. same (λ p. n p.1))
-other_by Audit c r other less asks to same = by Audit tt asks (to tt) (λ n. same (λ p. n p.1))
-other_by Run c r other less asks to same = absurd (other refl)
-other_by (Drive n) c r other less asks to same = absurd (less n refl)
-other_by (Generate n) c r other less asks to same = by (Generate n) tt asks (to tt) (λ m. same (λ p. m p.1))
+pub other_by : {Q : Type 0} (k : Command) (c : Called Q) (r : Result Answer AnswerError) → k ≢ Run → k ≢ Watch → ((n : ℕ) → k ≢ Drive n) → Asks k c.words → (IsThreadless k → AnswersTo k c r) → (¬ (IsThreadless k × IsReader k) → IsSame c.source.faults) → Answers IsAny c r
+other_by Rules c r other unseen less asks to same = by Rules tt asks (to tt) (λ n. same (λ p. n p.1))
+other_by Trace c r other unseen less asks to same = by Trace tt asks (to tt) (λ n. same (λ p. n p.1))
+other_by Simulate c r other unseen less asks to same = by Simulate tt asks (to tt) (λ n. same (λ p. n p.1))
+other_by Equiv c r other unseen less asks to same = by Equiv tt asks (to tt) (λ n. same (λ p. n p.1))
+other_by Audit c r other unseen less asks to same = by Audit tt asks (to tt) (λ n. same (λ p. n p.1))
+other_by Run c r other unseen less asks to same = absurd (other refl)
+other_by Watch c r other unseen less asks to same = absurd (unseen refl)
+other_by (Drive n) c r other unseen less asks to same = absurd (less n refl)
+other_by (Generate n) c r other unseen less asks to same = by (Generate n) tt asks (to tt) (λ m. same (λ p. m p.1))
 
 pub run_by : {Q : Type 0} (c : Called Q) (r : Result Answer AnswerError) → Asks Run c.words → AnswersTo Run c r → Answers IsAny c r
 run_by c r asks to = by Run tt asks to (λ n. absurd (n tt))
+
+pub watch_by : {Q : Type 0} (c : Called Q) (r : Result Answer AnswerError) → Asks Watch c.words → AnswersTo Watch c r → Answers IsAny c r
+watch_by c r asks to = by Watch tt asks to (λ n. absurd (n tt))
 
 pub drive_by : {Q : Type 0} (n : ℕ) (c : Called Q) (r : Result Answer AnswerError) → Asks (Drive n) c.words → AnswersTo (Drive n) c r → Answers IsAny c r
 drive_by n c r asks to = by (Drive n) tt asks to (λ m. absurd (m tt))
@@ -165,6 +177,7 @@ reports Simulate c s text a = as-report s (report_status a.halts) a.status_is (r
 reports Equiv c s text a = as-report s status.Done a.status_is tt
 reports Audit c s text a = as-report s (report_status a.halts) a.status_is (report-status a.halts)
 reports Run c s text a = as-report s (report_status a.halts) a.status_is (report-status a.halts)
+reports Watch c s text a = as-report s (report_status a.halts) a.status_is (report-status a.halts)
 reports (Drive n) c s text a = as-report s (report_status a.halts) a.status_is (report-status a.halts)
 reports (Generate n) c s text a = as-report s status.Done a.status_is tt
 

@@ -1,7 +1,7 @@
 -- What each command answers, and why it stops: a line of each table a command.
 use Rattle.std.specs.Prelude.{◌≡◌, ℕ, List}
 use Rattle.command_line.specs.declared.command.Command.{Command}
-use Rattle.command_line.specs.declared.command.Command.TheVariants.{Rules, Trace, Simulate, Equiv, Audit, Run, Drive, Generate}
+use Rattle.command_line.specs.declared.command.Command.TheVariants.{Rules, Trace, Simulate, Equiv, Audit, Run, Watch, Drive, Generate}
 use Rattle.value_text.specs.declared.fault.Fault.{Fault}
 use Rattle.program_answer.specs.declared.status.Status.{Status}
 use Rattle.program_answer.specs.Answers.{StopsBy}
@@ -14,6 +14,7 @@ use Rattle.plain_commands.specs.Rules.{IsRulesAnswer}
 use Rattle.plain_commands.specs.Simulate.{IsSimulateAnswer, IsSimulateRefused}
 use Rattle.plain_commands.specs.Trace.{IsTraceAnswer}
 use Rattle.thread_commands.specs.Run.{IsRunAnswer, RunStopsBy}
+use Rattle.thread_commands.specs.Watch.{IsWatchAnswer}
 use Rattle.controller_program.specs.Called.{Called}
 
 -- the report that a command writes in a call, and the status of the call then
@@ -24,6 +25,7 @@ IsAnswer Simulate c = IsSimulateAnswer c.source
 IsAnswer Equiv c = IsEquivAnswer c.source
 IsAnswer Audit c = IsAuditAnswer c.source
 IsAnswer Run c = IsRunAnswer c.source c.net
+IsAnswer Watch c = IsWatchAnswer c.source c.net
 IsAnswer (Drive n) c = IsDriveAnswer c.reporter.stamped c.source c.net.broken
 IsAnswer (Generate n) c = IsGenerateAnswer n
 
@@ -35,6 +37,7 @@ IsStop Simulate c = StopsBy IsSimulateRefused c.source
 IsStop Equiv c = StopsBy IsEquivRefused c.source
 IsStop Audit c = StopsBy IsSimulateRefused c.source
 IsStop Run c = RunStopsBy c.source c.net.faults c.threads
+IsStop Watch c = RunStopsBy c.source c.net.faults c.threads
 IsStop (Drive n) c = DriveStopsBy c.source c.net.faults c.threads c.reporter.faults
 IsStop (Generate n) c = λ f. ⊥
 
@@ -46,6 +49,7 @@ Accepts Simulate = IsAccepted
 Accepts Equiv = IsComparable
 Accepts Audit = IsAccepted
 Accepts Run = IsAccepted
+Accepts Watch = IsAccepted
 Accepts (Drive n) = IsAccepted
 Accepts (Generate n) = λ xs. Unit {0}
 
@@ -57,6 +61,7 @@ IsThreadless Simulate = Unit {0}
 IsThreadless Equiv = Unit {0}
 IsThreadless Audit = Unit {0}
 IsThreadless Run = ⊥
+IsThreadless Watch = ⊥
 IsThreadless (Drive n) = ⊥
 IsThreadless (Generate n) = Unit {0}
 

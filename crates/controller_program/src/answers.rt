@@ -19,7 +19,7 @@ use program_answer::{Answer, AnswerError};
 use std::alloc::Global;
 use std::sync::{Arc, Wait};
 use std::time::Clock;
-use thread_commands::run_answer;
+use thread_commands::{Onlooker, run_answer, watch_answer};
 use value_text::Fault;
 use worker_desk::Gate;
 
@@ -45,7 +45,7 @@ pub fn any_answer<
     R: Wait + Clock + Clone + Drop + Send + 'static,
     S: Source,
     N: Net,
-    G: Gate + Send + Sync + 'static,
+    G: Gate + Onlooker + Send + Sync + 'static,
     T: Spawner,
     Q: Reporter,
 >(
@@ -71,6 +71,7 @@ where
     match asked(alloc, words) {
         Ok(Some(command)) => match command {
             Command::Run => run_answer(rt, alloc, source, net, threads, gate),
+            Command::Watch => watch_answer(rt, alloc, source, net, threads, gate),
             Command::Drive(first) => {
                 drive_answer(rt, alloc, source, first, net, threads, gate, reporter)
             }
@@ -100,6 +101,7 @@ fn command_answer<S: Source>(
         Command::Audit => audit_answer(alloc, source),
         Command::Generate(number) => generate_answer(alloc, number),
         Command::Run => Err(AnswerError::Fault(Fault::Usage)),
+        Command::Watch => Err(AnswerError::Fault(Fault::Usage)),
         Command::Drive(_) => Err(AnswerError::Fault(Fault::Usage)),
     }
 }

@@ -54,7 +54,7 @@ impl Reader {
         kind.place() < self.told.reached.place()
     }
 
-    /// Stops where no port is without a link.
+    /// Stops if no port is without a link.
     pub fn behind_topology(&self, alloc: Global) -> Result<(), Stop>
         ensures { FindsEdge (has_edge self.now.draft) result }
     {
@@ -65,7 +65,7 @@ impl Reader {
         }
     }
 
-    /// Stops where there is no policy either.
+    /// Stops if no port is without a link, or there is no policy.
     pub fn behind_policies(&self, alloc: Global) -> Result<(), Stop>
         ensures packets { Lets {A = Packet} (behind_policies (state_of self.now)) result }
         ensures states { Lets {A = State} (behind_policies (state_of self.now)) result }
@@ -78,7 +78,7 @@ impl Reader {
         Ok(())
     }
 
-    /// Takes the words of the line with this number. Where memory is wanting, nothing changes.
+    /// Takes the words of the line with this number. If memory runs out, nothing changes.
     pub fn take(&mut self, alloc: Global, line: u64, words: &[&[u8]]) -> Result<Taken, Stop>
         ensures { Takes (step (state_of self.old) line (texts words.now)) (state_of self.old) (state_of self.new) result }
     {
@@ -156,7 +156,7 @@ impl Reader {
         Ok(())
     }
 
-    /// The document of all lines, where the one after the last has this number.
+    /// The document of all lines. The line after the last one has this number.
     pub fn finish(self, alloc: Global, line: u64) -> Result<Document, DocumentError>
         ensures { IsAnswer (finished (state_of self) line) result }
     {

@@ -56,7 +56,7 @@ fn ports_of(alloc: Global, numbers: &[u64]) -> Result<Vec<u16>, Stop>
     Ok(ports)
 }
 
-/// The switch with this number, where it is in its range.
+/// The switch with this number, if it is in its range.
 pub fn switch_of(number: u64) -> Result<u16, Stop>
     ensures { Ranges (is_value Sw number) (λ n. n ≡ number) result }
 {
@@ -67,7 +67,7 @@ pub fn switch_of(number: u64) -> Result<u16, Stop>
     }
 }
 
-/// The port with this number, where it is in its range.
+/// The port with this number, if it is in its range.
 pub fn port_of(number: u64) -> Result<u16, Stop>
     ensures { Ranges (is_value Pt number) (λ n. n ≡ number) result }
 {
@@ -78,7 +78,7 @@ pub fn port_of(number: u64) -> Result<u16, Stop>
     }
 }
 
-/// The end with these numbers, where both are in their range.
+/// The end with these numbers, if both are in their range.
 pub fn end_in_range(numbers: (u64, u64)) -> Result<End, Stop>
     ensures { Ranges (is_end_value numbers) (λ e. e ≡ numbers) result }
 {

@@ -15,7 +15,7 @@ pub trait Wire: Drop {
     /// Sends bytes, and says whether it did.
     fn put(&mut self, bytes: &[u8]) -> bool;
 
-    /// Waits for bytes; there are none where the other side is gone.
+    /// Waits for bytes; there are none if the other side is gone.
     fn get(&mut self, place: &mut [u8]) -> Option<usize>
         requires { 0 < length place.old }
         ensures { IfSome result (λ n. n ≤ length place.new) };

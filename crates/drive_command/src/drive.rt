@@ -13,7 +13,7 @@ use crate::beginning::begin;
 use document_text::{Document, Site};
 use drive_journal::{Steering, starts_halt_at_loss};
 use drive_text::drive_text;
-use drive_workers::{DriveFault, Gate, drive_over};
+use drive_workers::{DriveFault, Gate, Onlooker, drive_over};
 use outside_io::Source;
 use outside_net::{Net, Reporter, Spawner};
 use policy_rows::Version;
@@ -33,7 +33,7 @@ pub fn drive_answer<
     S: Source,
     N: Net,
     T: Spawner,
-    G: Gate + Send + Sync + 'static,
+    G: Gate + Onlooker + Send + Sync + 'static,
     Q: Reporter,
 >(
     rt: &R,
@@ -71,7 +71,7 @@ fn drive_document<
     R: Wait + Clock + Clone + Drop + Send + 'static,
     N: Net,
     T: Spawner,
-    G: Gate + Send + Sync + 'static,
+    G: Gate + Onlooker + Send + Sync + 'static,
     Q: Reporter,
 >(
     rt: &R,

@@ -3,12 +3,13 @@ ghost use Rattle.std.specs.Prelude.{IfSome};
 ghost use Rattle.drive_journal.specs.Drives.{IsOver};
 
 use crate::drive::Drive;
-use crate::moment::is_done;
+use crate::moment::{is_done, stand_of};
 use crate::name::DriveName;
 use crate::refused::Refused;
 use crate::steered::Steered;
 use crate::updates::Next;
 use outside_net::{Link, Receipt};
+use status_board::Post;
 use std::alloc::{AllocError, Global};
 use std::sync::{Arc, Condvar, Mutex, MutexGuard, Wait};
 use std::thread;
@@ -69,6 +70,11 @@ impl<R: Wait + Clock + Drop, L: DriveName, E: Link, Q: Receipt> DriveDesk<R, L, 
     /// The allocator of its calls.
     pub fn alloc(&self) -> Global {
         self.alloc
+    }
+
+    /// Where the drive stands now, as it can be posted: none if its journal was taken out.
+    pub fn stand(&self) -> Option<Post> {
+        stand_of(&self.drive.lock(&self.rt))
     }
 
     /// Begins the next update, or says what the caller is to do. It waits if there is nothing to do.

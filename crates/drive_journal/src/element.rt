@@ -5,7 +5,7 @@ ghost use Rattle.worker_desk.specs.Streams.{TellsWhereKnown};
 ghost use Rattle.drive_journal.specs.Calls.{IsElement, IsNext};
 ghost use Rattle.drive_journal.specs.Elements.{IsFitting};
 
-use of_framing::Framer;
+use of_framing::first_element;
 use openflow_wire::{Message as Whole, WireError, WireFault};
 use std::alloc::Global;
 
@@ -26,11 +26,7 @@ pub(crate) fn read_element(alloc: Global, bytes: &[u8]) -> Element
     ensures fits { IsFitting result }
     ensures next { (k : ℕ) (received : Option (List ℕ)) → TellsWhereKnown received k bytes.now → IsNext k received result }
 {
-    let mut framer = Framer::new(alloc);
-    if framer.feed(bytes).is_err() {
-        return Element::Memory;
-    }
-    match framer.next(alloc) {
+    match first_element(alloc, bytes) {
         None => Element::Rest,
         Some(Ok(message)) => Element::Message(message),
         Some(Err(WireError::Fault(fault))) => Element::Fault(fault),

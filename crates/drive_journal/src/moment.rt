@@ -5,6 +5,7 @@ ghost use Rattle.drive_journal.specs.Drives.{IsDone};
 use crate::drive::Drive;
 use crate::name::DriveName;
 use outside_net::{Link, Receipt};
+use status_board::Post;
 use update_coordinator::Phase;
 
 // What decides for all workers whether there is something to do: the phase, and whether the coordinator has halted.
@@ -19,6 +20,19 @@ pub(crate) fn moment_of<L: DriveName, E: Link, Q: Receipt>(
 ) -> Option<Moment> {
     let coordinator = drive.as_ref()?.coordinator();
     Some(Moment {
+        phase: coordinator.phase(),
+        halted: coordinator.halt().is_some(),
+    })
+}
+
+// Where a drive stands: how many events it has, the phase, and whether the coordinator has halted.
+pub(crate) fn stand_of<L: DriveName, E: Link, Q: Receipt>(
+    drive: &Option<Drive<L, E, Q>>,
+) -> Option<Post> {
+    let drive = drive.as_ref()?;
+    let coordinator = drive.coordinator();
+    Some(Post {
+        count: drive.held.journal.len() as u64,
         phase: coordinator.phase(),
         halted: coordinator.halt().is_some(),
     })

@@ -2,22 +2,26 @@
 ghost use Rattle.drive_workers.specs.Faults.{AskCause};
 
 use crate::fault::DriveFault;
+use board_readers::{BoardName, Pen};
 use drive_journal::{DriveDesk, DriveName, Next};
-use outside_net::{Link, ReportFailed, Reporter};
+use outside_net::{Link, Receipt, ReportFailed, Reporter};
 use std::alloc::AllocError;
 use std::sync::Wait;
 use std::time::Clock;
 
-/// Begins updates, and takes the reports of drains, until the drive is closed or over. It answers a fault if the
-/// reporter failed, or out of memory.
-pub fn steer<R: Wait + Clock + Drop, L: DriveName, E: Link, Q: Reporter>(
+/// Begins updates, and takes the reports of drains, until the drive is closed or over. Where the drive stands is posted at
+/// each turn. It answers a fault if the reporter failed, or out of memory.
+pub fn steer<R: Wait + Clock + Drop, L: DriveName, E: Link, Q: Reporter, J: BoardName>(
     desk: &DriveDesk<R, L, E, Q::Receipt>,
     reporter: &mut Q,
+    pen: &mut Pen<J, R>,
 ) -> Result<(), DriveFault>
     ensures { AskCause (Q.faults reporter.old) (Q.faults reporter.new) result }
 {
     for _ in desk.runtime().forever() {
-        match desk.update() {
+        let next = desk.update();
+        post_stand(desk, pen);
+        match next {
             Ok(Next::Stop) => return Ok(()),
             Ok(Next::Step) | Ok(Next::Nothing) => {}
             Ok(Next::Wait(stamp)) => ask(desk, reporter, stamp)?,
@@ -25,6 +29,20 @@ pub fn steer<R: Wait + Clock + Drop, L: DriveName, E: Link, Q: Reporter>(
         }
     }
     unreachable!()
+}
+
+// Posts where a drive stands, if it has made an event since the newest post. What cannot be posted is not told: a drive
+// goes on without its onlookers.
+fn post_stand<R: Wait + Clock + Drop, L: DriveName, E: Link, Q: Receipt, J: BoardName>(
+    desk: &DriveDesk<R, L, E, Q>,
+    pen: &mut Pen<J, R>,
+) {
+    let Some(stand) = desk.stand() else {
+        return;
+    };
+    if pen.newest().count < stand.count {
+        drop(pen.post(stand.count, stand.phase, stand.halted));
+    }
 }
 
 // Asks for the report of a stamp, and takes it if it came.

@@ -8,6 +8,8 @@ ghost use Rattle.drive_workers.specs.Faults.{RunCause};
 
 use crate::crew::drive_fleet;
 use crate::fault::DriveFault;
+use crate::lookout::{open_board, start_progress};
+use board_readers::{Board, BoardName, Onlooker};
 use drive_journal::{DriveName, Steered, Steering};
 use outside_net::{Link, Reporter, Spawner};
 use std::alloc::Global;
@@ -18,12 +20,13 @@ use update_coordinator::Coordinator;
 use worker_desk::Gate;
 
 /// Drives outside switches from this start until it is over, with a worker for each end. Gives the coordinator, the
-/// journal that led to it, the reports that were kept for drains, and the end that was kept if it has halted.
+/// journal that led to it, the reports that were kept for drains, and the end that was kept if it has halted. The gate is
+/// told meanwhile how far the drive is, if it wants to be.
 pub fn run_drive<
     R: Wait + Clock + Clone + Drop + Send + 'static,
     E: Link + Send + 'static,
     Q: Reporter,
-    G: Gate + Send + Sync + 'static,
+    G: Gate + Onlooker + Send + Sync + 'static,
     T: Spawner,
 >(
     rt: &R,
@@ -45,19 +48,21 @@ where
     ensures over { IfOk result (λ r. IsOver r.0) }
     ensures cause { RunCause (T.faults threads.old) (T.faults threads.new) (Q.faults reporter.old) (Q.faults reporter.new) result }
 {
-    run_named::<Brand, R, E, Q, G, T>(rt, alloc, coordinator, ends, reporter, threads, gate)
+    let board = Board::new();
+    run_named::<Brand, R, E, Q, G, T>(rt, alloc, board, coordinator, ends, reporter, threads, gate)
 }
 
 fn run_named<
-    L: DriveName + Send + Sync + 'static,
+    L: DriveName + BoardName + Send + Sync + 'static,
     R: Wait + Clock + Clone + Drop + Send + 'static,
     E: Link + Send + 'static,
     Q: Reporter,
-    G: Gate + Send + Sync + 'static,
+    G: Gate + Onlooker + Send + Sync + 'static,
     T: Spawner,
 >(
     rt: &R,
     alloc: Global,
+    board: Board,
     coordinator: Coordinator,
     ends: Vec<E>,
     reporter: &mut Q,
@@ -67,6 +72,7 @@ fn run_named<
 where
     Q::Receipt: Send + 'static,
     requires start { coordinator ≡ L.start }
+    requires board { board ≡ L.book }
     requires runs { coordinator.halt ≡ None }
     requires losses { HaltsAtLoss coordinator }
     requires count { vec_len ends ≡ length L.start.sites }
@@ -76,11 +82,23 @@ where
     ensures over { IfOk result (λ r. IsOver r.0) }
     ensures cause { RunCause (T.faults threads.old) (T.faults threads.new) (Q.faults reporter.old) (Q.faults reporter.new) result }
 {
+    let last = coordinator.versions().len();
     let Ok(held) = Steered::<L, E, Q::Receipt>::make(alloc, coordinator) else {
         return Err(DriveFault::Memory);
     };
-    match drive_fleet(rt, alloc, held, ends, reporter, threads, gate) {
+    let Ok((pen, eyes, ending)) = open_board::<R, L>(rt, alloc, board) else {
+        return Err(DriveFault::Memory);
+    };
+    let mut pen = pen;
+    start_progress(&ending, eyes, last, &gate, threads)?;
+    match drive_fleet(
+        rt, alloc, held, ends, reporter, threads, gate, &mut pen, &ending,
+    ) {
         Ok(held) => Ok(held.parts()),
-        Err(fault) => Err(fault),
+        Err(fault) => {
+            ending.tell();
+            threads.finish();
+            Err(fault)
+        }
     }
 }

@@ -7,6 +7,7 @@ ghost use Rattle.drive_workers.specs.Faults.{RunCause, StartsAs};
 use crate::caller::steer;
 use crate::fault::DriveFault;
 use crate::worker::DriveWorker;
+use board_readers::{BoardName, Ending, Pen};
 use drive_journal::{Drive, DriveDesk, DriveName, Steered};
 use outside_net::{Job, Link, Receipt, Reporter, Spawner, StartFault};
 use std::alloc::Global;
@@ -15,7 +16,8 @@ use std::time::Clock;
 use worker_desk::Gate;
 
 /// Drives switches from a start until it is over: a worker in a thread of its own for each, which talks over its end,
-/// and the caller, who begins the updates and takes the reports of drains.
+/// and the caller, who begins the updates and takes the reports of drains. The pen posts where the drive stands, and
+/// readers of its board are told when it is over.
 pub fn drive_fleet<
     R: Wait + Clock + Clone + Drop + Send + 'static,
     L: DriveName + Send + Sync + 'static,
@@ -23,6 +25,7 @@ pub fn drive_fleet<
     Q: Reporter,
     G: Gate + Send + Sync + 'static,
     T: Spawner,
+    J: BoardName,
 >(
     rt: &R,
     alloc: Global,
@@ -31,6 +34,8 @@ pub fn drive_fleet<
     reporter: &mut Q,
     threads: &mut T,
     gate: Arc<G>,
+    pen: &mut Pen<J, R>,
+    ending: &Ending<R>,
 ) -> Result<Steered<L, E, Q::Receipt>, DriveFault>
 where
     Q::Receipt: Send + 'static,
@@ -52,10 +57,11 @@ where
         desk: &desk,
         gate: &gate,
     };
-    let done = crew.go(ends, reporter, threads);
+    let done = crew.go(ends, reporter, threads, pen);
     if done.is_err() {
         desk.close_all();
     }
+    ending.tell();
     threads.finish();
     done?;
     match desk.finish() {
@@ -80,18 +86,19 @@ impl<
     G: Gate + Send + Sync + 'static,
 > Crew<'a, R, L, E, Q, G> {
     // Starts the workers, and steers.
-    fn go<P: Reporter<Receipt = Q>, T: Spawner>(
+    fn go<P: Reporter<Receipt = Q>, T: Spawner, J: BoardName>(
         &self,
         ends: Vec<E>,
         reporter: &mut P,
         threads: &mut T,
+        pen: &mut Pen<J, R>,
     ) -> Result<(), DriveFault>
         requires count { vec_len ends ≡ length L.start.sites }
         requires ends { AreEnds E.named E.received ends.items }
         ensures { RunCause (T.faults threads.old) (T.faults threads.new) (P.faults reporter.old) (P.faults reporter.new) result }
     {
         self.start_all(ends, threads)?;
-        steer(self.desk, reporter)
+        steer(self.desk, reporter, pen)
     }
 
     // Starts all workers. An end that was not handed out is dropped.
@@ -125,7 +132,7 @@ impl<
 }
 
 // Starts a job.
-fn start_one<T: Spawner, J: Job>(threads: &mut T, job: J) -> Result<(), DriveFault>
+pub(crate) fn start_one<T: Spawner, J: Job>(threads: &mut T, job: J) -> Result<(), DriveFault>
     ensures { StartsAs (T.faults threads.old) (T.faults threads.new) result }
 {
     match threads.start(job) {

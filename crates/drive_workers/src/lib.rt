@@ -7,9 +7,11 @@ mod crew;
 mod ends;
 mod fault;
 mod kept;
+mod lookout;
 mod over;
 mod worker;
 
+pub use board_readers::Onlooker;
 pub use caller::steer;
 pub use closed::run_drive;
 pub use crew::drive_fleet;

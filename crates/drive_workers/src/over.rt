@@ -8,6 +8,7 @@ use crate::closed::run_drive;
 use crate::ends::{meet_ends, port_at};
 use crate::fault::DriveFault;
 use crate::kept::take_back;
+use board_readers::Onlooker;
 use drive_journal::{Steering, a_lost_session_is_last};
 use outside_net::{Net, NetFault, Reporter, Spawner};
 use std::alloc::Global;
@@ -22,7 +23,7 @@ pub fn drive_over<
     R: Wait + Clock + Clone + Drop + Send + 'static,
     N: Net,
     Q: Reporter,
-    G: Gate + Send + Sync + 'static,
+    G: Gate + Onlooker + Send + Sync + 'static,
     T: Spawner,
 >(
     rt: &R,

@@ -55,7 +55,14 @@ pub fn version(alloc: Global, pol: &Pol, topology: &Topology) -> Result<Version,
         Err(CompileError::Fault(fault)) => return Err(PolicyError::Compile(fault)),
         Err(CompileError::Memory) => return Err(PolicyError::Memory),
     };
-    match emit(alloc, &compiled, pol, topology, STAMP, Band::High) {
+    match emit(
+        alloc,
+        &compiled,
+        pol.copy(alloc)?,
+        topology,
+        STAMP,
+        Band::High,
+    ) {
         Ok(version) => Ok(version),
         Err(EmitError::Fault(fault)) => Err(PolicyError::Emit(fault)),
         Err(EmitError::Memory) => Err(PolicyError::Memory),

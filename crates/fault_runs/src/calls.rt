@@ -83,7 +83,7 @@ pub fn run<R: Wait + Clock + Threads + Copy + Clone + Drop + Send + Sync + 'stat
     written(alloc, status, &sink)
 }
 
-/// A call in pieces of at most `size` bytes, where a read and a write fail by their numbers, from 1, or none at 0.
+/// A call in pieces of at most `size` bytes. A read and a write fail by their numbers, from 1, or none does at 0.
 pub fn plain(
     alloc: Global,
     command: &str,

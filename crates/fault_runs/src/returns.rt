@@ -91,7 +91,7 @@ const fn reply_of(number: u8) -> [u8; 8] {
 }
 
 /// Hostile links of a second session: a reply of the first one, a reply that comes twice, one that is none, half a reply
-/// where no more sessions may be lost, and half a reply where one more may.
+/// if no more sessions may be lost, and half a reply if one more may.
 pub fn second<
     R: Wait + Clock + Threads + AllocGlobal + Copy + Clone + Drop + Send + Sync + 'static,
 >(rt: R) -> Result<Option<usize>, AllocError> {

@@ -57,7 +57,7 @@ impl Frame {
         }
     }
 
-    /// Whether the kind leaves a number to a field, where it is one of the field's values.
+    /// Whether the kind leaves a number to a field, if it is one of the field's values.
     pub fn leaves(self, f: Field, value: u64) -> bool
         ensures { IsTrue result ↔ Leaves self f value }
     {

@@ -93,7 +93,7 @@ impl Assignments {
         assigned_in(self.lits.as_slice(), f)
     }
 
-    /// The assignments without those that a cell fixes. They are shared where it fixes none.
+    /// The assignments without those that a cell fixes. They are shared if it fixes none.
     pub fn stripped(&self, alloc: Global, cell: &Cell) -> Result<Assignments, AllocError>
         ensures stripped { IfOk result (λ r. r ≡ strip cell.now self.now) }
         ensures copy { IsCopy self.now }

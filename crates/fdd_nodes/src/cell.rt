@@ -71,7 +71,7 @@ impl Cell {
         Cell::open().with(l)
     }
 
-    /// The packets of the cell that hold a literal's number, where the cell leaves its field open.
+    /// The packets of the cell that hold a literal's number, if the cell leaves its field open.
     pub fn with(&self, l: &Lit) -> Cell
         ensures { result ≡ put l.now self.now }
     {

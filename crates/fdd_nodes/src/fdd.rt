@@ -69,8 +69,8 @@ impl Fdd {
         self.root.leaf_of(packet)
     }
 
-    /// Whether no leaf assigns what its path fixes, and no test is redundant: where it holds, on some packet in range its
-    /// branches answer differently.
+    /// Whether no leaf assigns what its path fixes, and no test is redundant: its branches answer some packet in range
+    /// differently.
     pub fn normal(&self) -> bool
         ensures { IsTrue result ↔ IsNormal (tree_of self.now) }
     {

@@ -65,7 +65,7 @@ impl Leaf {
         Ok(Leaf { copies })
     }
 
-    /// The leaf of some copies. They are sorted first, since it takes little time where they rise.
+    /// The leaf of some copies. They are sorted first, which takes little time if they rise.
     pub fn gathered(alloc: Global, mut copies: Vec<Assignments>) -> Result<Leaf, AllocError>
         ensures { IfOk result (λ r. SameMembers r copies.items) }
     {
@@ -91,7 +91,7 @@ impl Leaf {
         &self.copies
     }
 
-    /// Adds a copy, where it is not there.
+    /// Adds a copy, if it is not there.
     pub fn put(&mut self, copy: Assignments) -> Result<(), AllocError>
         ensures ok { OnOk result (Puts copy self.old self.new) }
         ensures err { OnErr result (self.new ≡ self.old) }

@@ -15,7 +15,7 @@ const MOST_CELLS: usize = 4_096;
 const MOST_PLACES: usize = 262_144;
 
 /// Adds a cell and those that turns lead to from it, or from another one of them, whatever its packets hold where it fixes
-/// nothing. It tells whether all are there: not where they are many, or where too much of the diagram would be gone
+/// nothing. It tells whether all are there: not if they are many, or if too much of the diagram would be gone
 /// through for them. What was gone through is taken from the allowance.
 pub(crate) fn add_led_to(
     alloc: Global,

@@ -16,7 +16,7 @@ use nk_values::Lit;
 use std::alloc::{AllocError, Global};
 
 /// The body of which parts are taken at a cell for the literals that were asked there: that without the tests which come out
-/// one way in all turns from the cell, where it has fewer parts. It makes the same turns. Where the cell fixes nothing, no test
+/// one way in all turns from the cell, if it has fewer parts. It makes the same turns. If the cell fixes nothing, no test
 /// comes out one way.
 pub(crate) fn narrowed(
     alloc: Global,

@@ -53,10 +53,9 @@ impl Found {
 /// The star `p*` of a diagram of a store: what any number of turns give (ICFP 2015, section 3).
 ///
 /// From the packet of a cell, which holds what is fixed and nothing that the diagram names elsewhere, the turns are made
-/// one by one, each on what the one before added. Each test that is asked of a field left open parts the cell: where it
-/// holds, the star is found anew, but not for the packets on which an earlier test holds, so that no cell is gone through
-/// twice. Tests of one field share their part if the diagram makes the same of what each leaves. 512 turns are made at
-/// most; where one more would add something, the fault has a packet and an output that show it.
+/// one by one, each on what the one before added. Each test that is asked of a field left open parts the cell. For the packets
+/// on which it holds and no earlier one does, the star is found anew, so that no cell is gone through twice. Tests of one field share their part if the diagram makes the same of what each leaves. 512 turns are made at
+/// most; if one more would add something, the fault has a packet and an output that show it.
 pub fn star(alloc: Global, store: &mut Store, p: Id) -> Result<Id, StarError>
     requires has { Has store.old p }
     requires few { IsFew (tree_at store.old p) }

@@ -262,8 +262,12 @@ impl Store {
         ensures place { IfOk result (λ i. Gives self.new i (λ x. x ≡ trees.Node l (tree_at self.old t) (tree_at self.old e))) }
         ensures err { OnErr result (self.new ≡ self.old) }
     {
+        let shape = Shape::Fork(l, t, e);
+        if let Some(place) = self.found(&shape) {
+            return Ok(place);
+        }
         let entry = self.entry_of(alloc, l, t, e)?;
-        self.put(Shape::Fork(l, t, e), entry)
+        self.put(shape, entry)
     }
 
     // What is told of a test with its branches.

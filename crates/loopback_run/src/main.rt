@@ -1,5 +1,6 @@
 //! Runs the document of standard input over loopback TCP. It prints what is the same in all runs: the status, the last
-//! phase and how many packets came in; or, with the argument `journal`, the whole report.
+//! phase and how many packets came in; or, with the argument `journal`, the whole report, and with the argument `watch` that
+//! of a watched run.
 #![tactic(auto)]
 
 use controller_program::{Status, nkctl};
@@ -18,9 +19,15 @@ fn main(rt: HostRuntime) -> io::Result<()> {
     let alloc = rt.alloc();
     let mut sink = MemorySink::new(alloc, usize::MAX, Vec::new(alloc));
     let mut source = StdSource::new(rt.stdin());
-    let status = run(rt, &mut source, &mut sink)?;
+    let mut word = [0u8; 16];
+    let length = rt.arg(1, &mut word).unwrap_or(0);
+    let command = match &word[..length] {
+        b"watch" => "watch",
+        _ => "run",
+    };
+    let status = call(rt, command, &mut source, &mut sink)?;
     let report = str::from_utf8(sink.bytes()).unwrap_or("");
-    if rt.arg(1, &mut [0u8; 16]).is_ok() {
+    if length > 0 {
         return print!(rt; "{report}");
     }
     println!(rt; "{} {status:?}", status.number())?;
@@ -35,7 +42,7 @@ fn main(rt: HostRuntime) -> io::Result<()> {
 }
 
 // The call of the program.
-fn run<
+fn call<
     R: Wait
         + Threads
         + Clock
@@ -48,11 +55,11 @@ fn run<
         + Sync
         + 'static,
     S: Source,
->(rt: R, source: &mut S, sink: &mut MemorySink) -> Result<Status, AllocError> {
+>(rt: R, command: &str, source: &mut S, sink: &mut MemorySink) -> Result<Status, AllocError> {
     let alloc = rt.alloc();
     let mut words = Vec::new(alloc);
     words.push("nkctl".to_string(alloc)?)?;
-    words.push("run".to_string(alloc)?)?;
+    words.push(command.to_string(alloc)?)?;
     let mut net = TcpNet::new(rt);
     let mut threads = ThreadSpawner::new(alloc, rt);
     let mut reporter = LineReporter::new(rt);

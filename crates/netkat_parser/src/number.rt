@@ -38,7 +38,7 @@ pub fn literal(field: Field, run: &[u8]) -> Option<Lit>
     }
 }
 
-/// The number that a run writes for a field, where it is at most the greatest of any field.
+/// The number that a run writes for a field, if it is at most the greatest of any field.
 pub fn number_of(field: Field, run: &[u8]) -> Option<u64>
     ensures { IsUpTo GREATEST (number field run.now) result }
 {
@@ -140,7 +140,7 @@ fn are_digits(base: u64, digits: &[u8]) -> bool
     true
 }
 
-/// The number of `least` to `most` digits in a base, where it is at most `high`.
+/// The number of `least` to `most` digits in a base, if it is at most `high`.
 pub fn numeral(base: u64, least: usize, most: usize, high: u64, digits: &[u8]) -> Option<u64>
     requires base { 2 ≤ base }
     requires hexadecimal { base ≤ 16 }
@@ -154,7 +154,7 @@ pub fn numeral(base: u64, least: usize, most: usize, high: u64, digits: &[u8]) -
     value(base, high, digits)
 }
 
-// The number of digits in a base, where it is at most `high`.
+// The number of digits in a base, if it is at most `high`.
 #[tactic(auto, using(crate::proofs::Digits::counting))]
 fn value(base: u64, high: u64, digits: &[u8]) -> Option<u64>
     requires base { 2 ≤ base }

@@ -69,7 +69,7 @@ impl PolicyReader {
         reader.close(alloc)
     }
 
-    /// The same, where nothing follows, of a reader that stays: where memory is wanting, it can be asked again.
+    /// The same of a reader that stays, if nothing follows. After out of memory it can be asked again.
     pub fn close(&mut self, alloc: Global) -> Result<Pol, ParseError>
         ensures answer { (begin : Start) (text : List ℕ) → EndsFor begin self.old text → AnswersFor begin text result }
         ensures again { result ≡ Err Error.Memory → (begin : Start) (text : List ℕ) → EndsFor begin self.old text → EndsFor begin self.new text }

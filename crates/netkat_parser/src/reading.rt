@@ -340,7 +340,7 @@ impl Reading {
         self.chain.reserve()
     }
 
-    /// The policy, where the whole text was read and there is room for it.
+    /// The policy, if the whole text was read and there is room for it.
     pub fn policy(self) -> Pol
         requires whole { IsWhole (view_of self) }
         requires room { HaveRoom self.chain }

@@ -75,7 +75,7 @@ impl<T: Drop> List<T> {
     }
 }
 
-/// A value of which an equal one can be made, where memory allows.
+/// A value of which an equal one can be made, if memory allows.
 pub trait Duplicate: Drop {
     /// An equal value.
     fn copy(&self, alloc: Global) -> Result<Self, AllocError>

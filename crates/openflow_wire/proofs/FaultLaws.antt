@@ -342,7 +342,7 @@ given-fault (Err (Fault g)) f given = (let e = err-is {A = Message} f g given in
 pub is-fault : (bytes : List ℕ) (r : Result Message WireError) (f : WireFault) → ReadsAs r (reads bytes) → IsFirstFault bytes f → r ≡ Err (Fault f)
 is-fault bytes r f given h = given-fault r f (subst (λ (x : Result Message WireFault). ReadsAs r x) (fault-read bytes f h) given)
 
-memory-told : (bytes : List ℕ) (read : Result Message WireFault) → reads bytes ≡ read → is_ok read ≡ true → (m : Message) × Spells bytes m
+pub memory-told : (bytes : List ℕ) (read : Result Message WireFault) → reads bytes ≡ read → is_ok read ≡ true → (m : Message) × Spells bytes m
 memory-told bytes (Ok m) e ok = (m, read-spelled bytes m e)
 memory-told bytes (Err f) e ok = absurd cc
 

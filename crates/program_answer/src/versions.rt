@@ -66,7 +66,8 @@ fn version(
     };
     let (low, high) = settings.stamps;
     let stamp = stamp_of(low, high, place);
-    match emit(alloc, &compiled, pol, topology, stamp, band_of(place)) {
+    let own = pol.copy(alloc)?;
+    match emit(alloc, &compiled, own, topology, stamp, band_of(place)) {
         Ok(version) => Ok(version),
         Err(EmitError::Fault(fault)) => Err(AnswerError::Fault(Fault::Emit { policy, fault })),
         Err(EmitError::Memory) => Err(AnswerError::Memory),

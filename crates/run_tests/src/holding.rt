@@ -1,4 +1,5 @@
 // A gate that holds one worker until another has gone on.
+use controller_program::Onlooker;
 use std::sync::{Mutex, Wait};
 use std::thread;
 use worker_desk::{Gate, Kind, Place};
@@ -80,6 +81,8 @@ impl<R: Wait> Holding<R> {
         }
     }
 }
+
+impl<R: Wait + Drop> Onlooker for Holding<R> {}
 
 impl<R: Wait + Drop> Gate for Holding<R> {
     fn pass(&self, worker: usize, place: Place) {

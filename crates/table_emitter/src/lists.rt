@@ -18,7 +18,7 @@ use crate::patterns::{cells_of, pattern_of};
 use crate::sizes::are_small;
 use fdd_nodes::{Leaf, Node, Path};
 use leaf_actions::{ActionsError, PortView, actions};
-use nk_values::{Actions, EmitFault, FieldSet, MOST_PORT_ROWS, Pattern, Row, RowList};
+use nk_values::{Actions, EmitFault, FieldSet, Lit, MOST_PORT_ROWS, Pattern, Row, RowList};
 use std::alloc::{AllocError, Global};
 
 // The rows of a port: those of all paths of a diagram, with priorities from `top` down.
@@ -51,6 +51,7 @@ struct Lister {
 
 impl Lister {
     // Adds the rows of the paths that go on from the path. A part that no well-shaped packet reaches has none.
+    #[cycle(walk)]
     fn walk(
         &mut self,
         alloc: Global,
@@ -76,15 +77,69 @@ impl Lister {
                 list_leaf(alloc, &self.path, leaf, kinds, view, top, &mut self.rows)
             }
             Node::Test(l, t, e) => {
-                self.path.push_true(l)?;
-                self.walk(alloc, t, kinds.after_true(l), view, top)?;
-                back_over_true(&mut self.path);
-                self.path.push_false(l)?;
-                self.walk(alloc, e, kinds.after_false(l), view, top)?;
-                back_over_false(&mut self.path);
+                self.walk_true(alloc, l, t, kinds.after_true(l), view, top)?;
+                self.walk_false(alloc, l, e, kinds.after_false(l), view, top)?;
                 Ok(())
             }
         }
+    }
+
+    // Adds the rows of the paths that go on where a test holds, if some well-shaped packet takes one of them.
+    #[cycle(walk)]
+    fn walk_true(
+        &mut self,
+        alloc: Global,
+        l: &Lit,
+        node: &Node,
+        kinds: Kinds,
+        view: &PortView,
+        top: u16,
+    ) -> Result<(), EmitError>
+        requires made { CanBeMade (tree node.now) }
+        requires stamp { IsVlanId view.now.stamp }
+        requires top { 16000 ≤ top }
+        requires kinds { kinds ≡ kinds_of (with_true self.old.path l.now) }
+        requires few { length self.old.rows ≤ 16000 }
+        ensures path { OnOk result (self.new.path ≡ self.old.path) }
+        ensures rows { OnOk result (Adds view.now top (entries (with_true self.old.path l.now) (tree node.now)) self.old.rows self.new.rows) }
+        ensures bars { IfErr result (Bars view.now (length self.old.rows) (entries (with_true self.old.path l.now) (tree node.now))) }
+    {
+        if kinds.is_void() {
+            return Ok(());
+        }
+        self.path.push_true(l)?;
+        self.walk(alloc, node, kinds, view, top)?;
+        back_over_true(&mut self.path);
+        Ok(())
+    }
+
+    // The same of the paths that go on where the test doesn't hold.
+    #[cycle(walk)]
+    fn walk_false(
+        &mut self,
+        alloc: Global,
+        l: &Lit,
+        node: &Node,
+        kinds: Kinds,
+        view: &PortView,
+        top: u16,
+    ) -> Result<(), EmitError>
+        requires made { CanBeMade (tree node.now) }
+        requires stamp { IsVlanId view.now.stamp }
+        requires top { 16000 ≤ top }
+        requires kinds { kinds ≡ kinds_of (with_false self.old.path l.now) }
+        requires few { length self.old.rows ≤ 16000 }
+        ensures path { OnOk result (self.new.path ≡ self.old.path) }
+        ensures rows { OnOk result (Adds view.now top (entries (with_false self.old.path l.now) (tree node.now)) self.old.rows self.new.rows) }
+        ensures bars { IfErr result (Bars view.now (length self.old.rows) (entries (with_false self.old.path l.now) (tree node.now))) }
+    {
+        if kinds.is_void() {
+            return Ok(());
+        }
+        self.path.push_false(l)?;
+        self.walk(alloc, node, kinds, view, top)?;
+        back_over_false(&mut self.path);
+        Ok(())
     }
 }
 

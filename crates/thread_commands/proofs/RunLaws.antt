@@ -29,7 +29,10 @@ use Rattle.program_answer.specs.Called.{Change, HasRisen, NetSeen, SourceSeen}
 use Rattle.program_answer.specs.Input.{IsAccepted, IsAcceptedAs, IsRefused}
 use Rattle.program_answer.specs.Worlds.{IsWorldAnswer, start_of}
 use Rattle.program_answer.proofs.Stopping.{reads_more}
-use Rattle.thread_commands.specs.Run.{AreGathered, AreStreams, AreToldSince, HasNext, IsRanAs, IsRunAnswer, RunStops, TellsCut, HaltsLast, HasRisenBy, line_of, lines_of, many_broken}
+use Rattle.fleet_workers.specs.Watching.{AreSightsOf, Post}
+use Rattle.watch_text.specs.Reads.{posts_text}
+use Rattle.thread_commands.specs.Run.{AreGathered, AreStreams, AreToldSince, HasNext, IsRunAnswer, IsRunBy, RunStops, TellsCut, HaltsLast, HasRisenBy, line_of, lines_of, many_broken}
+use Rattle.thread_commands.specs.Watch.{IsWatchAnswer}
 use Rattle.thread_commands.proofs.Gathering.{first-is}
 use Rattle.thread_commands.proofs.KeptEnds.{kept-last}
 use Rattle.thread_commands.proofs.Losing.{halts-last, losses-broken, rose-fewer}
@@ -78,28 +81,21 @@ start-rejoins d versions w is = ap (λ (x : WorldValue). x.fleet.control.rejoins
 loss-halts : LossesCount → LastLossHalts → (d : Doc) (versions : List Version) → HaltsLast d versions
 loss-halts counting last d versions before v x s runs lost halts = halts-last counting last (start_of d versions) before v x s runs lost halts ∙ start-rejoins d versions (start_of d versions) refl
 
--- the report of a run is that of its journal and world
-pub ran_as : {E : Type 0} (named faults : E → ℕ) (received : E → Option (List ℕ)) (net : NetSeen) (d : Doc) (versions : List Version) (s0 w : WorldValue) (journal : List Entry) (ends : List E) (lines : List Line) (a : Answer)
-    → s0 ≡ start_of d versions → EveryRunIsGood s0 → LossesCount → LastLossHalts → HaltsStay → IsJournal named faults received s0 w journal ends → AreCounted faults ends net.broken → HasRisenBy (many_broken faults ends) net.broken → AreGathered received ends net.gathered → lines ≡ lines_of d → IsOver lines w → IsWorldAnswer w (events_of journal) a → IsRanAs net d versions a
-ran_as named faults received net d versions s0 w journal ends lines a is good counting last stay j counts many g same over r = let done : IsOver (lines_of d) w = subst (λ (ls : List Line). IsOver ls w) same over in record {
-  halts = is_some w.fleet.control.halt;
-  status = r.status;
-  run = record {
-    events = events_of journal;
-    world = w;
-    runs = subst (λ (x : WorldValue). Runs x (events_of journal) w) is j.runs;
-    good = good (events_of journal) w j.runs;
-    ends = refl;
-    came = done.came;
-    spent = done.spent;
-    done = λ still. still-last w still done.settled;
-    lost = was-lost named faults received s0 w journal ends net.broken j counts;
-    costs = all-cost named faults received s0 w journal ends net.broken j many;
-    last = loss-halts counting last d versions;
-    foreign = was-foreign named faults received s0 w journal ends net.gathered stay j g;
-    text_is = r.report;
-  };
-}
+-- what a run of threads gave is a run of the document's policies
+pub ran_by : {E : Type 0} (named faults : E → ℕ) (received : E → Option (List ℕ)) (net : NetSeen) (d : Doc) (versions : List Version) (s0 w : WorldValue) (journal : List Entry) (ends : List E) (lines : List Line) (events : List Event)
+    → s0 ≡ start_of d versions → EveryRunIsGood s0 → LossesCount → LastLossHalts → HaltsStay → IsJournal named faults received s0 w journal ends → AreCounted faults ends net.broken → HasRisenBy (many_broken faults ends) net.broken → AreGathered received ends net.gathered → lines ≡ lines_of d → IsOver lines w → events ≡ events_of journal → IsRunBy events w net d versions
+ran_by named faults received net d versions s0 w journal ends lines events is good counting last stay j counts many g same over of =
+    let done : IsOver (lines_of d) w = subst (λ (ls : List Line). IsOver ls w) same over in subst (λ (es : List Event). IsRunBy es w net d versions) (sym of) (record {
+      runs = subst (λ (x : WorldValue). Runs x (events_of journal) w) is j.runs;
+      good = good (events_of journal) w j.runs;
+      came = done.came;
+      spent = done.spent;
+      done = λ still. still-last w still done.settled;
+      lost = was-lost named faults received s0 w journal ends net.broken j counts;
+      costs = all-cost named faults received s0 w journal ends net.broken j many;
+      last = loss-halts counting last d versions;
+      foreign = was-foreign named faults received s0 w journal ends net.gathered stay j g;
+    })
 
 -- one line more
 pub lines_more : (ls : List PacketLine) (l : PacketLine) → map line_of (ls ++ l ∷ []) ≡ map line_of ls ++ line_of l ∷ []
@@ -112,11 +108,24 @@ starts_as d versions w hops capacity rejoins a b c e = a ∙ (λ i. start d.topo
 
 -- ---- of a source
 
-pub run_answers : (s : SourceSeen) (net : NetSeen) (d : Doc) (versions : List Version) (a : Answer) → Reads (λ xs. IsAcceptedAs xs d versions) s → IsRanAs net d versions a → IsRunAnswer s net a.status a.text
-run_answers s net d versions a read h = record {
-  halts = h.halts;
+pub run_answers : (s : SourceSeen) (net : NetSeen) (d : Doc) (versions : List Version) (events : List Event) (w : WorldValue) (a : Answer) → Reads (λ xs. IsAcceptedAs xs d versions) s → IsRunBy events w net d versions → IsWorldAnswer w events a → IsRunAnswer s net a.status a.text
+run_answers s net d versions events w a read run h = record {
+  halts = is_some w.fleet.control.halt;
   status_is = h.status;
-  read = reads_more _ _ s (λ xs accepted. record { document = d; versions = versions; accepted = accepted; run = h.run }) read;
+  read = reads_more _ _ s (λ xs accepted. record { document = d; versions = versions; accepted = accepted; run = record { events = events; world = w; run = run; ends = refl; text_is = h.report } }) read;
+}
+
+pub watch_answers : (s : SourceSeen) (net : NetSeen) (d : Doc) (versions : List Version) (events : List Event) (w : WorldValue) (posts : List Post) (report : Answer) (text : List ℕ)
+    → Reads (λ xs. IsAcceptedAs xs d versions) s → IsRunBy events w net d versions → IsWorldAnswer w events report → AreSightsOf (start_of d versions) events posts → text ≡ report.text ++ posts_text posts → IsWatchAnswer s net report.status text
+watch_answers s net d versions events w posts report text read run h seen is = record {
+  halts = is_some w.fleet.control.halt;
+  status_is = h.status;
+  read = reads_more _ _ s (λ xs accepted. record {
+    document = d;
+    versions = versions;
+    accepted = accepted;
+    watch = record { events = events; world = w; run = run; ends = refl; report = report.text; report_is = h.report; posts = posts; seen = seen; text_is = is };
+  }) read;
 }
 
 -- a document is accepted whose versions are known

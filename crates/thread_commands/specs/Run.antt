@@ -5,7 +5,7 @@ use Rattle.nk_values.specs.Members.{IsIn}
 use Rattle.document_text.specs.declared.document.PacketLine.{PacketLine}
 use Rattle.document_text.specs.Documents.{Doc}
 use Rattle.policy_rows.specs.declared.version.Version.{Version}
-use Rattle.report_text.specs.Reports.{IsWorldReport}
+use Rattle.watch_text.specs.Reports.{IsWorldReport}
 use Rattle.world_journal.specs.Side.{Side}
 use Rattle.value_text.specs.declared.fault.Fault.{Fault}
 use Rattle.value_text.specs.declared.fault.Fault.TheVariants as fault
@@ -77,20 +77,24 @@ HasRisenBy n count = min (count.before + n) (2 ^ 64 - 1) ≤ count.after
 abbrev pub HaltsLast : Doc → List Version → Type 0
 HaltsLast d versions = (before : List Event) (v x : WorldValue) (s : ℕ) → Runs (start_of d versions) before v → Step v (event.Controller (of_controller.Lost s)) x → x.fleet.control.halt ≢ None → losses before ≡ d.settings.rejoins
 
--- The events lead from the start of the document's policies to this world, and each packet that came in is handled by one policy. Each line came in once and no copy may take another hop, also if the updates stand still. If they do not, the last policy handles all packets. Each lost session cost a broken end: the net's count of these rose by as many. The updates stand still by a lost session only if as many as the document lets return were lost before it. Foreign bytes came next in the first stream that the net told in this call, behind as many messages as that side of the switch was told before in its session. They halt, so their end is kept last and given back first. A net tells no names of ends, so none is said. The text is the report of the events and of that world; `halts` says whether the updates stand still.
-pub record IsRunOf (halts : Bool) (net : NetSeen) (d : Doc) (versions : List Version) (text : List ℕ) : Type 0 where
-  pub events : List Event
-  pub world : WorldValue
+-- The events lead from the start of the document's policies to this world, and each packet that came in is handled by one policy. Each line came in once and no copy may take another hop, also if the updates stand still. If they do not, the last policy handles all packets. Each lost session cost a broken end: the net's count of these rose by as many. The updates stand still by a lost session only if as many as the document lets return were lost before it. Foreign bytes came next in the first stream that the net told in this call, behind as many messages as that side of the switch was told before in its session. They halt, so their end is kept last and given back first. A net tells no names of ends, so none is said.
+pub record IsRunBy (events : List Event) (world : WorldValue) (net : NetSeen) (d : Doc) (versions : List Version) : Type 0 where
   pub runs : Runs (start_of d versions) events world
   pub good : AreGood world
-  pub ends : is_some world.fleet.control.halt ≡ halts
   pub came : HaveAllCome (lines_of d) world
   pub spent : AreSpent world
-  pub done : halts ≡ false → world.fleet.control.phase ≡ last_phase world
+  pub done : is_some world.fleet.control.halt ≡ false → world.fleet.control.phase ≡ last_phase world
   pub lost : (s : ℕ) → IsIn events (event.Controller (of_controller.Lost s)) → HasRisen net.broken
   pub costs : HasRisenBy (losses events) net.broken
   pub last : HaltsLast d versions
   pub foreign : (before rest : List Event) (s : ℕ) (side : Side) (got : List ℕ) → events ≡ before ++ event.Foreign s side got ∷ rest → AreToldSince net.gathered (HasNext (told s side before) got)
+
+-- The text is the report of a run of the document's policies and of the world that it led to; `halts` says whether the updates stand still there.
+pub record IsRunOf (halts : Bool) (net : NetSeen) (d : Doc) (versions : List Version) (text : List ℕ) : Type 0 where
+  pub events : List Event
+  pub world : WorldValue
+  pub run : IsRunBy events world net d versions
+  pub ends : is_some world.fleet.control.halt ≡ halts
   pub text_is : IsWorldReport world events text
 
 -- ---- of a source
@@ -132,12 +136,6 @@ RunStops source pairs threads (error.Fault f) = RunStopsBy source pairs threads 
 RunStops source pairs threads error.Memory = IsSame source.faults
 
 -- ---- of a document, as the calls tell it
-
--- the report of a run, with the status by how it ends
-pub record IsRanAs (net : NetSeen) (d : Doc) (versions : List Version) (a : Answer) : Type 0 where
-  pub halts : Bool
-  pub status : a.status ≡ report_status halts
-  pub run : IsRunOf halts net d versions a.text
 
 -- which count rose; nothing is said of memory
 abbrev pub TellsCut : Change ℕ → Change ℕ → AnswerError → Type 0

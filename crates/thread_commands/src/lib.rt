@@ -1,7 +1,11 @@
-//! The commands that need links and threads, each a module and a file of definitions: `run`.
+//! The commands that need links and threads, each a module and a file of definitions: `run` and `watch`.
 #![tactic(auto)]
 
+mod document_run;
 mod kept;
 mod run;
+mod watch;
 
+pub use fleet_workers::{Onlooker, Seen};
 pub use run::run_answer;
+pub use watch::watch_answer;

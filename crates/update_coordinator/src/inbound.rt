@@ -60,7 +60,7 @@ impl Coordinator {
         self.sites[place].is_away()
     }
 
-    /// Takes the news that the session with the switch at a place is lost. Where no more may be lost, the updates stand
+    /// Takes the news that the session with the switch at a place is lost. If no more may be lost, the updates stand
     /// still.
     pub fn lost(&mut self, place: usize) -> Result<(), Refusal>
         requires { place < length self.old.sites }

@@ -92,7 +92,7 @@ impl Site {
         self.next
     }
 
-    /// Takes the news that a phase begins, which has a batch or none: the batch is sent where the session is up.
+    /// Takes the news that a phase begins, which has a batch or none: the batch is sent if the session is up.
     pub fn begin_phase(&mut self, works: bool)
         ensures { self.new ≡ begun_site works self.old }
     {
@@ -165,7 +165,7 @@ impl Site {
         !self.greets && !self.asks && self.sends
     }
 
-    /// Gives HELLO or the request for the features, with the next number, where they come first.
+    /// Gives HELLO or the request for the features, with the next number, if they come first.
     pub fn greet(&mut self) -> Option<Message>
         requires small { self.old.sent + 1 < 2 ^ 32 }
         ensures none { IfNone result ((self.old.greets ≡ false) × (self.old.asks ≡ false) × (self.new ≡ self.old)) }

@@ -20,7 +20,7 @@ pub(crate) fn count_all(alloc: Global, world: &World) -> Result<Vec<u64>, AllocE
     Ok(counts)
 }
 
-/// Counts anew where an event has led to this world.
+/// Counts anew after an event that has led to this world.
 pub(crate) fn recount(counts: &mut [u64], world: &World, event: &Event)
     ensures { (w : WorldValue) → AreCounts w counts.old → Step w event.now world.now → AreCounts world.now counts.new }
 {

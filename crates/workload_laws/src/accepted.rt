@@ -35,7 +35,7 @@ pub fn version_of(
     let compiled = diagram_of(alloc, pol)?;
     see_node(compiled.diagram().root());
     let _switches = topology.switches();
-    match emit(alloc, &compiled, pol, topology, stamp, band) {
+    match emit(alloc, &compiled, pol.copy(alloc)?, topology, stamp, band) {
         Ok(version) => Ok(version),
         Err(EmitError::Memory) => Err(AllocError),
         Err(EmitError::Fault(_)) => unreachable!(),

@@ -23,7 +23,8 @@ use Rattle.std.below.std_heap.proofs.GlobalAllocator.TheSendSync as heaps
 use Rattle.nk_values.specs.contracts.lit.Lit as lit
 use Rattle.nk_values.proofs.lit.Lit.TheSendSync as lits
 use Rattle.topology_model.proofs.topology.Topology.TheSendSync as topologies
-use Rattle.world_journal.proofs.Passing.{coordinator-send, flights-send, arrival-send}
+use Rattle.update_coordinator.proofs.Crossing.{coordinator-send}
+use Rattle.world_journal.proofs.Passing.{flights-send, arrival-send}
 use Rattle.world_core.specs.contracts.end.End as end_
 use Rattle.world_core.proofs.end.End.TheSendSync as ends
 use Rattle.world_core.specs.contracts.arrival.Arrival as arrival
@@ -33,6 +34,8 @@ use Rattle.world_journal.specs.contracts.held.Held as held
 use Rattle.world_journal.specs.contracts.held.Held.TheInside as held_inside
 use Rattle.world_journal.specs.contracts.run.Run as run
 use Rattle.world_journal.specs.contracts.run.Run.TheInside as run_inside
+use Rattle.world_journal.specs.contracts.watched.Watched as watched
+use Rattle.world_journal.specs.contracts.watched.Watched.TheInside as watched_inside
 use Rattle.world_journal.specs.contracts.run_desk.RunDesk as desk
 use Rattle.world_journal.specs.contracts.entry.Entry as entry
 use Rattle.world_journal.proofs.entry.Entry.TheSendSync as entries
@@ -41,6 +44,8 @@ use Rattle.world_journal.proofs.line.Line.TheSendSync as lines
 use Rattle.world_journal.specs.contracts.run_desk.Bells as bell
 use Rattle.world_journal.proofs.run_desk.Bells.TheSendSync as bells
 use Rattle.world_journal.specs.declared.name.RunName as RunName
+use Rattle.world_journal.specs.declared.poster.Poster as Poster
+use Rattle.status_board.specs.declared.history.BoardName as BoardName
 use Rattle.std.specs.declared.sync.ledger.Ledger as Ledger
 use Rattle.outside_net.specs.declared.link.Link as Link
 use Rattle.std.proofs.sync.Mutex.TheSendSync as locks
@@ -169,18 +174,18 @@ pub world-send : IsSend world.the_row
 world-send = view_send inside.the_row _ _ _ _ inside-send
 
 -- ---- a run behind its lock
-held-parts : (L E : RattleType) (a : RunName.Ghosts L.Denot) (b : Ledger.Ghosts L.Denot) (c : Link.Ghosts E.Denot) → IsSend E → IsSend (held_inside.the_row L E a b c)
-held-parts L E a b c e = declared_send (held_inside.the_type L E a b c) (world-send, (vec-send entry.the_row entries.the_send, (vec-send E e, (books.the_send L b, tt))))
+held-parts : (L E : RattleType) (a : RunName.Ghosts L.Denot) (b : Ledger.Ghosts L.Denot) (d : BoardName.Ghosts L.Denot) (c : Link.Ghosts E.Denot) → IsSend E → IsSend (held_inside.the_row L E a b d c)
+held-parts L E a b d c e = declared_send (held_inside.the_type L E a b d c) (world-send, (vec-send entry.the_row entries.the_send, (vec-send E e, (books.the_send L b, tt))))
 
-held-send : (L E : RattleType) (a : RunName.Ghosts L.Denot) (b : Ledger.Ghosts L.Denot) (c : Link.Ghosts E.Denot) → IsSend E → IsSend (held.the_row L E a b c)
-held-send L E a b c e = view_send (held_inside.the_row L E a b c) _ _ _ _ (held-parts L E a b c e)
+held-send : (L E : RattleType) (a : RunName.Ghosts L.Denot) (b : Ledger.Ghosts L.Denot) (d : BoardName.Ghosts L.Denot) (c : Link.Ghosts E.Denot) → IsSend E → IsSend (held.the_row L E a b d c)
+held-send L E a b d c e = view_send (held_inside.the_row L E a b d c) _ _ _ _ (held-parts L E a b d c e)
 
 bits-send : IsSend (vecs.the_row bool global.the_row heap.ghosts)
 bits-send = vec-send bool (search sendable)
 
-run-parts : (L E : RattleType) (a : RunName.Ghosts L.Denot) (b : Ledger.Ghosts L.Denot) (c : Link.Ghosts E.Denot) → IsSend E → IsSend (run_inside.the_row L E a b c)
-run-parts L E a b c e = declared_send (run_inside.the_type L E a b c) (
-  held-send L E a b c e,
+run-parts : (L E : RattleType) (a : RunName.Ghosts L.Denot) (b : Ledger.Ghosts L.Denot) (d : BoardName.Ghosts L.Denot) (c : Link.Ghosts E.Denot) → IsSend E → IsSend (run_inside.the_row L E a b d c)
+run-parts L E a b d c e = declared_send (run_inside.the_type L E a b d c) (
+  held-send L E a b d c e,
   (
     vec-send line.the_row lines.the_send,
     (
@@ -226,20 +231,27 @@ run-parts L E a b c e = declared_send (run_inside.the_type L E a b c) (
   ),
 )
 
-run-send : (L E : RattleType) (a : RunName.Ghosts L.Denot) (b : Ledger.Ghosts L.Denot) (c : Link.Ghosts E.Denot) → IsSend E → IsSend (run.the_row L E a b c)
-run-send L E a b c e = view_send (run_inside.the_row L E a b c) _ _ _ _ (run-parts L E a b c e)
+run-send : (L E : RattleType) (a : RunName.Ghosts L.Denot) (b : Ledger.Ghosts L.Denot) (d : BoardName.Ghosts L.Denot) (c : Link.Ghosts E.Denot) → IsSend E → IsSend (run.the_row L E a b d c)
+run-send L E a b d c e = view_send (run_inside.the_row L E a b d c) _ _ _ _ (run-parts L E a b d c e)
 
-pub desk-send : (R L E : RattleType) (a : RunName.Ghosts L.Denot) (b : Ledger.Ghosts L.Denot) (c : Link.Ghosts E.Denot) → IsSend R → IsSend E → IsSend (desk.the_row R L E a b c)
-desk-send R L E a b c r e =
-    let locked = options.the_send (run.the_row L E a b c) (run-send L E a b c e) in
-    let lock = locks.the_send (option.the_row (run.the_row L E a b c)) locked in
-    let shared = locks.the_sync (option.the_row (run.the_row L E a b c)) locked in
-    declared_send (desk.the_type R L E a b c) (
+watched-parts : (L P E : RattleType) (a : RunName.Ghosts L.Denot) (b : Ledger.Ghosts L.Denot) (d : BoardName.Ghosts L.Denot) (q : Poster.Ghosts P.Denot) (c : Link.Ghosts E.Denot) → IsSend P → IsSend E → IsSend (watched_inside.the_row L P E a b d q c)
+watched-parts L P E a b d q c p e = declared_send (watched_inside.the_type L P E a b d q c) (run-send L E a b d c e, (as_row_send (row_field P) p, tt))
+
+watched-send : (L P E : RattleType) (a : RunName.Ghosts L.Denot) (b : Ledger.Ghosts L.Denot) (d : BoardName.Ghosts L.Denot) (q : Poster.Ghosts P.Denot) (c : Link.Ghosts E.Denot) → IsSend P → IsSend E → IsSend (watched.the_row L P E a b d q c)
+watched-send L P E a b d q c p e = view_send (watched_inside.the_row L P E a b d q c) _ _ _ _ (watched-parts L P E a b d q c p e)
+
+pub desk-send : (R L P E : RattleType) (a : RunName.Ghosts L.Denot) (b : Ledger.Ghosts L.Denot) (d : BoardName.Ghosts L.Denot) (q : Poster.Ghosts P.Denot) (c : Link.Ghosts E.Denot) → IsSend R → IsSend P → IsSend E → IsSend (desk.the_row R L P E a b d q c)
+desk-send R L P E a b d q c r p e =
+    let row = watched.the_row L P E a b d q c in
+    let locked = options.the_send row (watched-send L P E a b d q c p e) in
+    let lock = locks.the_send (option.the_row row) locked in
+    let shared = locks.the_sync (option.the_row row) locked in
+    declared_send (desk.the_type R L P E a b d q c) (
       as_row_send (row_field R) r,
       (
         as_row_send global.the_field globals.the_field_send,
         (
-          arcs.the_send (mutex.the_row (option.the_row (run.the_row L E a b c))) global.the_row heap.ghosts lock globals.the_send shared globals.the_sync heaps.the_frees,
+          arcs.the_send (mutex.the_row (option.the_row row)) global.the_row heap.ghosts lock globals.the_send shared globals.the_sync heaps.the_frees,
           (
             arcs.the_send bell.the_row global.the_row heap.ghosts bells.the_send globals.the_send bells.the_sync globals.the_sync heaps.the_frees,
             tt,

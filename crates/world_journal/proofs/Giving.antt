@@ -1,5 +1,5 @@
 -- What is given to a worker, by the state that is found.
-use Rattle.std.proofs.Common.{◌≡◌, ℕ, true, false, IfOk, Result, Ok, Err, List, inl, Option, None, Some, sym, subst, ◌∙◌}
+use Rattle.std.proofs.Common.{◌≡◌, ℕ, true, false, IfOk, Result, Ok, Err, List, inl, None, Some, subst}
 use Rattle.update_coordinator.specs.declared.cause.Side.{Side}
 use Rattle.worker_desk.specs.Answers.{OnNewEnd}
 use Rattle.worker_desk.specs.declared.desk.Given.{Given}

@@ -5,9 +5,11 @@ pub mod Giving
 pub mod Growing
 pub mod Marks
 pub mod Numbers
+pub mod Onward
 pub mod Passing
-pub mod Searching
+pub mod Posting
 pub mod Returning
-pub mod Sharing
+pub mod Roles
+pub mod Searching
 pub mod Staying
 pub mod Telling

@@ -1,10 +1,10 @@
--- What holds histories may go to another thread: copies in flight, packets that came in, and the coordinator.
+-- What holds histories may go to another thread: copies in flight, and packets that came in.
 use denote.RattleType.{RattleType}
 use denote.Builtin.{u64, usize}
 use denote.Hole.{as_row}
-use denote.Struct.Field.{Field, u64-field, usize-field, u16-field}
+use denote.Struct.Field.{Field, u64-field, usize-field}
 use denote.Param.Send.{IsSend, view_send, sendable}
-use denote.Param.SendFields.{declared_send, variants_send, as_row_send}
+use denote.Param.SendFields.{declared_send, as_row_send}
 use Rattle.std.specs.contracts.alloc.Global as global
 use Rattle.std.specs.contracts.impls.GlobalAllocator.TheImpl as heap
 use Rattle.std.specs.contracts.vec.Vec as vecs
@@ -13,7 +13,6 @@ use Rattle.std.specs.contracts.collections.HashMap as maps
 use Rattle.std.proofs.vec.Vec.TheSendSync as listed
 use Rattle.std.proofs.collections.VecDeque.TheSendSync as deque
 use Rattle.std.proofs.collections.HashMap.TheSendSync as map
-use Rattle.std.proofs.option.Option.TheSendSync as options
 use Rattle.std.proofs.alloc.Global.TheSendSync as globals
 use Rattle.std.below.std_heap.proofs.GlobalAllocator.TheSendSync as heaps
 use Rattle.std.specs.contracts.hash.BuildHasherDefault as builder
@@ -36,28 +35,10 @@ use Rattle.flight_queues.specs.contracts.flights.Flights as flights
 use Rattle.flight_queues.specs.contracts.flights.Flights.TheInside as flights_inside
 use Rattle.world_core.specs.contracts.arrival.Arrival as arrival
 use Rattle.world_core.specs.contracts.arrival.Arrival.TheInside as arrival_inside
-use Rattle.update_coordinator.specs.contracts.cause.Cause as cause
-use Rattle.update_coordinator.specs.contracts.coordinator.Coordinator as coordinator
-use Rattle.update_coordinator.specs.contracts.coordinator.Coordinator.TheInside as coordinator_inside
-use Rattle.update_coordinator.proofs.cause.Side.TheSendSync as sides
-use Rattle.update_coordinator.proofs.phase.Phase.TheSendSync as phases
 use Rattle.update_coordinator.proofs.phase.Entry.TheSendSync as entries
-use Rattle.update_coordinator.specs.contracts.site.Site as site
-use Rattle.update_coordinator.proofs.site.Site.TheSendSync as sites
-use Rattle.update_plan.specs.contracts.cursor.Span as span
-use Rattle.update_plan.proofs.cursor.Span.TheSendSync as spans
-use Rattle.update_plan.specs.contracts.cursor.Cursor as cursor
-use Rattle.update_plan.proofs.cursor.Cursor.TheSendSync as cursors
-use Rattle.barrier_tracker.proofs.tracker.Tracker.TheSendSync as trackers
-use Rattle.session_core.proofs.session.SessionFault.TheSendSync as faults
-use Rattle.openflow_wire.specs.contracts.octets.Octets as octets
-use Rattle.openflow_wire.proofs.octets.Octets.TheSendSync as octet
-use Rattle.openflow_wire.proofs.fault.WireFault.TheSendSync as wires
-use Rattle.nk_values.specs.contracts.rows.Rows as rows
-use Rattle.nk_values.proofs.rows.Rows.TheSendSync as rowed
 use Rattle.flight_queues.specs.contracts.numbered.Mark as mark
 use Rattle.flight_queues.proofs.numbered.Mark.TheSendSync as marks
-use Rattle.world_journal.proofs.Sharing.{history-send}
+use Rattle.update_coordinator.proofs.Sharing.{history-send}
 
 pub flight-send : IsSend flight.the_row
 flight-send = declared_send flight.the_type (history-send, (tags.the_send, (as_row_send u64-field (search sendable), (as_row_send usize-field (search sendable), tt))))
@@ -89,39 +70,3 @@ flights-send = view_send flights_inside.the_row _ _ _ _ flights-inside
 
 pub arrival-send : IsSend arrival.the_row
 arrival-send = view_send arrival_inside.the_row _ _ _ _ (declared_send arrival_inside.the_type (packets.the_send, (tags.the_send, (entries.the_send, (vec-send history.the_row history-send, tt)))))
-
-cause-send : IsSend cause.the_row
-cause-send = variants_send cause.enum ((as_row_send u16-field (search sendable), tt), ((as_row_send u16-field (search sendable), (faults.the_send, tt)), ((as_row_send u16-field (search sendable), (sides.the_send, (options.the_send octets.the_row octet.the_send, (octet.the_send, tt)))), ((as_row_send u16-field (search sendable), (wires.the_send, tt)), ((history-send, tt), tt)))))
-
-coordinator-inside : IsSend coordinator_inside.the_row
-coordinator-inside = declared_send coordinator_inside.the_type (
-  phases.the_send,
-  (
-    options.the_send cause.the_row cause-send,
-    (
-      vec-send rows.the_row rowed.the_send,
-      (
-        vec-send usize (search sendable),
-        (
-          vec-send site.the_row sites.the_send,
-          (
-            vec-send span.the_row spans.the_send,
-            (
-              vec-send cursor.the_row cursors.the_send,
-              (
-                trackers.the_send,
-                (
-                  as_row_send usize-field (search sendable),
-                  tt,
-                ),
-              ),
-            ),
-          ),
-        ),
-      ),
-    ),
-  ),
-)
-
-pub coordinator-send : IsSend coordinator.the_row
-coordinator-send = view_send coordinator_inside.the_row _ _ _ _ coordinator-inside

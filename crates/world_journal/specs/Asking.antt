@@ -1,10 +1,11 @@
 -- What a desk asks of the run that lies under its lock.
 use Rattle.std.specs.Prelude.{◌≡◌, ℕ, ◌+◌, ◌<◌, true, Option, Some, None}
 use Rattle.world_journal.specs.Runs.{RunValue}
+use Rattle.world_journal.specs.Watching.{WatchedValue, DidAndPosted}
 
--- There is a run, and the call did this to it; or it was taken out and stays so, and the call says this.
-abbrev pub OnRun : {E : Type 0} → (RunValue E → RunValue E → Type 0) → Type 0 → Option (RunValue E) → Option (RunValue E) → Type 0
-OnRun Does Without (Some old) (Some new) = Does old new
+-- There is a run, the call did this to it, and its step was posted; or it was taken out and stays so, and the call says this.
+abbrev pub OnRun : {E : Type 0} → (RunValue E → RunValue E → Type 0) → Type 0 → Option (WatchedValue E) → Option (WatchedValue E) → Type 0
+OnRun Does Without (Some old) (Some new) = DidAndPosted Does old new
 OnRun Does Without None None = Without
 OnRun Does Without _ _ = ⊥
 

@@ -1,5 +1,5 @@
 -- What the calls of a session's or a switch's worker answer, by the state that they find.
-use Rattle.std.specs.Prelude.{◌≡◌, ℕ, ◌+◌, ◌-◌, ◌<◌, ◌≤◌, ◌⊎◌, leb, ltb, if◌then◌else◌, Bool, true, false, List, [], ◌∷◌, ◌++◌, Option, Some, None, slice_get, slice_set}
+use Rattle.std.specs.Prelude.{◌≡◌, ℕ, ◌+◌, ◌-◌, ◌<◌, ◌≤◌, ◌⊎◌, ◌==◌, leb, ltb, if◌then◌else◌, Bool, true, false, List, [], ◌∷◌, ◌++◌, Option, Some, None, slice_get, slice_set}
 use Rattle.worker_desk.specs.declared.gate.Kind.{Kind}
 use Rattle.worker_desk.specs.declared.gate.Kind.TheVariants as kind
 use Rattle.update_coordinator.specs.declared.cause.Side.{Side}
@@ -19,6 +19,8 @@ use Rattle.worker_desk.specs.declared.desk.Told.{Told}
 use Rattle.worker_desk.specs.declared.desk.Told.TheVariants.{Back, Kept, Memory}
 use Rattle.worker_desk.specs.declared.desk.Shut.{Shut}
 use Rattle.worker_desk.specs.declared.desk.Shut.TheVariants as shut
+use Rattle.world_journal.specs.declared.seat.Role.{Role}
+use Rattle.world_journal.specs.declared.seat.Role.TheVariants as role
 use Rattle.world_journal.specs.Journals.{entry, told_before, present_name}
 use Rattle.world_journal.specs.declared.line.Line.{Line}
 use Rattle.world_journal.specs.Runs.{RunValue, Stops, waits, marking, end_at, taking, dropping, laying}
@@ -35,6 +37,10 @@ side_of n w = if leb w n then side.Controller else side.Switch
 -- the place of its switch
 abbrev pub place_of : ℕ → ℕ → ℕ
 place_of n w = if leb w n then w - 1 else w - n - 1
+
+-- what worker w does
+abbrev pub role_of : ℕ → ℕ → Role
+role_of n w = if w == 0 then role.Caller else (if leb w (n + n) then role.At (side_of n w) (place_of n w) else role.Traffic)
 
 -- the same worker, with as many parts
 abbrev pub IsUnmoved : ℕ → ℕ → ℕ → ℕ → Type 0

@@ -3,6 +3,7 @@ pub mod Journals
 pub mod Cuts
 pub mod Arriving
 pub mod Runs
+pub mod Watching
 pub mod Calls
 pub mod Moves
 pub mod Finishing

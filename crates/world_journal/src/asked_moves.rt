@@ -1,5 +1,5 @@
-// What the caller and the workers that bring packets in ask of the run that lies under the lock. If it was taken out,
-// nothing happens and whoever asks is to stop.
+// What the caller and the workers that bring packets in ask of the run that lies under the lock, with the post of the step
+// that was made. If the run was taken out, nothing happens and whoever asks is to stop.
 ghost use Rattle.std.specs.Prelude.{◌≡◌, IfOk, OnErr};
 ghost use Rattle.world_journal.specs.Asking.{OnRun};
 ghost use Rattle.world_journal.specs.Calls.{IsUnmoved};
@@ -12,15 +12,16 @@ ghost use Rattle.world_journal.specs.declared.updates.Update.TheVariants as upda
 
 use crate::moves::Did;
 use crate::name::RunName;
-use crate::run::Run;
+use crate::poster::Poster;
 use crate::seat::Seat;
 use crate::updates::{Absence, Update};
+use crate::watched::{Watched, post_step};
 use outside_net::Link;
 use std::alloc::{AllocError, Global};
 
 // What the caller is to do next.
-pub(crate) fn update_of<L: RunName, E: Link>(
-    run: &mut Option<Run<L, E>>,
+pub(crate) fn update_of<L: RunName, P: Poster, E: Link>(
+    run: &mut Option<Watched<L, P, E>>,
     alloc: Global,
     seat: &mut Seat<L>,
 ) -> Result<Update, AllocError>
@@ -31,13 +32,17 @@ pub(crate) fn update_of<L: RunName, E: Link>(
 {
     match run {
         None => Ok(Update::Stop),
-        Some(there) => there.update(alloc, seat),
+        Some(there) => {
+            let update = there.run.update(alloc, seat)?;
+            post_step(&mut there.run, &mut there.pen);
+            Ok(update)
+        }
     }
 }
 
 // Makes a switch return over a new pair.
-pub(crate) fn rejoin_of<L: RunName, E: Link>(
-    run: &mut Option<Run<L, E>>,
+pub(crate) fn rejoin_of<L: RunName, P: Poster, E: Link>(
+    run: &mut Option<Watched<L, P, E>>,
     alloc: Global,
     seat: &mut Seat<L>,
     absence: Absence,
@@ -52,13 +57,17 @@ pub(crate) fn rejoin_of<L: RunName, E: Link>(
 {
     match run {
         None => Ok(Did::Stop),
-        Some(there) => there.rejoin(alloc, seat, absence, pair),
+        Some(there) => {
+            let did = there.run.rejoin(alloc, seat, absence, pair)?;
+            post_step(&mut there.run, &mut there.pen);
+            Ok(did)
+        }
     }
 }
 
 // Lets the packet at a place of the lines come in.
-pub(crate) fn come_in_of<L: RunName, E: Link>(
-    run: &mut Option<Run<L, E>>,
+pub(crate) fn come_in_of<L: RunName, P: Poster, E: Link>(
+    run: &mut Option<Watched<L, P, E>>,
     alloc: Global,
     seat: &mut Seat<L>,
     place: usize,
@@ -70,13 +79,17 @@ pub(crate) fn come_in_of<L: RunName, E: Link>(
 {
     match run {
         None => Ok(Did::Stop),
-        Some(there) => there.come_in(alloc, seat, place),
+        Some(there) => {
+            let did = there.run.come_in(alloc, seat, place)?;
+            post_step(&mut there.run, &mut there.pen);
+            Ok(did)
+        }
     }
 }
 
 // Lets a copy take a hop.
-pub(crate) fn hop_on_of<L: RunName, E: Link>(
-    run: &mut Option<Run<L, E>>,
+pub(crate) fn hop_on_of<L: RunName, P: Poster, E: Link>(
+    run: &mut Option<Watched<L, P, E>>,
     alloc: Global,
     seat: &mut Seat<L>,
 ) -> Result<Did, AllocError>
@@ -87,6 +100,10 @@ pub(crate) fn hop_on_of<L: RunName, E: Link>(
 {
     match run {
         None => Ok(Did::Stop),
-        Some(there) => there.hop_on(alloc, seat),
+        Some(there) => {
+            let did = there.run.hop_on(alloc, seat)?;
+            post_step(&mut there.run, &mut there.pen);
+            Ok(did)
+        }
     }
 }

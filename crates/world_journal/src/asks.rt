@@ -1,5 +1,5 @@
-// What a desk asks of the run that lies under its lock: each has the clause of the run's own call. If the run was taken
-// out, nothing happens and whoever asks is to stop.
+// What a desk asks of the run that lies under its lock: each has the clause of the run's own call, and posts the step that
+// the call made. If the run was taken out, nothing happens and whoever asks is to stop.
 ghost use Rattle.std.specs.Prelude.{◌≡◌, ◌<◌, ◌%◌, [], IfOk, IfSome, OnErr, None};
 ghost use Rattle.worker_desk.specs.Answers.{CanBeWritten, GivesBack, OnNewEnd, OnShutNewEnd};
 ghost use Rattle.worker_desk.specs.Streams.{TellsWhereKnown};
@@ -11,15 +11,16 @@ ghost use Rattle.world_journal.specs.Calls.{Gives, IsUnmoved, IsWorker, Loses, R
 ghost use Rattle.world_journal.specs.Journals.{switches};
 
 use crate::name::RunName;
-use crate::run::Run;
+use crate::poster::Poster;
 use crate::seat::Seat;
+use crate::watched::{Watched, post_step};
 use outside_net::Link;
 use std::alloc::{AllocError, Global};
 use worker_desk::{Given, Shut, Told};
 
 // What a worker is to do next.
-pub(crate) fn given_of<L: RunName, E: Link>(
-    run: &mut Option<Run<L, E>>,
+pub(crate) fn given_of<L: RunName, P: Poster, E: Link>(
+    run: &mut Option<Watched<L, P, E>>,
     alloc: Global,
     seat: &mut Seat<L>,
 ) -> Result<Given<E>, AllocError>
@@ -33,13 +34,17 @@ pub(crate) fn given_of<L: RunName, E: Link>(
 {
     match run {
         None => Ok(Given::Stop),
-        Some(there) => there.give(alloc, seat),
+        Some(there) => {
+            let given = there.run.give(alloc, seat);
+            post_step(&mut there.run, &mut there.pen);
+            given
+        }
     }
 }
 
 // What comes of bytes that a worker received.
-pub(crate) fn told_of<L: RunName, E: Link>(
-    run: &mut Option<Run<L, E>>,
+pub(crate) fn told_of<L: RunName, P: Poster, E: Link>(
+    run: &mut Option<Watched<L, P, E>>,
     alloc: Global,
     seat: &mut Seat<L>,
     bytes: &[u8],
@@ -55,13 +60,17 @@ pub(crate) fn told_of<L: RunName, E: Link>(
 {
     match run {
         None => Told::Back { end, made: None },
-        Some(there) => there.tell(alloc, seat, bytes, end, k),
+        Some(there) => {
+            let told = there.run.tell(alloc, seat, bytes, end, k);
+            post_step(&mut there.run, &mut there.pen);
+            told
+        }
     }
 }
 
 // What comes of an end that failed.
-pub(crate) fn lost_of<L: RunName, E: Link>(
-    run: &mut Option<Run<L, E>>,
+pub(crate) fn lost_of<L: RunName, P: Poster, E: Link>(
+    run: &mut Option<Watched<L, P, E>>,
     alloc: Global,
     seat: &mut Seat<L>,
     end: E,
@@ -75,12 +84,19 @@ pub(crate) fn lost_of<L: RunName, E: Link>(
 {
     match run {
         None => Told::Back { end, made: None },
-        Some(there) => there.lost(alloc, seat, end),
+        Some(there) => {
+            let told = there.run.lost(alloc, seat, end);
+            post_step(&mut there.run, &mut there.pen);
+            told
+        }
     }
 }
 
 // What a worker without an open end is to do.
-pub(crate) fn shut_of<L: RunName, E: Link>(run: &mut Option<Run<L, E>>, seat: &Seat<L>) -> Shut<E>
+pub(crate) fn shut_of<L: RunName, P: Poster, E: Link>(
+    run: &mut Option<Watched<L, P, E>>,
+    seat: &Seat<L>,
+) -> Shut<E>
     requires seat { IsWorker (switches L.start) seat.now.worker }
     ensures named { OnShutNewEnd (λ e. E.named e % switches L.start ≡ place_of (switches L.start) seat.now.worker) result }
     ensures fresh { OnShutNewEnd (λ e. IfSome (E.received e) (λ xs. xs ≡ [])) result }
@@ -88,27 +104,30 @@ pub(crate) fn shut_of<L: RunName, E: Link>(run: &mut Option<Run<L, E>>, seat: &S
 {
     match run {
         None => Shut::Stop,
-        Some(there) => there.shut(seat),
+        Some(there) => there.run.shut(seat),
     }
 }
 
 // Closes it.
-pub(crate) fn close_of<L: RunName, E: Link>(run: &mut Option<Run<L, E>>)
+pub(crate) fn close_of<L: RunName, P: Poster, E: Link>(run: &mut Option<Watched<L, P, E>>)
     ensures { OnRun Closes (Unit {0}) run.old run.new }
 {
     match run {
         None => {}
-        Some(there) => there.close(),
+        Some(there) => there.run.close(),
     }
 }
 
 // Lays a seat back. It is dropped if the run was taken out.
-pub(crate) fn lay_of<L: RunName, E: Link>(run: &mut Option<Run<L, E>>, seat: Seat<L>)
+pub(crate) fn lay_of<L: RunName, P: Poster, E: Link>(
+    run: &mut Option<Watched<L, P, E>>,
+    seat: Seat<L>,
+)
     requires { seat.share.parts ≡ 1 }
     ensures { OnRun (LaysBack L.all) (Unit {0}) run.old run.new }
 {
     match run {
         None => {}
-        Some(there) => there.lay(seat),
+        Some(there) => there.run.lay(seat),
     }
 }

@@ -56,7 +56,7 @@ impl<L: RunName, E: Link> Run<L, E> {
         ensures answer { IfOk result (Gives seat.old.worker (side_of (switches L.start) seat.old.worker) (place_of (switches L.start) seat.old.worker) self.old self.new) }
         ensures memory { OnErr result (RunsOut seat.old.worker (side_of (switches L.start) seat.old.worker) (place_of (switches L.start) seat.old.worker) self.old self.new) }
     {
-        let (side, s) = position(self.switch_count(), seat.worker());
+        let (side, s) = seat.at();
         give_at(self, alloc, seat, side, s)
     }
 
@@ -78,7 +78,7 @@ impl<L: RunName, E: Link> Run<L, E> {
         ensures answer { Tells (switches L.start) (E.named end) seat.old.worker (side_of (switches L.start) seat.old.worker) (place_of (switches L.start) seat.old.worker) bytes.now k end self.old self.new result }
         ensures back { GivesBack end result }
     {
-        let (side, s) = position(self.switch_count(), seat.worker());
+        let (side, s) = seat.at();
         if self.is_present(s, end.name()) {
             tell_at(self, alloc, seat, side, s, bytes, end, k)
         } else {
@@ -96,7 +96,7 @@ impl<L: RunName, E: Link> Run<L, E> {
         ensures answer { Loses (switches L.start) (E.named end) seat.old.worker (place_of (switches L.start) seat.old.worker) end self.old self.new result }
         ensures back { GivesBack end result }
     {
-        let (side, s) = position(self.switch_count(), seat.worker());
+        let (side, s) = seat.at();
         if self.is_present(s, end.name()) {
             lose_at(self, alloc, seat, side, s, end)
         } else {
@@ -111,7 +111,7 @@ impl<L: RunName, E: Link> Run<L, E> {
         ensures fresh { OnShutNewEnd (λ e. IfSome (E.received e) (λ xs. xs ≡ [])) result }
         ensures answer { Shuts (side_of (switches L.start) seat.now.worker) (place_of (switches L.start) seat.now.worker) self.old self.new result }
     {
-        let (side, s) = position(self.switch_count(), seat.worker());
+        let (side, s) = seat.at();
         if self.stops(s) {
             return Shut::Stop;
         }
@@ -119,20 +119,6 @@ impl<L: RunName, E: Link> Run<L, E> {
             Some(end) => Shut::NewEnd(end),
             None => Shut::Nothing,
         }
-    }
-}
-
-// The side of the worker of this number, and the place of its switch.
-fn position(count: usize, worker: usize) -> (Side, usize)
-    requires { IsWorker count worker }
-    ensures side { result.0 ≡ side_of count worker }
-    ensures place { result.1 ≡ place_of count worker }
-    ensures works { WorksAt count worker result.0 result.1 }
-{
-    if worker <= count {
-        (Side::Controller, worker - 1)
-    } else {
-        (Side::Switch, worker - count - 1)
     }
 }
 

@@ -1,7 +1,7 @@
 // A world beside the journal of what happened to it.
 use crate::entry::Entry;
 use crate::name::RunName;
-use crate::seat::Seat;
+use crate::seat::{Role, Seat};
 use outside_net::Link;
 use std::alloc::Global;
 use std::marker::Model;
@@ -45,10 +45,10 @@ pub enum CutFault<E: Link> {
 
 impl<L: RunName, E: Link> Held<L, E> {
     ghost use Rattle.std.specs.Prelude.{◌≡◌, ◌<◌, ◌+◌, ◌++◌, ◌∷◌, [], false, OnOk, OnErr, IfErr, Err, length};
-    ghost use Rattle.world_core.specs.Steps.{Step, IsEnabled};
+    ghost use Rattle.world_core.specs.Steps.{Step, IsEnabled, Runs};
     ghost use Rattle.world_core.specs.declared.fault.StepFault.TheVariants as faults;
     ghost use Rattle.world_journal.specs.Makers.{MayMake, is_cut};
-    ghost use Rattle.world_journal.specs.Journals.{HeldValue, IsJournal, entry, MetBy, switches};
+    ghost use Rattle.world_journal.specs.Journals.{HeldValue, IsJournal, entry, events_of, MetBy, switches};
     ghost use Rattle.world_journal.specs.Cuts.{HandsBack, Refuses};
 
     /// A world at its start, with an empty journal, and the caller's seat, which has all parts.
@@ -65,7 +65,12 @@ impl<L: RunName, E: Link> Held<L, E> {
             ends: Vec::new(alloc),
             book,
         };
-        (held, Seat { worker: 0, share })
+        let seat = Seat {
+            worker: 0,
+            role: Role::Caller,
+            share,
+        };
+        (held, seat)
     }
 
     /// Does an event that this worker may make, but for those for which an end is kept, and notes it.
@@ -164,9 +169,10 @@ impl<L: RunName, E: Link> Held<L, E> {
         &self.world
     }
 
-    /// The journal.
+    /// The journal, which led to the world.
     pub fn journal(&self) -> &[Entry]
-        ensures { result.now ≡ self.now.journal }
+        ensures journal { result.now ≡ self.now.journal }
+        ensures history { Runs L.start (events_of self.now.journal) self.now.world }
     {
         &self.journal
     }

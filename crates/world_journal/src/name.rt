@@ -4,11 +4,12 @@ ghost use Rattle.topology_model.specs.Layouts.{empty};
 ghost use Rattle.world_core.specs.Worlds.{WorldValue, start};
 ghost use Rattle.world_journal.specs.declared.line.Line.{Line as LineValue};
 
+use status_board::BoardName;
 use std::marker::Brand;
 use std::sync::ledger::Ledger;
 
-/// Names where a run begins, in contracts alone.
-pub trait RunName: Ledger {
+/// Names where a run begins, and the board on which it is posted, in contracts alone.
+pub trait RunName: Ledger + BoardName {
     /// The world at the start.
     ghost start: { WorldValue };
 

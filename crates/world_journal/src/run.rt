@@ -70,11 +70,11 @@ impl<L: RunName, E: Link> Model for Run<L, E> {
 impl<L: RunName, E: Link> Run<L, E> {
     ghost use Rattle.std.specs.Prelude.{◌<◌, ◌≤◌, ◌+◌, ◌++◌, ◌∷◌, [], false, true, OnOk, OnErr, Err, IfErr, IfOk, IfSome, IfNone, replicate, length, None, Some, slice_get, slice_set};
     ghost use Rattle.nk_values.specs.declared.packet.Packet.{Packet as PacketValue};
-    ghost use Rattle.world_core.specs.Steps.{Step, IsEnabled};
+    ghost use Rattle.world_core.specs.Steps.{Step, IsEnabled, Runs};
     ghost use Rattle.world_core.specs.declared.event.Event.TheVariants as event;
     ghost use Rattle.world_core.specs.declared.fault.StepFault.TheVariants as faults;
     ghost use Rattle.world_journal.specs.Makers.{MayMake, IsTraffic, is_cut, is_rejoin};
-    ghost use Rattle.world_journal.specs.Journals.{switches, entry, MetBy};
+    ghost use Rattle.world_journal.specs.Journals.{switches, entry, events_of, MetBy};
     ghost use Rattle.world_journal.specs.Cuts.{HandsBack, Refuses};
     ghost use Rattle.world_journal.specs.Arriving.{HaveAllCome, IsOver, is_arrival};
     ghost use Rattle.world_journal.specs.Runs.{HasEnded, RunValue, Stops, waits, marking};
@@ -216,9 +216,10 @@ impl<L: RunName, E: Link> Run<L, E> {
         self.held.world()
     }
 
-    /// The journal.
+    /// The journal, which led to the world.
     pub fn journal(&self) -> &[Entry]
-        ensures { result.now ≡ self.now.held.journal }
+        ensures journal { result.now ≡ self.now.held.journal }
+        ensures history { Runs L.start (events_of self.now.held.journal) self.now.held.world }
     {
         self.held.journal()
     }
@@ -334,6 +335,7 @@ impl<L: RunName, E: Link> Run<L, E> {
         ensures parts { IfOk result (λ r. (r.1.worker ≡ 0) × (r.1.share.parts ≡ L.parts)) }
         ensures steps { IfOk result (λ r. r.1.share.amount ≡ length r.0.journal) }
         ensures over { IfOk result (λ r. IsOver L.lines r.0.world) }
+        ensures not_closed { IfOk result (λ _. self.closed ≡ false) }
         ensures fault { IfErr result (λ f. (f ≡ RunFault.Memory) × (self.closed ≡ true)) }
     {
         let Run {

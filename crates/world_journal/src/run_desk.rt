@@ -1,9 +1,10 @@
 // The one lock of a run.
 ghost use Rattle.std.specs.Prelude.{◌≡◌, ◌<◌, ◌%◌, ◌↔◌, None, IfOk, IfErr, IsTrue, length};
+ghost use Rattle.watch_laws.specs.Watching.{ArePosts, IsPosted};
 ghost use Rattle.world_journal.specs.Arriving.{IsOver};
 ghost use Rattle.world_journal.specs.Calls.{IsUnmoved, IsWorker, place_of};
 ghost use Rattle.world_journal.specs.Finishing.{CanFinish};
-ghost use Rattle.world_journal.specs.Journals.{switches};
+ghost use Rattle.world_journal.specs.Journals.{events_of, switches};
 ghost use Rattle.world_journal.specs.Makers.{IsCaller, IsTraffic};
 ghost use Rattle.world_journal.specs.Runs.{IsNewPair};
 
@@ -12,9 +13,11 @@ use crate::asks::{close_of, given_of, lay_of, lost_of, shut_of, told_of};
 use crate::held::Held;
 use crate::moves::Did;
 use crate::name::RunName;
-use crate::run::{Run, RunFault};
+use crate::poster::Poster;
+use crate::run::RunFault;
 use crate::seat::Seat;
 use crate::updates::{Absence, Update};
+use crate::watched::Watched;
 use outside_net::Link;
 use std::alloc::{AllocError, Global};
 use std::sync::{Arc, Condvar, Mutex, MutexGuard, Wait};
@@ -29,18 +32,18 @@ struct Bells {
     others: Condvar,
 }
 
-/// A run behind its one lock, as its workers share it. Each call locks once, and what it answers under the lock is
-/// stated of one function: for `give` that is `given_of`, and so on (`asks`, `asked_moves`). A worker that is told there
-/// is nothing to do waits, with the lock given up, until a step was made that may have changed this.
+/// A run beside its pen behind their one lock, as its workers share them. Each call locks once, and what it answers under
+/// the lock is stated of one function: for `give` that is `given_of`, and so on (`asks`, `asked_moves`). A worker that is
+/// told there is nothing to do waits, with the lock given up, until a step was made that may have changed this.
 #[derive(Drop)]
-pub struct RunDesk<R, L: RunName, E: Link> {
+pub struct RunDesk<R, L: RunName, P: Poster, E: Link> {
     rt: R,
     alloc: Global,
-    run: Arc<Mutex<Option<Run<L, E>>>>,
+    run: Arc<Mutex<Option<Watched<L, P, E>>>>,
     bells: Arc<Bells>,
 }
 
-impl<R: Wait + Drop, L: RunName, E: Link> Desk for RunDesk<R, L, E> {
+impl<R: Wait + Drop, L: RunName, P: Poster, E: Link> Desk for RunDesk<R, L, P, E> {
     type Seat = Seat<L>;
 
     type End = E;
@@ -105,11 +108,15 @@ impl<R: Wait + Drop, L: RunName, E: Link> Desk for RunDesk<R, L, E> {
     }
 }
 
-impl<R: Wait + Drop, L: RunName, E: Link> RunDesk<R, L, E> {
+impl<R: Wait + Drop, L: RunName, P: Poster, E: Link> RunDesk<R, L, P, E> {
     /// Locks a run up.
-    pub fn new(rt: R, alloc: Global, run: Run<L, E>) -> Result<RunDesk<R, L, E>, AllocError> {
+    pub fn new(
+        rt: R,
+        alloc: Global,
+        watched: Watched<L, P, E>,
+    ) -> Result<RunDesk<R, L, P, E>, AllocError> {
         let mut pairs = Vec::new(alloc);
-        for _ in 0..run.switch_count() {
+        for _ in 0..watched.run.switch_count() {
             pairs.push(Condvar::new())?;
         }
         let bells = Bells {
@@ -119,13 +126,13 @@ impl<R: Wait + Drop, L: RunName, E: Link> RunDesk<R, L, E> {
         Ok(RunDesk {
             rt,
             alloc,
-            run: Arc::new(alloc, Mutex::new(Some(run)))?,
+            run: Arc::new(alloc, Mutex::new(Some(watched)))?,
             bells: Arc::new(alloc, bells)?,
         })
     }
 
     /// The same lock, for another worker.
-    pub fn again(&self) -> Result<RunDesk<R, L, E>, AllocError>
+    pub fn again(&self) -> Result<RunDesk<R, L, P, E>, AllocError>
     where
         R: Clone,
     {
@@ -220,18 +227,20 @@ impl<R: Wait + Drop, L: RunName, E: Link> RunDesk<R, L, E> {
     }
 
     /// Waits until all seats are back and the run is closed or over, and takes it out.
-    pub fn finish(&self) -> Result<(Held<L, E>, Seat<L>), RunFault>
+    pub fn finish(&self) -> Result<(Held<L, E>, Seat<L>, P), RunFault>
         requires all { (L.all ≡ L.parts) × (0 < L.all) }
         ensures parts { IfOk result (λ r. (r.1.worker ≡ 0) × (r.1.share.parts ≡ L.parts)) }
         ensures steps { IfOk result (λ r. r.1.share.amount ≡ length r.0.journal) }
         ensures over { IfOk result (λ r. IsOver L.lines r.0.world) }
+        ensures posts { IfOk result (λ r. ArePosts L.start (events_of r.0.journal) (P.posts r.2)) }
+        ensures posted { IfOk result (λ r. IsPosted (events_of r.0.journal) (P.posts r.2)) }
         ensures fault { IfErr result (λ f. f ≡ RunFault.Memory) }
     {
         for _ in self.rt.forever() {
             let mut guard = self.run.lock(&self.rt);
             if is_done(&guard) {
-                if let Some(run) = guard.take() {
-                    return run.finish();
+                if let Some(watched) = guard.take() {
+                    return watched.finish();
                 }
             }
             drop(guard);
@@ -250,7 +259,7 @@ impl<R: Wait + Drop, L: RunName, E: Link> RunDesk<R, L, E> {
     }
 
     // Waits, with the lock given up, until it rings.
-    fn wait(&self, guard: MutexGuard<'_, Option<Run<L, E>>>, bell: &Condvar) {
+    fn wait(&self, guard: MutexGuard<'_, Option<Watched<L, P, E>>>, bell: &Condvar) {
         drop(bell.wait(&self.rt, guard));
     }
 
@@ -275,8 +284,9 @@ struct Moment {
     halted: bool,
 }
 
-fn moment_of<L: RunName, E: Link>(run: &Option<Run<L, E>>) -> Option<Moment> {
-    let coordinator = run.as_ref()?.world().coordinator();
+fn moment_of<L: RunName, P: Poster, E: Link>(run: &Option<Watched<L, P, E>>) -> Option<Moment> {
+    let watched = run.as_ref()?;
+    let coordinator = watched.run.world().coordinator();
     Some(Moment {
         phase: coordinator.phase(),
         halted: coordinator.halt().is_some(),
@@ -284,11 +294,11 @@ fn moment_of<L: RunName, E: Link>(run: &Option<Run<L, E>>) -> Option<Moment> {
 }
 
 // Whether there is a run, and it is done.
-fn is_done<L: RunName, E: Link>(run: &Option<Run<L, E>>) -> bool
+fn is_done<L: RunName, P: Poster, E: Link>(run: &Option<Watched<L, P, E>>) -> bool
     ensures { IsTrue result ↔ CanFinish L.all L.lines run.now }
 {
     match run {
         None => false,
-        Some(run) => run.is_done(),
+        Some(there) => there.run.is_done(),
     }
 }

@@ -11,7 +11,6 @@ ghost use Rattle.worker_post.specs.Turns.{EndIs, GoesOn, GoesOnWith, HasEnd, Nex
 
 use super::{After, Inbox, Post};
 use crate::messages::{Went, receive};
-use openflow_wire::WireError;
 use worker_desk::{Desk, Gate, Told};
 
 /// Whether something was told.
@@ -96,14 +95,10 @@ impl<'a, D: Desk, G: Gate> Post<'a, D, G> {
             self.desk.close(seat);
             return Next::Told(After::Memory(end));
         }
-        match inbox.framer.span(self.alloc) {
+        match inbox.framer.span() {
             None => Next::Rest(end),
             Some(Ok(len)) => Next::Told(self.tell_message(seat, end, inbox, len)),
-            Some(Err(WireError::Fault(_fault))) => Next::Told(self.tell_fault(seat, end, inbox)),
-            Some(Err(WireError::Memory)) => {
-                self.desk.close(seat);
-                Next::Told(After::Memory(end))
-            }
+            Some(Err(_fault)) => Next::Told(self.tell_fault(seat, end, inbox)),
         }
     }
 

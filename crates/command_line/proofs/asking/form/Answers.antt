@@ -17,5 +17,6 @@ returns c =
     let equiv_is = c.in_ok-subcommand-4.ensures.shape c.new-5.ensures.local ∙ ap₂ with_subcommand simulate_is (ap top c.new-5.ensures.app) in
     let audit_is = c.in_ok-subcommand-5.ensures.shape c.new-6.ensures.local ∙ ap₂ with_subcommand equiv_is (ap top c.new-6.ensures.app) in
     let run_is = c.in_ok-subcommand-6.ensures.shape c.new-7.ensures.local ∙ ap₂ with_subcommand audit_is (ap top c.new-7.ensures.app) in
-    let generate_is = c.in_ok-subcommand-7.ensures.shape c.in_ok-generate.ensures.local ∙ ap₂ with_subcommand run_is (ap top c.in_ok-generate.ensures.app) in
-    IfOk-weaker c.subcommand-8.result _ _ (λ r h. h.shape c.in_ok-drive.ensures.local ∙ ap₂ with_subcommand generate_is (ap top c.in_ok-drive.ensures.app)) c.subcommand-8.ensures
+    let watch_is = c.in_ok-subcommand-7.ensures.shape c.new-8.ensures.local ∙ ap₂ with_subcommand run_is (ap top c.new-8.ensures.app) in
+    let generate_is = c.in_ok-subcommand-8.ensures.shape c.in_ok-generate.ensures.local ∙ ap₂ with_subcommand watch_is (ap top c.in_ok-generate.ensures.app) in
+    IfOk-weaker c.subcommand-9.result _ _ (λ r h. h.shape c.in_ok-drive.ensures.local ∙ ap₂ with_subcommand generate_is (ap top c.in_ok-drive.ensures.app)) c.subcommand-9.ensures

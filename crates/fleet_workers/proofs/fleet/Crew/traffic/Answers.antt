@@ -1,0 +1,7 @@
+use Rattle.std.proofs.Common.{sym}
+use Rattle.world_journal.specs.Journals.{switches}
+use Rattle.world_journal.proofs.Roles.{traffic-role}
+use Rattle.fleet_workers.proofs.fleet.Crew.traffic.Goals as goal
+
+pub part-requires-clause-does : goal.part-requires-clause-does
+part-requires-clause-does g c = sym (traffic-role (switches g.L.RunName.start) c.args.worker c.requires.worker)

@@ -1,0 +1,121 @@
+// A run of a document's policies (SIGCOMM 2012, section 5).
+ghost use Rattle.std.specs.Prelude.{◌≡◌, IfOk, IfErr, map};
+ghost use Rattle.document_text.specs.Answers.{doc_of};
+ghost use Rattle.fleet_workers.specs.Watching.{IsWatched};
+ghost use Rattle.program_answer.specs.Called.{change, net_of};
+ghost use Rattle.program_answer.specs.Input.{policies_of};
+ghost use Rattle.program_answer.specs.Sound.{IsSound};
+ghost use Rattle.program_answer.specs.Versions.{AreVersions};
+ghost use Rattle.program_answer.specs.Worlds.{IsWorldAnswer, start_of};
+ghost use Rattle.thread_commands.specs.Run.{IsRunBy, TellsCut, line_of};
+
+use crate::kept::{events_of, take_back};
+use document_text::{Document, PacketLine};
+use fleet_workers::{Lookout, Onlooker, Post, make_pairs, run_world};
+use outside_net::{Net, NetFault, Spawner};
+use policy_rows::Version;
+use program_answer::{Answer, AnswerError, world_answer};
+use std::alloc::{AllocError, Global};
+use std::sync::{Arc, Wait};
+use std::time::Clock;
+use value_text::Fault;
+use worker_desk::Gate;
+use world_core::{Event, Settings, World, halts_stay, losses_count};
+use world_journal::{Line, RunFault};
+
+// What a run came to: its world, the events that led to it, and what was seen of it.
+#[derive(Drop)]
+pub(crate) struct DocumentRun {
+    pub world: World,
+    pub events: Vec<Event>,
+    pub seen: Vec<Post>,
+}
+
+impl DocumentRun {
+    // The report of a run, and what was seen of it.
+    pub(crate) fn report(self, alloc: Global) -> Result<(Answer, Vec<Post>), AllocError>
+        ensures report { IfOk result (λ r. IsWorldAnswer self.world self.events.items r.0) }
+        ensures seen { IfOk result (λ r. r.1.items ≡ self.seen.items) }
+    {
+        let answer = world_answer(alloc, &self.world, &self.events)?;
+        Ok((answer, self.seen))
+    }
+}
+
+// Runs all policies of a document. If it is watched, one more worker keeps what it sees of the run.
+pub(crate) fn run_document<
+    R: Wait + Clock + Clone + Drop + Send + 'static,
+    N: Net,
+    G: Gate + Onlooker + Send + Sync + 'static,
+    T: Spawner,
+>(
+    rt: &R,
+    alloc: Global,
+    document: Document,
+    versions: Vec<Version>,
+    watched: bool,
+    net: &mut N,
+    threads: &mut T,
+    gate: Arc<G>,
+) -> Result<DocumentRun, AnswerError>
+where
+    N::End: 'static,
+    requires sound { IsSound (doc_of document) }
+    requires versions { AreVersions document.topology document.settings 0 (policies_of document) versions.items }
+    ensures ran { IfOk result (λ r. IsRunBy r.events.items r.world (net_of N.faults N.broken N.gathered net.old net.new) (doc_of document) versions.items) }
+    ensures seen { IfOk result (λ r. IsWatched (start_of (doc_of document) versions.items) r.events.items r.seen.items) }
+    ensures cut { IfErr result (TellsCut (change N.faults net.old net.new) (change T.faults threads.old threads.new)) }
+{
+    let Document {
+        topology,
+        packets,
+        settings,
+        ..
+    } = document;
+    let lines = lines_of(alloc, &packets)?;
+    let count = topology.switches().len() as u32;
+    let lookout = Lookout {
+        last: versions.len(),
+        keeps: watched,
+    };
+    let settings = Settings {
+        hops: u64::from(settings.hops),
+        capacity: settings.capacity as usize,
+        rejoins: settings.rejoins as usize,
+    };
+    let world = World::start(alloc, versions, topology, settings)?;
+    let ends = match make_pairs(alloc, net, count) {
+        Ok(ends) => ends,
+        Err(NetFault::Broken) => return Err(AnswerError::Fault(Fault::Net)),
+        Err(NetFault::Memory) => return Err(AnswerError::Memory),
+    };
+    losses_count();
+    halts_stay();
+    match run_world(rt, alloc, world, lines, lookout, ends, threads, gate, net) {
+        Ok(record) => {
+            take_back(net, record.kept);
+            Ok(DocumentRun {
+                world: record.world,
+                events: events_of(alloc, record.journal)?,
+                seen: record.seen,
+            })
+        }
+        Err(RunFault::NoThread) => Err(AnswerError::Fault(Fault::NoThread)),
+        Err(RunFault::NetFault) => Err(AnswerError::Fault(Fault::Net)),
+        Err(RunFault::Memory) => Err(AnswerError::Memory),
+    }
+}
+
+// The packets that are to come in.
+fn lines_of(alloc: Global, packets: &[PacketLine]) -> Result<Vec<Line>, AllocError>
+    ensures { IfOk result (λ lines. lines.items ≡ map line_of packets.now) }
+{
+    let mut lines = Vec::new(alloc);
+    for packet in packets {
+        lines.push(Line {
+            packet: packet.packet,
+            tag: packet.tag,
+        })?;
+    }
+    Ok(lines)
+}

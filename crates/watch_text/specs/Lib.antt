@@ -1,0 +1,2 @@
+pub mod Reads
+pub use Rattle.report_text.specs.Reports
