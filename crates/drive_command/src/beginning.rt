@@ -1,5 +1,5 @@
 //! The coordinator of a document's policies, before anything has happened.
-ghost use Rattle.std.specs.Prelude.{◌≡◌, IfOk, map};
+ghost use Rattle.std.specs.Prelude.{◌≡◌, IfOk, None, map};
 ghost use Rattle.update_coordinator.specs.Starts.{start};
 ghost use Rattle.update_laws.specs.Settings.{AreVersions};
 ghost use Rattle.world_core.specs.Worlds.{numbers_of, rows_of};
@@ -16,12 +16,12 @@ pub(crate) fn begin(
     topology: &Topology,
     versions: Vec<Version>,
 ) -> Result<Coordinator, AllocError>
-    requires { AreVersions topology.now versions.items }
-    ensures { IfOk result (λ c. c ≡ start (rows_of versions.items) (numbers_of topology.now.switches) 0) }
+    requires { AreVersions topology.now versions.items None }
+    ensures { IfOk result (λ c. c ≡ start (rows_of versions.items) (numbers_of topology.now.switches) 0 None) }
 {
     let numbers = numbers_of(alloc, topology.switches())?;
     let rows = rows_of(alloc, versions)?;
-    Coordinator::new(alloc, rows, &numbers, 0)
+    Coordinator::new(alloc, rows, &numbers, 0, None)
 }
 
 // The numbers of switches.

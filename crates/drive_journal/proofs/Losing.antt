@@ -152,7 +152,7 @@ losses-on c e d s h = record {
 
 -- ---- at the start
 
-pub starts-so : (versions : List Rows) (switches : List ℕ) → HaltsAtLoss (start versions switches 0)
+pub starts-so : (versions : List Rows) (switches : List ℕ) → HaltsAtLoss (start versions switches 0 None)
 starts-so versions switches = record {
   none_left = refl;
   there = λ s a.

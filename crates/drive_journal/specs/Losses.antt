@@ -1,5 +1,5 @@
 -- What a drive keeps of its sessions: none is lost while it goes on.
-use Rattle.std.specs.Prelude.{◌≡◌, ℕ, List}
+use Rattle.std.specs.Prelude.{◌≡◌, ℕ, List, None}
 use Rattle.nk_values.specs.declared.rows.Rows.{Rows}
 use Rattle.update_coordinator.specs.Controls.{Control}
 use Rattle.update_coordinator.specs.Hearing.{IsAway}
@@ -12,4 +12,4 @@ pub record HaltsAtLoss (c : Control) : Type 0 where
 
 -- So it is at a start that allows no loss.
 abbrev pub StartsHaltAtLoss : Type 0
-StartsHaltAtLoss = (versions : List Rows) (switches : List ℕ) → HaltsAtLoss (start versions switches 0)
+StartsHaltAtLoss = (versions : List Rows) (switches : List ℕ) → HaltsAtLoss (start versions switches 0 None)

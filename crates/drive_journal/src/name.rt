@@ -1,5 +1,5 @@
 //! What a drive is named after.
-ghost use Rattle.std.specs.Prelude.{[]};
+ghost use Rattle.std.specs.Prelude.{[], None};
 ghost use Rattle.update_coordinator.specs.Controls.{Control};
 ghost use Rattle.update_coordinator.specs.Starts.{start};
 
@@ -12,5 +12,5 @@ pub trait DriveName {
 }
 
 impl DriveName for Brand {
-    ghost start = { start [] [] 0 };
+    ghost start = { start [] [] 0 None };
 }

@@ -65,7 +65,7 @@ pub(crate) fn is_last(coordinator: &Coordinator) -> bool
 fn awaited(coordinator: &Coordinator) -> Next
     ensures { IsAwaitedBy coordinator.now result }
 {
-    match coordinator.draining() {
+    match coordinator.leaving() {
         Some(stamp) => Next::Wait(stamp),
         None => Next::Nothing,
     }

@@ -1,9 +1,9 @@
--- The worker of a drive may go to a thread of its own: so may its coordinator, whose cause may hold a history.
+-- The worker of a drive may go to a thread of its own.
 use denote.RattleType.{RattleType}
 use denote.Builtin.{usize}
-use denote.Struct.Field.{row_field, bool-field, u16-field, usize-field}
+use denote.Struct.Field.{row_field, bool-field, usize-field}
 use denote.Param.Send.{IsSend, IsSync, view_send, sendable}
-use denote.Param.SendFields.{declared_send, variants_send, as_row_send}
+use denote.Param.SendFields.{declared_send, as_row_send}
 use Rattle.std.specs.contracts.alloc.Global as global
 use Rattle.std.specs.contracts.impls.GlobalAllocator.TheImpl as heap
 use Rattle.std.specs.contracts.vec.Vec as vecs
@@ -18,26 +18,9 @@ use Rattle.std.proofs.sync.Condvar.TheSendSync as condvars
 use Rattle.std.proofs.sync.Mutex.TheSendSync as locks
 use Rattle.std.proofs.alloc.Global.TheSendSync as globals
 use Rattle.std.below.std_heap.proofs.GlobalAllocator.TheSendSync as heaps
-use Rattle.nk_values.specs.contracts.rows.Rows as rows
-use Rattle.nk_values.proofs.rows.Rows.TheSendSync as rowed
-use Rattle.openflow_wire.specs.contracts.octets.Octets as octets
-use Rattle.openflow_wire.proofs.octets.Octets.TheSendSync as octet
-use Rattle.openflow_wire.proofs.fault.WireFault.TheSendSync as wire_faults
 use Rattle.openflow_wire.specs.contracts.message.Message as message
 use Rattle.openflow_wire.proofs.message.Message.TheSendSync as messages
-use Rattle.session_core.proofs.session.SessionFault.TheSendSync as session_faults
-use Rattle.barrier_tracker.proofs.tracker.Tracker.TheSendSync as trackers
-use Rattle.update_plan.specs.contracts.cursor.Span as span
-use Rattle.update_plan.proofs.cursor.Span.TheSendSync as spans
-use Rattle.update_plan.specs.contracts.cursor.Cursor as cursor
-use Rattle.update_plan.proofs.cursor.Cursor.TheSendSync as cursors
-use Rattle.update_coordinator.specs.contracts.cause.Cause as cause
-use Rattle.update_coordinator.specs.contracts.coordinator.Coordinator as coordinator
-use Rattle.update_coordinator.specs.contracts.coordinator.Coordinator.TheInside as coordinator_inside
-use Rattle.update_coordinator.specs.contracts.site.Site as site
-use Rattle.update_coordinator.proofs.cause.Side.TheSendSync as sides
-use Rattle.update_coordinator.proofs.phase.Phase.TheSendSync as phases
-use Rattle.update_coordinator.proofs.site.Site.TheSendSync as sites
+use Rattle.update_coordinator.proofs.Crossing.{coordinator-send}
 use Rattle.outside_net.specs.declared.link.Link as Link
 use Rattle.outside_net.specs.declared.reporter.Receipt as Receipt
 use Rattle.drive_journal.specs.declared.name.DriveName as DriveName
@@ -49,48 +32,9 @@ use Rattle.drive_journal.specs.contracts.drive.Drive as drive
 use Rattle.drive_journal.specs.contracts.drive.Drive.TheInside as drive_inside
 use Rattle.drive_journal.specs.contracts.drive_desk.DriveDesk as desk
 use Rattle.drive_workers.specs.contracts.worker.DriveWorker as worker
-use Rattle.drive_workers.proofs.Sharing.{history-send}
 
 vec-send : (R : RattleType) → IsSend R → IsSend (vecs.the_row R global.the_row heap.ghosts)
 vec-send R s = listed.the_send R global.the_row heap.ghosts s globals.the_send heaps.the_frees
-
--- ---- the coordinator
-
-cause-send : IsSend cause.the_row
-cause-send = variants_send cause.enum ((as_row_send u16-field (search sendable), tt), ((as_row_send u16-field (search sendable), (session_faults.the_send, tt)), ((as_row_send u16-field (search sendable), (sides.the_send, (options.the_send octets.the_row octet.the_send, (octet.the_send, tt)))), ((as_row_send u16-field (search sendable), (wire_faults.the_send, tt)), ((history-send, tt), tt)))))
-
-coordinator-inside : IsSend coordinator_inside.the_row
-coordinator-inside = declared_send coordinator_inside.the_type (
-  phases.the_send,
-  (
-    options.the_send cause.the_row cause-send,
-    (
-      vec-send rows.the_row rowed.the_send,
-      (
-        vec-send usize (search sendable),
-        (
-          vec-send site.the_row sites.the_send,
-          (
-            vec-send span.the_row spans.the_send,
-            (
-              vec-send cursor.the_row cursors.the_send,
-              (
-                trackers.the_send,
-                (
-                  as_row_send usize-field (search sendable),
-                  tt,
-                ),
-              ),
-            ),
-          ),
-        ),
-      ),
-    ),
-  ),
-)
-
-coordinator-send : IsSend coordinator.the_row
-coordinator-send = view_send coordinator_inside.the_row _ _ _ _ coordinator-inside
 
 -- ---- a drive behind its lock
 

@@ -1,5 +1,4 @@
 mod Lasts
 mod Gathering
 mod Driving
-mod Sharing
 mod Crossing

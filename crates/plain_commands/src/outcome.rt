@@ -45,6 +45,7 @@ pub fn schedule_outcome(
         hops,
         capacity: settings.capacity as usize,
         rejoins: settings.rejoins as usize,
+        overlap: None,
     };
     let mut world = World::start(alloc, versions, topology, settings)?;
     world.kept();

@@ -1,5 +1,5 @@
 -- The versions of a document are those that a world starts with.
-use Rattle.std.proofs.Common.{◌≡◌, ◌≢◌, ℕ, zero, suc, ◌+◌, ◌-◌, ◌%◌, ◌≤◌, inl, inr, List, [], ◌∷◌, length, refl, sym, ◌∙◌, ap, subst, Some, slice_get, arith}
+use Rattle.std.proofs.Common.{◌≡◌, ◌≢◌, ℕ, zero, suc, ◌+◌, ◌-◌, ◌%◌, ◌<◌, ◌≤◌, inl, inr, List, [], ◌∷◌, length, refl, sym, ◌∙◌, ap, subst, None, Some, slice_get, arith}
 use Rattle.std.proofs.Math.Nat.{suc-mod, mod_self, mod-lt, mod-eq_of_lt}
 use Rattle.std.proofs.lemmas.Bool.{cases_lt}
 use Rattle.nk_syntax.specs.Terms.{Term}
@@ -51,15 +51,17 @@ as-many t s k (p ∷ ps) (w ∷ vs) h = ap (λ (n : ℕ). suc n) (as-many t s (s
 first : (t : Layout) (s : Settings) (ps : List Term) (vs : List Version) → AreVersions t s 0 ps vs → (n : ℕ) (v : Version) → slice_get vs n ≡ Some v → At t s n v
 first t s ps vs h n v e = subst (λ (j : ℕ). At t s j v) (omega arith) (at t s 0 ps vs h n v e)
 
-pub versions-start : (t : Layout) (s : Settings) (ps : List Term) (vs : List Version) → AreStamps s → length ps ≤ 64 → AreVersions t s 0 ps vs → settings.AreVersions t vs
+pub versions-start : (t : Layout) (s : Settings) (ps : List Term) (vs : List Version) → AreStamps s → length ps ≤ 64 → AreVersions t s 0 ps vs → settings.AreVersions t vs None
 versions-start t s ps vs a few h = record {
   few = let n = as-many t s 0 ps vs h in omega (arith, n, few);
   means = λ k v e. let x = first t s ps vs h k v e in subst (λ (p : Term). RowsMean v.rows p t) (sym x.is.policy) x.is.means;
   limits = λ k v e. (first t s ps vs h k v e).is.limits;
   writable = λ k v e. (first t s ps vs h k v e).is.writable;
   bands = λ k v e. (first t s ps vs h k v e).is.rows.band_is;
-  stamps = λ k v w e f q.
-      let x = first t s ps vs h k v e in
-      let y = first t s ps vs h (suc k) w f in
-      stamps-apart s a k (sym x.is.rows.stamp_is ∙ q ∙ y.is.rows.stamp_is);
+  two = omega arith;
+  stamps = λ j k v w b d e f q.
+      let next : k ≡ suc j = omega (arith, b, d) in
+      let x = first t s ps vs h j v e in
+      let y = first t s ps vs h (suc j) w (subst (λ (i : ℕ). slice_get vs i ≡ Some w) next f) in
+      stamps-apart s a j (sym x.is.rows.stamp_is ∙ q ∙ y.is.rows.stamp_is);
 }

@@ -1,5 +1,5 @@
 -- The world of a document's policies, and its report as an answer.
-use Rattle.std.specs.Prelude.{◌≡◌, ℕ, List, is_some}
+use Rattle.std.specs.Prelude.{◌≡◌, ℕ, List, None, is_some}
 use Rattle.document_text.specs.Documents.{Doc}
 use Rattle.policy_rows.specs.declared.version.Version.{Version}
 use Rattle.report_text.specs.Reports.{IsWorldReport}
@@ -10,7 +10,7 @@ use Rattle.program_answer.specs.Statuses.{report_status}
 
 -- the world of these versions in the document's topology, before anything has happened, in which so many sessions may be lost without a halt
 abbrev pub start_with : Doc → List Version → ℕ → WorldValue
-start_with d versions rejoins = start d.layout versions (record { hops = d.settings.hops; capacity = d.settings.capacity; rejoins = rejoins })
+start_with d versions rejoins = start d.layout versions (record { hops = d.settings.hops; capacity = d.settings.capacity; rejoins = rejoins; overlap = None })
 
 -- the same, in which as many sessions may be lost as the document says
 abbrev pub start_of : Doc → List Version → WorldValue

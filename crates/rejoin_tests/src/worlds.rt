@@ -17,6 +17,7 @@ pub fn world_of(alloc: Global, rejoins: usize) -> Result<World, AllocError>
         hops: 64,
         capacity: 130_000,
         rejoins,
+        overlap: None,
     };
     World::start(alloc, versions, topology, settings)
 }
@@ -43,7 +44,7 @@ fn next(world: &World) -> Option<Event> {
     if world.enabled(&Event::Controller(ControllerEvent::Begin)) {
         return Some(Event::Controller(ControllerEvent::Begin));
     }
-    Some(Event::Controller(ControllerEvent::Drained(world.coordinator().draining()?)))
+    Some(Event::Controller(ControllerEvent::Drained(world.coordinator().leaving()?)))
 }
 
 /// Does what can happen, at most a number of events. Gives how many there were.

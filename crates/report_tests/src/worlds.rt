@@ -26,6 +26,7 @@ fn empty(alloc: Global, topology: Topology, rejoins: usize) -> Result<World, All
         hops: 1,
         capacity: 1,
         rejoins,
+        overlap: None,
     };
     World::start(alloc, Vec::new(alloc), topology, settings)
 }

@@ -19,17 +19,17 @@ use Rattle.run_laws.proofs.Oldest.{Begin, runs-begin}
 pub leads-kept : (events : List Event) (w : WorldValue) → LeadsTo events w → IsKept w
 leads-kept events w l = run-keeps (start l.topology l.versions l.settings) events w l.runs (start-kept l.topology l.versions l.settings l.sound l.accepted l.hops)
 
-copy-of : (w : WorldValue) (number : ℕ) (a : Arrived) (f : Flight) → IsKept w → Begin w.flights w.arrivals → IsIn w.flights f → slice_get w.arrivals f.arrival ≡ Some a → IsFlight (setting w) w.fleet.control.phase number f → IsCopyOf w number a f
+copy-of : (w : WorldValue) (number : ℕ) (a : Arrived) (f : Flight) → IsKept w → Begin w.flights w.arrivals → IsIn w.flights f → slice_get w.arrivals f.arrival ≡ Some a → IsFlight (setting w) w.fleet.control.swept w.fleet.control.phase number f → IsCopyOf w number a f
 unfolding IsKept
 copy-of w number a f k b m here x =
-    let live : Live w.fleet.control.phase (suc x.older) = subst (λ (q : ℕ). Live w.fleet.control.phase q) x.number x.live in
-    let p = get-some x.older w.versions (live-there (setting w) w.fleet.control.phase x.older k.fleet.within live) in
+    let live : Live w.fleet.control.swept w.fleet.control.phase (suc x.older) = subst (λ (q : ℕ). Live w.fleet.control.swept w.fleet.control.phase q) x.number x.live in
+    let p = get-some x.older w.versions (live-there (setting w) w.fleet.control.swept w.fleet.control.phase x.older k.fleet.within live) in
     let there : version_at w.versions number ≡ Some p.0 = ap (version_at w.versions) x.number ∙ p.1 in
     record {
       policy = p.0;
       there = there;
       live = x.live;
-      stamp = x.stamp ∙ ap (λ (o : Option Version). Some (stamp_in number o)) there;
+      stamp = x.stamp ∙ ap (λ (o : Option Version). Some (stamp_in o)) there;
       begins = b.begins f a m here;
     }
 

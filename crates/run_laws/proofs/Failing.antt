@@ -100,8 +100,8 @@ state-is : (st : Stage) (halted : Bool) (s : SessionState) → halted ≡ false 
 state-is st halted s n (inl e) = absurd (false≢true (sym n ∙ e))
 state-is st halted s n (inr e) = e
 
-line-full : (c : Setting) (ph : Phase) (halted : Bool) (l : Wire) → halted ≡ false → IsLine c ph halted l → l.site.away ≡ false → (m : Message) (rest : List Message) → l.back ≡ m ∷ rest → (f : SessionFault) → move_of l.site.session m ≡ Failed f → IsFull m f
-line-full c ph halted l n i there m rest front f h =
+line-full : (c : Setting) (swept : ℕ) (ph : Phase) (halted : Bool) (l : Wire) → halted ≡ false → IsLine c swept ph halted l → l.site.away ≡ false → (m : Message) (rest : List Message) → l.back ≡ m ∷ rest → (f : SessionFault) → move_of l.site.session m ≡ Failed f → IsFull m f
+line-full c swept ph halted l n i there m rest front f h =
     let v = i.voice in
     let is : l.site.session.state ≡ state_of i.stage = state-is i.stage halted l.site.session.state n i.standing.state in
     let moves : move_in (state_of i.stage) l.switch.sw m ≡ Failed f = (λ j. move_in (sym is j) (sym i.standing.datapath j) m) ∙ h in
@@ -117,7 +117,7 @@ failure-full : (w : WorldValue) (place : ℕ) (why : Cause) → IsKept w → (x 
 unfolding IsKept
 failure-full w place why k x =
     let h = end-here (setting w) w.fleet k.fleet place x.end_ x.here in
-    line-full (setting w) w.fleet.control.phase (is_some w.fleet.control.halt) (wire_of w.fleet.control x.session.site h.reply x.end_) (running w.fleet.control.halt x.session.running)
+    line-full (setting w) w.fleet.control.swept w.fleet.control.phase (is_some w.fleet.control.halt) (wire_of w.fleet.control x.session.site h.reply x.end_) (running w.fleet.control.halt x.session.running)
     (k.fleet.lines place x.session.site h.reply x.end_ x.session.here h.reply_at x.here) x.session.there x.message x.rest x.front x.fault x.fails
 
 leads-room : HasRoom → (events : List Event) (w : WorldValue) → LeadsTo events w → KeepsRoom w
@@ -132,8 +132,8 @@ only-refused room events w place why l x =
     record {
       sw = x.session.site.sw;
       is = x.is ∙ ap (λ (f : SessionFault). cause.Failed x.session.site.sw f) full.fault;
-      short = elim (cases_lt w.capacity 130000) [
+      short = λ n. elim (cases_lt w.capacity 130000) [
         | inl s ↦ s
-        | inr r ↦ absurd (leads-room room events w l r place x.end_ x.here x.message (subst (λ (ms : List Message). IsIn ms x.message) (sym x.front) (inl refl)) full.error)
+        | inr r ↦ absurd (leads-room room events w l (n, r) place x.end_ x.here x.message (subst (λ (ms : List Message). IsIn ms x.message) (sym x.front) (inl refl)) full.error)
       ];
     }

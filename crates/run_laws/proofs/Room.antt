@@ -1,4 +1,4 @@
--- Where switches have room for 130,000 rows no ERROR of a full table is on its way.
+-- If drains do not overlap and switches have room for 130,000 rows, no ERROR of a full table is on its way.
 use Rattle.std.proofs.Common.{◌≡◌, ◌≤◌, ℕ, inl, inr, Bool, true, false, List, [], ◌∷◌, ◌++◌, map, sym, ◌∙◌, ap, subst, Option, None, Some, slice_get, slice_set}
 use native.Mathlib.Decide.{ℕ_discrete}
 use Rattle.nk_values.specs.Members.{IsIn}
@@ -17,7 +17,7 @@ use Rattle.world_core.specs.declared.event.ControllerEvent.TheVariants as of_con
 use Rattle.world_core.specs.declared.event.PacketEvent.TheVariants as of_packet
 use Rattle.world_core.specs.declared.event.SwitchEvent.TheVariants as of_switch
 use Rattle.world_core.specs.Ends.{new_end}
-use Rattle.world_core.specs.Laws.{HasRoom}
+use Rattle.world_core.specs.Laws.{HasSpace, HasRoom}
 use Rattle.world_core.specs.Worlds.{WorldValue, IsKept}
 use Rattle.world_core.specs.Steps.{InFleet, Loses, Runs, Step}
 use Rattle.world_core.proofs.Kept.{step-keeps}
@@ -30,7 +30,7 @@ abbrev pub NoneIsFull : List End → Type 0
 NoneIsFull ends = (place : ℕ) (e : End) → slice_get ends place ≡ Some e → NoneFull e.back
 
 abbrev pub KeepsRoom : WorldValue → Type 0
-KeepsRoom w = 130000 ≤ w.capacity → NoneIsFull w.fleet.ends
+KeepsRoom w = HasSpace w → NoneIsFull w.fleet.ends
 
 -- ---- messages
 
@@ -91,13 +91,13 @@ set-back ends place old new here h n j e q =
 -- ---- events
 
 abbrev In_fleet : WorldValue → Fleet → Type 0
-In_fleet w f = 130000 ≤ w.capacity → NoneIsFull f.ends
+In_fleet w f = HasSpace w → NoneIsFull f.ends
 
 in-fleet : (w v : WorldValue) (f : Fleet) → v ≡ record w { fleet = f } → In_fleet w f → KeepsRoom v
 in-fleet w v f now h = subst KeepsRoom (sym now) h
 
 -- the switches become these
-ends-are : (w v : WorldValue) (f : Fleet) (ends : List End) → v ≡ record w { fleet = f } → f.ends ≡ ends → (130000 ≤ w.capacity → NoneIsFull ends) → KeepsRoom v
+ends-are : (w v : WorldValue) (f : Fleet) (ends : List End) → v ≡ record w { fleet = f } → f.ends ≡ ends → (HasSpace w → NoneIsFull ends) → KeepsRoom v
 ends-are w v f ends now e h = in-fleet w v f now (λ l. subst NoneIsFull (sym e) (h l))
 
 lost-room : (place : ℕ) (w v : WorldValue) → InFleet (Loses place) w v → KeepsRoom w → KeepsRoom v

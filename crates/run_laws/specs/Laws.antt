@@ -33,7 +33,7 @@ pub record LeadsTo (events : List Event) (w : WorldValue) : Type 0 where
   pub versions : List Version
   pub settings : Settings
   pub sound : IsTopology topology
-  pub accepted : AreVersions topology versions
+  pub accepted : AreVersions topology versions settings.overlap
   pub hops : 1 ≤ settings.hops
   pub runs : Runs (start topology versions settings) events w
 
@@ -43,7 +43,7 @@ pub record LeadsTo (events : List Event) (w : WorldValue) : Type 0 where
 pub record IsCopyOf (w : WorldValue) (number : ℕ) (a : Arrived) (f : Flight) : Type 0 where
   pub policy : Version
   pub there : version_at w.versions number ≡ Some policy
-  pub live : Live w.fleet.control.phase number
+  pub live : Live w.fleet.control.swept w.fleet.control.phase number
   pub stamp : f.tag ≡ Some policy.rows.stamp
   pub begins : oldest f.history ≡ a.packet
 
@@ -119,11 +119,11 @@ pub record WasHalted (w : WorldValue) (events : List Event) (why : Cause) : Type
 abbrev pub HaltsTell : Type 0
 HaltsTell = (w : WorldValue) (events : List Event) (v : WorldValue) (why : Cause) → w.fleet.control.halt ≡ None → Runs w events v → v.fleet.control.halt ≡ Some why → WasHalted w events why
 
--- From a start of accepted policies, a session fails only by the error of a full table, and with room for 130,000 rows by none.
+-- From a start of accepted policies, a session fails only by the error of a full table, and without overlap and with room for 130,000 rows by none.
 pub record IsRefused (w : WorldValue) (why : Cause) : Type 0 where
   pub sw : ℕ
   pub is : why ≡ cause.Failed sw (SwitchError 3 0)
-  pub short : w.capacity < 130000
+  pub short : w.overlap ≡ None → w.capacity < 130000
 
 abbrev pub OnlyRefused : Type 0
 OnlyRefused = (events : List Event) (w : WorldValue) (place : ℕ) (why : Cause) → LeadsTo events w → HaltsFor w (event.Controller (of_controller.Heard place)) why → IsRefused w why

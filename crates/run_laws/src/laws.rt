@@ -13,7 +13,7 @@ pub fn copies_carry()
 /// These halt the updates, and no other event does: a lost session beyond those allowed, a message that fails a
 /// session, a stuck copy, foreign bytes. If the updates have halted after some events, one of these is such an event,
 /// for the cause that is told. In a run from a start of accepted policies a session fails only by the error of a full
-/// table, and by none if switches have room for 130,000 rows.
+/// table. Without overlap it fails by none if switches have room for 130,000 rows.
 pub fn halts_tell()
     ensures exactly { HaltsExactly }
     ensures runs { HaltsTell }

@@ -23,22 +23,22 @@ use Rattle.world_core.proofs.Kept.{line-at, set}
 use Rattle.table_audit.specs.Audits.{IsAuditAt}
 use Rattle.table_audit.specs.Reports.{AreReportOf}
 use Rattle.table_audit.proofs.Parts.{writable-rows}
-use Rattle.table_audit.proofs.Keys.{planned-is, gives-distinct}
+use Rattle.table_audit.proofs.Draining.{planned-is, plan-distinct}
 
 -- each row of a table can be written
 pub rows-writable : (w : WorldValue) → IsKept w → (place : ℕ) (e : End) → slice_get w.fleet.ends place ≡ Some e → (r : Row) → IsIn e.switch.table.rows r → IsWritable r
 unfolding IsKept
 rows-writable w k place e here r m =
     let l = line-at w k place e here in
-    let b = belongs (setting w) (set w k) w.fleet.control.phase e.switch.sw _ e.switch.table.rows l.2.table.changing r m in
-    writable-rows w.topology w.versions k.versions b.version (spot e.switch.sw b.pt) r b.held
+    let b = belongs (setting w) (set w k) w.fleet.control.swept w.fleet.control.phase k.fleet.within e.switch.sw _ e.switch.table.rows l.2.table.changing r m in
+    writable-rows w.topology w.versions w.overlap k.versions b.version (spot e.switch.sw b.pt) r b.held
 
 -- no two rows that are planned for a switch have one key
-pub planned-distinct : (w : WorldValue) → IsKept w → (sw : ℕ) → Distinct (planned w.fleet.control.versions w.fleet.control.phase sw)
+pub planned-distinct : (w : WorldValue) → IsKept w → (sw : ℕ) → Distinct (planned w.fleet.control.versions w.fleet.control.swept w.fleet.control.phase sw)
 unfolding IsKept
 planned-distinct w k sw =
-    subst (λ (rs : List Row). Distinct rs) (sym ((λ i. planned (k.rows i) w.fleet.control.phase sw) ∙ planned-is (setting w) w.versions w.fleet.control.phase k.fleet.within sw))
-    (gives-distinct w.topology w.versions w.limit w.capacity k.topology k.versions w.fleet.control.phase sw)
+    subst (λ (rs : List Row). Distinct rs) (sym ((λ i. planned (k.rows i) w.fleet.control.swept w.fleet.control.phase sw) ∙ planned-is (setting w) w.versions w.fleet.control.swept w.fleet.control.phase k.fleet.within sw))
+    (plan-distinct w.topology w.versions w.limit w.capacity w.overlap k.topology k.versions w.fleet.control.swept w.fleet.control.phase k.fleet.within sw)
 
 -- the switch at a place, as it is lent, and its number
 pub record Stands (w : WorldValue) (place : ℕ) (lent : SwitchValue) : Type 0 where
@@ -63,15 +63,15 @@ pub lent-writable : (w : WorldValue) → IsKept w → (place : ℕ) (lent : Swit
 lent-writable w k place lent s r m = rows-writable w k place s.end_ s.here r (subst (λ (x : SwitchValue). IsIn x.table.rows r) s.is m)
 
 -- the verdict on what it reports
-pub audit-at : {E : Type 0} (w : WorldValue) (place : ℕ) (lent : SwitchValue) (s : Stands w place lent) (sw : ℕ) (plan : List Row) (told reported : List Message) (r : Result Verdict E) → sw ≡ s.site.sw → plan ≡ planned w.fleet.control.versions w.fleet.control.phase sw →
+pub audit-at : {E : Type 0} (w : WorldValue) (place : ℕ) (lent : SwitchValue) (s : Stands w place lent) (sw : ℕ) (plan : List Row) (told reported : List Message) (r : Result Verdict E) → sw ≡ s.site.sw → plan ≡ planned w.fleet.control.versions w.fleet.control.swept w.fleet.control.phase sw →
     AreReportOf lent.table.rows reported → told ≡ reported → IfOk r (λ v. IsVerdict plan (all_rows told) v) → IfOk r (λ v. IsAuditAt w place v)
 audit-at w place lent s sw plan told reported (Ok v) number is report same h = record {
   site = s.site;
   named = s.named;
   end_ = s.end_;
   here = s.here;
-  verdict = subst (λ (x : SwitchValue). IsVerdict (planned w.fleet.control.versions w.fleet.control.phase s.site.sw) x.table.rows v) s.is
-      (subst (λ (n : ℕ). IsVerdict (planned w.fleet.control.versions w.fleet.control.phase n) lent.table.rows v) number
+  verdict = subst (λ (x : SwitchValue). IsVerdict (planned w.fleet.control.versions w.fleet.control.swept w.fleet.control.phase s.site.sw) x.table.rows v) s.is
+      (subst (λ (n : ℕ). IsVerdict (planned w.fleet.control.versions w.fleet.control.swept w.fleet.control.phase n) lent.table.rows v) number
       (subst (λ (rs : List Row). IsVerdict rs lent.table.rows v) is
       (verdict-moves plan (all_rows reported) plan lent.table.rows v (record { front = λ r m. m; back = λ r m. m }) (record { front = report.same.back; back = report.same.front })
       (subst (λ (ms : List Message). IsVerdict plan (all_rows ms) v) same h))));

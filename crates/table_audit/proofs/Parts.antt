@@ -36,9 +36,9 @@ pub record There (t : Layout) (v : ℕ) (x : Version) : Type 0 where
   pub writable : AreWritable x.rows
   pub band : x.rows.band ≡ band_by (odd v)
 
-pub there : (t : Layout) (vs : List Version) → AreVersions t vs → (v : ℕ) (x : Version) → version_at vs v ≡ Some x → There t v x
-there t vs a zero x e = absurd (cc)
-there t vs a (suc k) x e = record { mean = a.means k x e; writable = a.writable k x e; band = banded t vs a k x e }
+pub there : (t : Layout) (vs : List Version) (overlap : Option ℕ) → AreVersions t vs overlap → (v : ℕ) (x : Version) → version_at vs v ≡ Some x → There t v x
+there t vs overlap a zero x e = absurd (cc)
+there t vs overlap a (suc k) x e = record { mean = a.means k x e; writable = a.writable k x e; band = banded t vs overlap a k x e }
 
 -- a row of a list is a port's
 from-lists : (ports : List PortRows) (a : Place) (r : Row) → IsIn (rows_at ports a) r → (p : PortRows) × IsIn ports p × IsIn p.rows r
@@ -50,14 +50,14 @@ from-lists (x ∷ xs) a r m = split (λ n. from-lists xs a r n) (same_place (por
     split later false n = let h = later n in (h.0, inr h.1, h.2)
 
 -- each row of a version can be written
-pub writable-rows : (t : Layout) (vs : List Version) → AreVersions t vs → (v : ℕ) (a : Place) (r : Row) → IsIn (rows_at (lists_in (version_at vs v)) a) r → IsWritable r
-writable-rows t vs k v a r m = of (version_at vs v) refl m
+pub writable-rows : (t : Layout) (vs : List Version) (overlap : Option ℕ) → AreVersions t vs overlap → (v : ℕ) (a : Place) (r : Row) → IsIn (rows_at (lists_in (version_at vs v)) a) r → IsWritable r
+writable-rows t vs overlap k v a r m = of (version_at vs v) refl m
   where
     of : (o : Option Version) → version_at vs v ≡ o → IsIn (rows_at (lists_in o) a) r → IsWritable r
     of None e n = absurd n
     of (Some x) e n =
         let h = from-lists x.rows.ports a r n in
-        (there t vs k v x e).writable.each h.0 h.1 r h.2
+        (there t vs overlap k v x e).writable.each h.0 h.1 r h.2
 
 -- ---- its rows at a port
 
@@ -106,13 +106,13 @@ flat-none : (g : ℕ → List Row) → ((b : ℕ) → g b ≡ []) → (bs : List
 flat-none g h [] = refl
 flat-none g h (b ∷ bs) = ap (λ (rs : List Row). rs ++ flat_map g bs) (h b) ∙ flat-none g h bs
 
-pub parts-are : (t : Layout) (vs : List Version) → IsTopology t → AreVersions t vs → (part : ℕ → ℕ) (v sw : ℕ) → have vs part v sw ≡ by_ports t part v sw (version_at vs v)
-parts-are t vs k a part v sw = of (version_at vs v) refl
+pub parts-are : (t : Layout) (vs : List Version) (overlap : Option ℕ) → IsTopology t → AreVersions t vs overlap → (part : ℕ → ℕ) (v sw : ℕ) → have vs part v sw ≡ by_ports t part v sw (version_at vs v)
+parts-are t vs overlap k a part v sw = of (version_at vs v) refl
   where
     of : (o : Option Version) → version_at vs v ≡ o → part_of part (rows_in o) sw ≡ by_ports t part v sw o
     of None e = sym (flat-none (λ b. cut part (band_by (odd v)) (kind_at t (spot sw b)) []) (λ b. cut-nothing part (band_by (odd v)) (kind_at t (spot sw b))) (ports_in (flat_map places_at t.switches) sw))
     of (Some x) e =
-        let h = there t vs a v x e in
+        let h = there t vs overlap a v x e in
         by_place t (cut part x.rows.band) sw x.rows.ports x.rows.ports (flat_map places_at t.switches) (owned t x.rows (term_of x.pol) k.sound h.mean) h.mean.ports
         ∙ ap (λ (band : Band). flat_map (λ b. cut part band (kind_at t (spot sw b)) (rows_at x.rows.ports (spot sw b))) (ports_in (flat_map places_at t.switches) sw)) h.band
 
@@ -123,11 +123,11 @@ abbrev pub Piece : Bool → Setting → ℕ → (ℕ → ℕ) → ℕ → Row �
 Piece true c v f sw r = IsIn (inner c v sw) r ⊎ IsIn (outer_begun c v f sw) r
 Piece false c v f sw r = IsIn (inner c v sw) r ⊎ IsIn (outer c v sw) r
 
-pub linked-port : (t : Layout) (vs : List Version) (limit capacity : ℕ) → IsSetting (setting_of t vs limit capacity) → (sw pt : ℕ) → IsIn ((setting_of t vs limit capacity).linked sw) pt → kind_at t (spot sw pt) ≡ Linked
-linked-port t vs limit capacity q sw pt m = let j = q.joined sw pt m in linked_kind t (spot sw pt) j.0 j.1
+pub linked-port : (t : Layout) (vs : List Version) (limit capacity : ℕ) (overlap : Option ℕ) → IsSetting (setting_of t vs limit capacity overlap) → (sw pt : ℕ) → IsIn ((setting_of t vs limit capacity overlap).linked sw) pt → kind_at t (spot sw pt) ≡ Linked
+linked-port t vs limit capacity overlap q sw pt m = let j = q.joined sw pt m in linked_kind t (spot sw pt) j.0 j.1
 
-pub edge-port : (t : Layout) (vs : List Version) (limit capacity : ℕ) → IsSetting (setting_of t vs limit capacity) → (sw pt : ℕ) → IsIn ((setting_of t vs limit capacity).edge sw) pt → kind_at t (spot sw pt) ≡ Edge
-edge-port t vs limit capacity q sw pt m = edge_kind t (spot sw pt) ((q.edges sw pt).1 m)
+pub edge-port : (t : Layout) (vs : List Version) (limit capacity : ℕ) (overlap : Option ℕ) → IsSetting (setting_of t vs limit capacity overlap) → (sw pt : ℕ) → IsIn ((setting_of t vs limit capacity overlap).edge sw) pt → kind_at t (spot sw pt) ≡ Edge
+edge-port t vs limit capacity overlap q sw pt m = edge_kind t (spot sw pt) ((q.edges sw pt).1 m)
 
 from-linked : (c : Setting) (part : ℕ → ℕ) (v sw pt : ℕ) (d : Bool) (kind : PortKind) (r : Row) → kind ≡ Linked → IsIn (c.linked sw) pt → IsIn (cut part (band_by d) kind (c.rows_at v (spot sw pt))) r → Piece d c v part sw r
 from-linked c part v sw pt d kind r e l m = of d (in-flat_map (λ b. c.rows_at v (spot sw b)) (c.linked sw) pt r l (cut-in part (band_by d) kind (c.rows_at v (spot sw pt)) r m))
@@ -141,14 +141,14 @@ from-edge c part v sw pt true kind r e l m = inr (in-flat_map (λ b. begun part 
 from-edge c part v sw pt false kind r e l m = inr (in-flat_map (λ b. c.rows_at v (spot sw b)) (c.edge sw) pt r l (cut-in part Low kind (c.rows_at v (spot sw pt)) r m))
 
 -- what a part has is internal or ingress
-pub piece-of : (t : Layout) (vs : List Version) (limit capacity : ℕ) → IsTopology t → AreVersions t vs → (part : ℕ → ℕ) (v sw : ℕ) (r : Row) → IsIn (have vs part v sw) r → Piece (odd v) (setting_of t vs limit capacity) v part sw r
-piece-of t vs limit capacity k a part v sw r m =
-    let c = setting_of t vs limit capacity in
-    let q = made t vs limit capacity k a in
-    let x = from-flat_map (λ b. cut part (band_by (odd v)) (kind_at t (spot sw b)) (c.rows_at v (spot sw b))) (c.ports sw) r (subst (λ (rs : List Row). IsIn rs r) (parts-are t vs k a part v sw) m) in
+pub piece-of : (t : Layout) (vs : List Version) (limit capacity : ℕ) (overlap : Option ℕ) → IsTopology t → AreVersions t vs overlap → (part : ℕ → ℕ) (v sw : ℕ) (r : Row) → IsIn (have vs part v sw) r → Piece (odd v) (setting_of t vs limit capacity overlap) v part sw r
+piece-of t vs limit capacity overlap k a part v sw r m =
+    let c = setting_of t vs limit capacity overlap in
+    let q = made t vs limit capacity overlap k a in
+    let x = from-flat_map (λ b. cut part (band_by (odd v)) (kind_at t (spot sw b)) (c.rows_at v (spot sw b))) (c.ports sw) r (subst (λ (rs : List Row). IsIn rs r) (parts-are t vs overlap k a part v sw) m) in
     elim (q.ports sw x.0 x.1) [
-      | inl l ↦ from-linked c part v sw x.0 (odd v) (kind_at t (spot sw x.0)) r (linked-port t vs limit capacity q sw x.0 l) l x.2
-      | inr l ↦ from-edge c part v sw x.0 (odd v) (kind_at t (spot sw x.0)) r (edge-port t vs limit capacity q sw x.0 l) l x.2
+      | inl l ↦ from-linked c part v sw x.0 (odd v) (kind_at t (spot sw x.0)) r (linked-port t vs limit capacity overlap q sw x.0 l) l x.2
+      | inr l ↦ from-edge c part v sw x.0 (odd v) (kind_at t (spot sw x.0)) r (edge-port t vs limit capacity overlap q sw x.0 l) l x.2
     ]
 
 whole-cut : (part : ℕ → ℕ) (d : Bool) (rows : List Row) (r : Row) → IsIn rows r → IsIn (cut part (band_by d) Linked rows) r
@@ -156,14 +156,14 @@ whole-cut part true rows r m = in-left rows (take (part 0) []) r m
 whole-cut part false rows r m = in-left rows (take (part 0) []) r m
 
 -- and all of these are had
-pub of-piece : (t : Layout) (vs : List Version) (limit capacity : ℕ) → IsTopology t → AreVersions t vs → (part : ℕ → ℕ) (v sw : ℕ) (r : Row) → Piece (odd v) (setting_of t vs limit capacity) v part sw r → IsIn (have vs part v sw) r
-of-piece t vs limit capacity k a part v sw r p = subst (λ (rs : List Row). IsIn rs r) (sym (parts-are t vs k a part v sw)) (of (odd v) refl p)
+pub of-piece : (t : Layout) (vs : List Version) (limit capacity : ℕ) (overlap : Option ℕ) → IsTopology t → AreVersions t vs overlap → (part : ℕ → ℕ) (v sw : ℕ) (r : Row) → Piece (odd v) (setting_of t vs limit capacity overlap) v part sw r → IsIn (have vs part v sw) r
+of-piece t vs limit capacity overlap k a part v sw r p = subst (λ (rs : List Row). IsIn rs r) (sym (parts-are t vs overlap k a part v sw)) (of (odd v) refl p)
   where
     c : Setting
-    c = setting_of t vs limit capacity
+    c = setting_of t vs limit capacity overlap
 
     q : IsSetting c
-    q = made t vs limit capacity k a
+    q = made t vs limit capacity overlap k a
 
     put : (pt : ℕ) → IsIn (c.ports sw) pt → IsIn (cut part (band_by (odd v)) (kind_at t (spot sw pt)) (c.rows_at v (spot sw pt))) r → IsIn (by_ports t part v sw (version_at vs v)) r
     put pt m n = in-flat_map (λ b. cut part (band_by (odd v)) (kind_at t (spot sw b)) (c.rows_at v (spot sw b))) (c.ports sw) pt r m n
@@ -175,24 +175,24 @@ of-piece t vs limit capacity k a part v sw r p = subst (λ (rs : List Row). IsIn
     internal : (d : Bool) → odd v ≡ d → IsIn (inner c v sw) r → IsIn (by_ports t part v sw (version_at vs v)) r
     internal d e m =
         let x = from-flat_map (λ b. c.rows_at v (spot sw b)) (c.linked sw) r m in
-        put x.0 (q.all_linked sw x.0 x.1) (cut-at x.0 d Linked e (linked-port t vs limit capacity q sw x.0 x.1) (whole-cut part d (c.rows_at v (spot sw x.0)) r x.2))
+        put x.0 (q.all_linked sw x.0 x.1) (cut-at x.0 d Linked e (linked-port t vs limit capacity overlap q sw x.0 x.1) (whole-cut part d (c.rows_at v (spot sw x.0)) r x.2))
 
     of : (d : Bool) → odd v ≡ d → Piece d c v part sw r → IsIn (by_ports t part v sw (version_at vs v)) r
     of true e (inl m) = internal true e m
     of true e (inr m) =
         let x = from-flat_map (λ b. begun part (c.rows_at v (spot sw b))) (c.edge sw) r m in
-        put x.0 (q.all_edge sw x.0 x.1) (cut-at x.0 true Edge e (edge-port t vs limit capacity q sw x.0 x.1) x.2)
+        put x.0 (q.all_edge sw x.0 x.1) (cut-at x.0 true Edge e (edge-port t vs limit capacity overlap q sw x.0 x.1) x.2)
     of false e (inl m) = internal false e m
     of false e (inr m) =
         let x = from-flat_map (λ b. c.rows_at v (spot sw b)) (c.edge sw) r m in
-        put x.0 (q.all_edge sw x.0 x.1) (cut-at x.0 false Edge e (edge-port t vs limit capacity q sw x.0 x.1) (in-left (c.rows_at v (spot sw x.0)) (take (part 0) []) r x.2))
+        put x.0 (q.all_edge sw x.0 x.1) (cut-at x.0 false Edge e (edge-port t vs limit capacity overlap q sw x.0 x.1) (in-left (c.rows_at v (spot sw x.0)) (take (part 0) []) r x.2))
 
 -- at a port of the switch
-pub from-part : (t : Layout) (vs : List Version) (limit capacity : ℕ) → IsTopology t → AreVersions t vs → (part : ℕ → ℕ) (v sw : ℕ) (r : Row) → IsIn (have vs part v sw) r → (link : Bool) × From (setting_of t vs limit capacity) v sw link r
-from-part t vs limit capacity k a part v sw r m = of (odd v) (piece-of t vs limit capacity k a part v sw r m)
+pub from-part : (t : Layout) (vs : List Version) (limit capacity : ℕ) (overlap : Option ℕ) → IsTopology t → AreVersions t vs overlap → (part : ℕ → ℕ) (v sw : ℕ) (r : Row) → IsIn (have vs part v sw) r → (link : Bool) × From (setting_of t vs limit capacity overlap) v sw link r
+from-part t vs limit capacity overlap k a part v sw r m = of (odd v) (piece-of t vs limit capacity overlap k a part v sw r m)
   where
     c : Setting
-    c = setting_of t vs limit capacity
+    c = setting_of t vs limit capacity overlap
 
     internal : IsIn (inner c v sw) r → (link : Bool) × From c v sw link r
     internal n = let x = from-flat_map (λ b. c.rows_at v (spot sw b)) (c.linked sw) r n in (true, record { pt = x.0; port = x.1; held = x.2 })

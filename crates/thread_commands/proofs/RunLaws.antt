@@ -18,7 +18,7 @@ use Rattle.world_core.specs.Steps.{Runs}
 use Rattle.world_core.specs.Worlds.{WorldValue, start}
 use Rattle.world_journal.specs.declared.entry.Entry.{Entry}
 use Rattle.world_journal.specs.declared.line.Line.{Line}
-use Rattle.world_journal.specs.Arriving.{IsOver, IsSettled, last_phase}
+use Rattle.world_journal.specs.Arriving.{IsLast, IsOver, IsSettled}
 use Rattle.world_journal.specs.Journals.{events_of, switches, told, told_before, IsJournal}
 use Rattle.world_journal.proofs.Ended.{kept-cut}
 use Rattle.program_answer.specs.declared.answer.Answer.{Answer}
@@ -68,7 +68,7 @@ none-of : {X : Type 0} (o : Option X) → is_some o ≡ false → o ≡ None
 none-of None e = refl
 none-of (Some x) e = cc
 
-still-last : (w : WorldValue) → is_some w.fleet.control.halt ≡ false → IsSettled w → w.fleet.control.phase ≡ last_phase w
+still-last : (w : WorldValue) → is_some w.fleet.control.halt ≡ false → IsSettled w → IsLast w
 still-last w still (inl halts) = absurd (halts (none-of w.fleet.control.halt still))
 still-last w still (inr last) = last
 
@@ -103,8 +103,8 @@ lines_more [] l = refl
 lines_more (x ∷ ls) l = ap (λ (xs : List Line). line_of x ∷ xs) (lines_more ls l)
 
 -- the world that the call made is the document's
-pub starts_as : (d : Document) (versions : List Version) (w : WorldValue) (hops capacity rejoins : ℕ) → w ≡ start d.topology versions (record { hops = hops; capacity = capacity; rejoins = rejoins }) → hops ≡ d.settings.hops → capacity ≡ d.settings.capacity → rejoins ≡ d.settings.rejoins → w ≡ start_of (doc_of d) versions
-starts_as d versions w hops capacity rejoins a b c e = a ∙ (λ i. start d.topology versions (record { hops = b i; capacity = c i; rejoins = e i }))
+pub starts_as : (d : Document) (versions : List Version) (w : WorldValue) (hops capacity rejoins : ℕ) → w ≡ start d.topology versions (record { hops = hops; capacity = capacity; rejoins = rejoins; overlap = None }) → hops ≡ d.settings.hops → capacity ≡ d.settings.capacity → rejoins ≡ d.settings.rejoins → w ≡ start_of (doc_of d) versions
+starts_as d versions w hops capacity rejoins a b c e = a ∙ (λ i. start d.topology versions (record { hops = b i; capacity = c i; rejoins = e i; overlap = None }))
 
 -- ---- of a source
 

@@ -17,7 +17,7 @@ use Rattle.world_core.specs.Laws.{AreGood, losses}
 use Rattle.world_core.specs.Steps.{Runs, Step}
 use Rattle.world_core.specs.Worlds.{WorldValue}
 use Rattle.world_journal.specs.declared.line.Line.{Line}
-use Rattle.world_journal.specs.Arriving.{AreSpent, HaveAllCome, last_phase}
+use Rattle.world_journal.specs.Arriving.{AreSpent, HaveAllCome, IsLast}
 use Rattle.world_journal.specs.Journals.{told}
 use Rattle.program_answer.specs.declared.answer.Answer.{Answer}
 use Rattle.program_answer.specs.declared.answer.AnswerError.{AnswerError}
@@ -77,13 +77,13 @@ HasRisenBy n count = min (count.before + n) (2 ^ 64 - 1) ≤ count.after
 abbrev pub HaltsLast : Doc → List Version → Type 0
 HaltsLast d versions = (before : List Event) (v x : WorldValue) (s : ℕ) → Runs (start_of d versions) before v → Step v (event.Controller (of_controller.Lost s)) x → x.fleet.control.halt ≢ None → losses before ≡ d.settings.rejoins
 
--- The events lead from the start of the document's policies to this world, and each packet that came in is handled by one policy. Each line came in once and no copy may take another hop, also if the updates stand still. If they do not, the last policy handles all packets. Each lost session cost a broken end: the net's count of these rose by as many. The updates stand still by a lost session only if as many as the document lets return were lost before it. Foreign bytes came next in the first stream that the net told in this call, behind as many messages as that side of the switch was told before in its session. They halt, so their end is kept last and given back first. A net tells no names of ends, so none is said.
+-- The events lead from the start of the document's policies to this world, and each packet that came in is handled by one policy. Each line came in once and no copy may take another hop, also if the updates stand still. If they do not, the last policy handles all packets and none before it drains. Each lost session cost a broken end: the net's count of these rose by as many. The updates stand still by a lost session only if as many as the document lets return were lost before it. Foreign bytes came next in the first stream that the net told in this call, behind as many messages as that side of the switch was told before in its session. They halt, so their end is kept last and given back first. A net tells no names of ends, so none is said.
 pub record IsRunBy (events : List Event) (world : WorldValue) (net : NetSeen) (d : Doc) (versions : List Version) : Type 0 where
   pub runs : Runs (start_of d versions) events world
   pub good : AreGood world
   pub came : HaveAllCome (lines_of d) world
   pub spent : AreSpent world
-  pub done : is_some world.fleet.control.halt ≡ false → world.fleet.control.phase ≡ last_phase world
+  pub done : is_some world.fleet.control.halt ≡ false → IsLast world
   pub lost : (s : ℕ) → IsIn events (event.Controller (of_controller.Lost s)) → HasRisen net.broken
   pub costs : HasRisenBy (losses events) net.broken
   pub last : HaltsLast d versions

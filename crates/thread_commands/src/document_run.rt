@@ -82,6 +82,7 @@ where
         hops: u64::from(settings.hops),
         capacity: settings.capacity as usize,
         rejoins: settings.rejoins as usize,
+        overlap: None,
     };
     let world = World::start(alloc, versions, topology, settings)?;
     let ends = match make_pairs(alloc, net, count) {

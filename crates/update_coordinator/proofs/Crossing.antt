@@ -1,6 +1,6 @@
 -- A coordinator may go to another thread: so may the cause of its halt, which may hold a history.
 use denote.RattleType.{RattleType}
-use denote.Builtin.{usize}
+use denote.Builtin.{usize, u16}
 use denote.Struct.Field.{usize-field, u16-field}
 use denote.Param.Send.{IsSend, view_send, sendable}
 use denote.Param.SendFields.{declared_send, variants_send, as_row_send}
@@ -47,16 +47,25 @@ coordinator-inside = declared_send coordinator_inside.the_type (
       (
         vec-send usize (search sendable),
         (
-          vec-send site.the_row sites.the_send,
+          vec-send u16 (search sendable),
           (
-            vec-send span.the_row spans.the_send,
+            vec-send site.the_row sites.the_send,
             (
-              vec-send cursor.the_row cursors.the_send,
+              vec-send span.the_row spans.the_send,
               (
-                trackers.the_send,
+                vec-send cursor.the_row cursors.the_send,
                 (
-                  as_row_send usize-field (search sendable),
-                  tt,
+                  trackers.the_send,
+                  (
+                    as_row_send usize-field (search sendable),
+                    (
+                      options.the_send u16 (search sendable),
+                      (
+                        as_row_send usize-field (search sendable),
+                        tt,
+                      ),
+                    ),
+                  ),
                 ),
               ),
             ),

@@ -1,22 +1,21 @@
 -- The cursors stand where the batches are read on, over each step.
-use Rattle.std.proofs.Common.{◌≡◌, ◌≢◌, ◌+◌, ◌-◌, ◌==◌, ◌⊎◌, inl, inr, ℕ, zero, suc, Bool, true, false, List, [], ◌∷◌, ◌++◌, length, map, drop, slice_get, slice_set, replicate, Option, Some, None, refl, sym, ◌∙◌, ap, subst, arith}
-use Rattle.std.specs.List.{flat_map, filter}
+use Rattle.std.proofs.Common.{◌≡◌, ◌+◌, ◌-◌, inl, inr, ℕ, Bool, true, false, List, [], ◌∷◌, ◌++◌, length, map, drop, slice_get, slice_set, Option, Some, None, refl, sym, ◌∙◌, ap, subst, arith}
+use Rattle.std.specs.List.{flat_map}
 use Rattle.std.proofs.lemmas.List.{length-set, length-map, append-nil}
-use Rattle.nk_values.specs.declared.row.Row.{Row}
 use Rattle.nk_values.specs.declared.row.FlowMod.{FlowMod}
 use Rattle.nk_values.specs.declared.rows.Rows.{Rows}
 use Rattle.openflow_wire.specs.RowChanges.{mod_of}
 use Rattle.update_plan.specs.declared.cursor.Share.{Share}
-use Rattle.update_plan.specs.declared.cursor.Share.TheVariants.{Bulk, Round}
+use Rattle.update_plan.specs.declared.cursor.Share.TheVariants.{Bulk, Round, Ingress, Internal}
 use Rattle.update_plan.specs.declared.cursor.Cursor.{Cursor}
 use Rattle.update_plan.specs.Batches.{ports_at, band_of}
-use Rattle.update_plan.specs.Reading.{share_of, from_port, ports_of, side, side_from, IsSpan, cursor_at}
+use Rattle.update_plan.specs.Reading.{share_of, ports_of, side, side_from, IsSpan, cursor_at}
 use Rattle.update_plan.specs.declared.cursor.Span.{Span}
 use Rattle.update_plan.proofs.Cursors.{goes_first}
 use Rattle.update_coordinator.specs.declared.phase.Phase.{Phase}
-use Rattle.update_coordinator.specs.declared.phase.Phase.TheVariants.{Opening, Idle, Install, Flip, Drain, Clean}
+use Rattle.update_coordinator.specs.declared.phase.Phase.TheVariants.{Opening, Idle, Install, Flip, Drain, Clean, Tidy, Sweep}
 use Rattle.update_coordinator.specs.Phases.{works}
-use Rattle.update_coordinator.specs.Batches.{version_at, wipe, batch}
+use Rattle.update_coordinator.specs.Batches.{version_at, batch}
 use Rattle.openflow_wire.specs.declared.message.Message.{Message}
 use Rattle.session_core.specs.declared.session.Move.{Move}
 use Rattle.session_core.specs.declared.session.Move.TheVariants as move
@@ -43,16 +42,22 @@ both_are : (share : Share) (new old : Option Rows) (sw : ℕ) (span : Span) → 
     map (mod_of true) (flat_map (λ p. share_of share true (band_of new) p) (ports_at new sw)) ++ map (mod_of false) (flat_map (λ p. share_of share false (band_of old) p) (ports_at old sw))
 both_are share new old sw span h = (λ j. side_is share true new sw span h j ++ whole_is share false old sw j)
 
-none_from : (span : Span) (sw : ℕ) → side_from Bulk true None sw (cursor_at span).at ≡ []
-none_from span sw = goes_first Bulk true None sw span (λ k p e. absurd (cc))
+none_from : (share : Share) (span : Span) (sw : ℕ) → side_from share true None sw (cursor_at span).at ≡ []
+none_from share span sw = goes_first share true None sw span (λ k p e. absurd (cc))
+
+-- where nothing comes in
+goes_alone : (share : Share) (v : Option Rows) (sw : ℕ) (span : Span) → map (mod_of false) (flat_map (λ p. share_of share false (band_of v) p) (ports_at v sw)) ≡ side_from share true None sw (cursor_at span).at ++ side share false v sw
+goes_alone share v sw span = sym (whole_is share false v sw) ∙ sym (ap (λ (ms : List FlowMod). ms ++ side share false v sw) (none_from share span sw))
 
 pub front_is : (versions : List Rows) (ph : Phase) (sw : ℕ) (span : Span) → AreBetween versions sw span → batch versions ph sw ≡ left_in versions ph sw 0 (cursor_at span)
 front_is versions Opening sw span h = refl
-front_is versions (Idle i) sw span h = sym (ap (λ (ms : List FlowMod). ms ++ []) (none_from span sw))
+front_is versions (Idle i) sw span h = sym (ap (λ (ms : List FlowMod). ms ++ []) (none_from Bulk span sw))
 front_is versions (Install i) sw span h = sym (side_is Bulk true (version_at versions i) sw span (h i)) ∙ sym (append-nil (side_from Bulk true (version_at versions i) sw (cursor_at span).at))
 front_is versions (Flip i r) sw span h = sym (both_are (Round r) (version_at versions i) (version_at versions (i - 1)) sw span (h i))
-front_is versions (Drain i) sw span h = sym (ap (λ (ms : List FlowMod). ms ++ []) (none_from span sw))
-front_is versions (Clean i) sw span h = sym (whole_is Bulk false (version_at versions (i - 1)) sw) ∙ sym (ap (λ (ms : List FlowMod). ms ++ side Bulk false (version_at versions (i - 1)) sw) (none_from span sw))
+front_is versions (Drain i) sw span h = sym (ap (λ (ms : List FlowMod). ms ++ []) (none_from Bulk span sw))
+front_is versions (Clean i) sw span h = goes_alone Bulk (version_at versions (i - 1)) sw span
+front_is versions (Tidy i) sw span h = goes_alone Ingress (version_at versions (i - 1)) sw span
+front_is versions (Sweep i v) sw span h = goes_alone Internal (version_at versions v) sw span
 
 -- ---- over each step
 
@@ -120,12 +125,12 @@ phase_read c ph spans old cursors a n f = record {
   between = λ k s span e d. let y = get_map (begun_site (works ph)) c.sites k s e in subst (λ (n : ℕ). AreBetween c.versions n span) (sym (ap (λ (z : Site). z.sw) y.2)) (a.between k y.0 span y.1 d);
 }
 
-pub start_read : (versions : List Rows) (switches : List ℕ) (rejoins : ℕ) (spans : List Span) (cursors : List Cursor) → length cursors ≡ length switches → length spans ≡ length switches →
-    ((k sw : ℕ) (span : Span) → slice_get switches k ≡ Some sw → slice_get spans k ≡ Some span → AreBetween versions sw span) → AreRead (start versions switches rejoins) spans cursors
-start_read versions switches rejoins spans cursors n m f = record {
+pub start_read : (versions : List Rows) (switches : List ℕ) (rejoins : ℕ) (overlap : Option ℕ) (spans : List Span) (cursors : List Cursor) → length cursors ≡ length switches → length spans ≡ length switches →
+    ((k sw : ℕ) (span : Span) → slice_get switches k ≡ Some sw → slice_get spans k ≡ Some span → AreBetween versions sw span) → AreRead (start versions switches rejoins overlap) spans cursors
+start_read versions switches rejoins overlap spans cursors n m f = record {
   count = n ∙ sym (length-map switches new_site);
   many = m ∙ sym (length-map switches new_site);
-  each = λ k s x e d. let y = get_map new_site switches k s e in subst (λ (z : Site). IsRead (start versions switches rejoins) z x) (sym y.2) refl;
+  each = λ k s x e d. let y = get_map new_site switches k s e in subst (λ (z : Site). IsRead (start versions switches rejoins overlap) z x) (sym y.2) refl;
   between = λ k s span e d. let y = get_map new_site switches k s e in subst (λ (n : ℕ). AreBetween versions n span) (sym (ap (λ (z : Site). z.sw) y.2)) (f k y.0 span y.1 d);
 }
 

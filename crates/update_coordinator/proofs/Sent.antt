@@ -1,5 +1,5 @@
 -- What goes out is what comes first, and fits.
-use Rattle.std.proofs.Common.{◌≡◌, ◌≢◌, ◌<◌, ◌+◌, ◌^◌, ◌⊎◌, inl, inr, ℕ, Bool, true, false, List, [], ◌∷◌, ◌++◌, map, drop, slice_get, slice_set, Option, Some, None, Result, Ok, Err, IfOk, IfNone, IfSome, refl, sym, ◌∙◌, ap, subst, arith}
+use Rattle.std.proofs.Common.{◌≡◌, ◌<◌, ◌+◌, ◌^◌, inl, inr, ℕ, Bool, true, false, List, [], ◌∷◌, drop, slice_get, slice_set, Option, Some, None, Result, Ok, Err, IfOk, IfNone, IfSome, refl, sym, ◌∙◌, ap, subst, arith}
 use Rattle.nk_values.specs.declared.row.FlowMod.{FlowMod}
 use Rattle.openflow_wire.specs.declared.message.Message.{Message}
 use Rattle.openflow_wire.specs.declared.message.Message.TheVariants as to
@@ -8,8 +8,8 @@ use Rattle.barrier_tracker.specs.declared.tracker.Awaited.TheVariants as awaited
 use Rattle.update_plan.specs.declared.cursor.Cursor.{Cursor}
 use Rattle.update_plan.specs.declared.cursor.Span.{Span}
 use Rattle.update_plan.specs.declared.reading.Read.{Read}
-use Rattle.update_coordinator.specs.Controls.{Control, Site, Order, Greet, Ask, Change, Fence, message_of, orders_of, unsent, batch_at, unsent_at}
-use Rattle.update_coordinator.specs.Kept.{IsControl, Known}
+use Rattle.update_coordinator.specs.Controls.{Control, Site, Order, Change, Fence, orders_of, unsent, batch_at, unsent_at}
+use Rattle.update_coordinator.specs.Kept.{IsControl}
 use Rattle.update_coordinator.specs.Sending.{went, expected, MaySend, IsSent}
 use Rattle.update_coordinator.specs.Sites.{in_batch, GreetsBy, GreetsAt, SendsAt, FencesAt}
 use Rattle.update_coordinator.specs.Reading.{left_in, IsAtEnd, IsAtChange, AreRead}

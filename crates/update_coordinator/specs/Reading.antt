@@ -3,20 +3,22 @@ use Rattle.std.specs.Prelude.{◌≡◌, ℕ, ◌+◌, ◌-◌, Bool, true, List
 use Rattle.nk_values.specs.declared.row.FlowMod.{FlowMod}
 use Rattle.nk_values.specs.declared.rows.Rows.{Rows}
 use Rattle.update_plan.specs.declared.cursor.Share.{Share}
-use Rattle.update_plan.specs.declared.cursor.Share.TheVariants.{Bulk, Round}
+use Rattle.update_plan.specs.declared.cursor.Share.TheVariants.{Bulk, Round, Ingress, Internal}
 use Rattle.update_plan.specs.declared.cursor.Cursor.{Cursor}
 use Rattle.update_plan.specs.Reading.{left_by, IsSpan, ports_of, cursor_at}
 use Rattle.update_plan.specs.declared.cursor.Span.{Span}
 use Rattle.session_core.specs.declared.session.Move.{Move}
 use Rattle.session_core.specs.declared.session.Move.TheVariants.{Up}
 use Rattle.update_coordinator.specs.declared.phase.Phase.{Phase}
-use Rattle.update_coordinator.specs.declared.phase.Phase.TheVariants.{Opening, Idle, Install, Flip, Drain, Clean}
+use Rattle.update_coordinator.specs.declared.phase.Phase.TheVariants.{Opening, Install, Flip, Clean, Tidy, Sweep}
 use Rattle.update_coordinator.specs.Batches.{version_at, wipe, batch}
 use Rattle.update_coordinator.specs.Controls.{Control, Site, batch_at}
 
 -- which rows of a port come or go, of which policy they come and of which they go
 abbrev pub share_in : Phase → Share
 share_in (Flip i r) = Round r
+share_in (Tidy i) = Ingress
+share_in (Sweep i v) = Internal
 share_in _ = Bulk
 
 abbrev pub coming_in : List Rows → Phase → Option Rows
@@ -27,6 +29,8 @@ coming_in versions _ = None
 abbrev pub going_in : List Rows → Phase → Option Rows
 going_in versions (Flip i r) = version_at versions (i - 1)
 going_in versions (Clean i) = version_at versions (i - 1)
+going_in versions (Tidy i) = version_at versions (i - 1)
+going_in versions (Sweep i v) = version_at versions v
 going_in versions _ = None
 
 -- what is left of the batch of a phase: in Opening by how much of it went out, else at a cursor

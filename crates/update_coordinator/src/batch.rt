@@ -32,7 +32,9 @@ pub(crate) fn read_in(
         | Phase::Install(_)
         | Phase::Flip(_, _)
         | Phase::Drain(_)
-        | Phase::Clean(_) => read_next(
+        | Phase::Clean(_)
+        | Phase::Tidy(_)
+        | Phase::Sweep(_, _) => read_next(
             alloc,
             cursor,
             share_in(phase),
@@ -70,6 +72,8 @@ fn share_in(phase: Phase) -> Share
 {
     match phase {
         Phase::Flip(_, round) => Share::Round(round),
+        Phase::Tidy(_) => Share::Ingress,
+        Phase::Sweep(_, _) => Share::Internal,
         _ => Share::Bulk,
     }
 }
@@ -92,6 +96,8 @@ fn going_in(versions: &[Rows], phase: Phase) -> Option<&Rows>
     match phase {
         Phase::Flip(policy, _) => version_at(versions, policy.saturating_sub(1)),
         Phase::Clean(policy) => version_at(versions, policy.saturating_sub(1)),
+        Phase::Tidy(policy) => version_at(versions, policy.saturating_sub(1)),
+        Phase::Sweep(_, policy) => version_at(versions, policy),
         _ => None,
     }
 }

@@ -1,12 +1,11 @@
 //! The coordinator, and the phases that it goes through.
-ghost use Rattle.update_coordinator.specs.Calls.{is_stamp};
-ghost use Rattle.std.specs.Prelude.{ℕ, IsTrue, ◌↔◌, IfOk, ◌≡◌, None, Some, OnOk, OnErr, IfSome, length, option_map};
+ghost use Rattle.std.specs.Prelude.{IsTrue, ◌↔◌, IfOk, ◌≡◌, None, OnOk, OnErr, length, option_map};
 
 use crate::cause::Cause;
 use crate::phase::{Entry, Phase};
 use crate::refusal::Refusal;
 use crate::site::Site;
-use crate::starting::{cursors_of, rounds_of, sites_of, spans_of};
+use crate::starting::{cursors_of, rounds_of, sites_of, spans_of, stamps_of};
 use barrier_tracker::Tracker;
 use nk_values::Rows;
 use std::alloc::{AllocError, Global};
@@ -15,7 +14,8 @@ use update_plan::{Cursor, Span};
 
 /// Takes switches from one policy to the next, phase by phase (SIGCOMM 2012, section 5.1). It keeps the rows of all
 /// policies, and reads each flow mod off them when it is sent. Clauses see the phase, why it is halted, the rows of
-/// each policy, the switches, the replies of the batch, and how many sessions may still be lost without a halt.
+/// each policy, the switches, the replies of the batch, and how many sessions may still be lost without a halt. They
+/// see how many stamps there are if drains overlap, and of how many policies all rows are gone again.
 #[derive(Drop)]
 pub struct Coordinator {
     pub(crate) phase: Phase,
@@ -23,6 +23,8 @@ pub struct Coordinator {
     pub(crate) versions: Vec<Rows>,
     // How many rounds each update has.
     pub(crate) rounds: Vec<usize>,
+    // The stamp of each policy.
+    pub(crate) stamps: Vec<u16>,
     pub(crate) sites: Vec<Site>,
     // Where the ports of each switch stand in the rows.
     pub(crate) spans: Vec<Span>,
@@ -30,54 +32,60 @@ pub struct Coordinator {
     pub(crate) cursors: Vec<Cursor>,
     pub(crate) replies: Tracker,
     pub(crate) rejoins: usize,
+    pub(crate) overlap: Option<u16>,
+    // Of how many policies, from the first on, all rows are gone again.
+    pub(crate) swept: usize,
 }
 
 impl Model for Coordinator {
     ghost use Rattle.update_coordinator.specs.Controls.{Control};
-    ghost use Rattle.update_coordinator.specs.Kept.{IsControl};
-    ghost use Rattle.update_coordinator.specs.Batches.{rounds_of};
+    ghost use Rattle.update_coordinator.specs.Kept.{IsControl, AreNoted};
     ghost use Rattle.update_coordinator.specs.Reading.{AreRead};
-    ghost use Rattle.std.specs.Prelude.{◌≡◌};
 
     ghost Value = { Control };
 
-    ghost view = { λ c. record { phase = c.phase; halt = c.halt; versions = c.versions.items; sites = c.sites.items; replies = c.replies; rejoins = c.rejoins } };
+    ghost view = { λ c. record { phase = c.phase; halt = c.halt; versions = c.versions.items; sites = c.sites.items; replies = c.replies; rejoins = c.rejoins; overlap = c.overlap; swept = c.swept } };
 
-    ghost invariant = { λ c. IsControl (record { phase = c.phase; halt = c.halt; versions = c.versions.items; sites = c.sites.items; replies = c.replies; rejoins = c.rejoins }) × (c.rounds.items ≡ rounds_of c.versions.items) × AreRead (record { phase = c.phase; halt = c.halt; versions = c.versions.items; sites = c.sites.items; replies = c.replies; rejoins = c.rejoins }) c.spans.items c.cursors.items };
+    ghost invariant = { λ c. IsControl (record { phase = c.phase; halt = c.halt; versions = c.versions.items; sites = c.sites.items; replies = c.replies; rejoins = c.rejoins; overlap = c.overlap; swept = c.swept }) × AreNoted c.versions.items c.rounds.items c.stamps.items × AreRead (record { phase = c.phase; halt = c.halt; versions = c.versions.items; sites = c.sites.items; replies = c.replies; rejoins = c.rejoins; overlap = c.overlap; swept = c.swept }) c.spans.items c.cursors.items };
 }
 
 impl Coordinator {
     ghost use Rattle.std.specs.List.{AllByRecursion};
     ghost use Rattle.std.specs.Prelude.{◌≤◌};
     ghost use Rattle.policy_rows.specs.Limits.{AreWithinLimits, AreWritable};
-    ghost use Rattle.update_coordinator.specs.Calls.{begun, drained, begin_refusal, drain_refusal, refusal_of};
+    ghost use Rattle.update_coordinator.specs.Calls.{begun, begin_refusal, refusal_of};
     ghost use Rattle.update_coordinator.specs.Phases.{entry};
     ghost use Rattle.update_coordinator.specs.Starts.{start};
 
     /// A coordinator of the updates to these policies, one after the other, at the switches with these numbers, of
-    /// which `rejoins` sessions may be lost without a halt.
+    /// which `rejoins` sessions may be lost without a halt. With `overlap`, the number of stamps that go round, an
+    /// update may begin while packets of policies before the current one are on their way.
     pub fn new(
         alloc: Global,
         versions: Vec<Rows>,
         switches: &[u16],
         rejoins: usize,
+        overlap: Option<u16>,
     ) -> Result<Coordinator, AllocError>
         requires count { length versions.items ≤ 64 }
         requires limits { AllByRecursion AreWithinLimits versions.items }
         requires writable { AllByRecursion AreWritable versions.items }
         requires rejoins { rejoins ≤ 1000 }
-        ensures { IfOk result (λ c. c ≡ start versions.items switches.now rejoins) }
+        ensures { IfOk result (λ c. c ≡ start versions.items switches.now rejoins overlap) }
     {
         Ok(Coordinator {
             phase: Phase::Opening,
             halt: None,
             rounds: rounds_of(alloc, &versions)?,
+            stamps: stamps_of(alloc, &versions)?,
             spans: spans_of(alloc, &versions, switches)?,
             versions,
             sites: sites_of(alloc, switches)?,
             cursors: cursors_of(alloc, switches.len())?,
             replies: Tracker::new(alloc, switches.len())?,
             rejoins,
+            overlap,
+            swept: 0,
         })
     }
 
@@ -124,7 +132,7 @@ impl Coordinator {
             return false;
         }
         match self.phase {
-            Phase::Idle(policy) => policy < self.versions.len(),
+            Phase::Idle(policy) => policy < self.versions.len() && self.has_stamp(policy),
             _ => false,
         }
     }
@@ -144,67 +152,10 @@ impl Coordinator {
         if policy >= self.versions.len() {
             return Err(Refusal::NothingLeft);
         }
+        if !self.has_stamp(policy) {
+            return Err(Refusal::NoStamp);
+        }
         self.enter(Phase::Install(policy + 1));
         Ok(())
-    }
-
-    /// The stamp of which the report is waited for that no packet carries it any more.
-    pub fn draining(&self) -> Option<u16>
-        ensures some { IfSome result (λ stamp. drain_refusal self.now stamp ≡ None) }
-        ensures only { (stamp : ℕ) → drain_refusal self.now stamp ≡ None → result ≡ Some stamp }
-    {
-        if self.halt.is_some() {
-            return None;
-        }
-        match self.phase {
-            Phase::Drain(policy) => stamp_of(self.versions.get(policy.saturating_sub(2))),
-            _ => None,
-        }
-    }
-
-    /// Whether the report that no packet carries this stamp any more is waited for.
-    pub fn may_drain(&self, stamp: u16) -> bool
-        ensures { IsTrue result ↔ (drain_refusal self.now stamp ≡ None) }
-    {
-        self.draining() == Some(stamp)
-    }
-
-    /// Takes the report that no packet carries this stamp any more.
-    pub fn drained(&mut self, stamp: u16) -> Result<(), Refusal>
-        ensures refused { refusal_of result ≡ drain_refusal self.old stamp }
-        ensures ok { OnOk result (self.new ≡ drained self.old) }
-        ensures err { OnErr result (self.new ≡ self.old) }
-    {
-        if self.halt.is_some() {
-            return Err(Refusal::Halted);
-        }
-        let Phase::Drain(policy) = self.phase else {
-            return Err(Refusal::NotDraining);
-        };
-        if !is_stamp(self.versions.get(policy.saturating_sub(2)), stamp) {
-            return Err(Refusal::NotDraining);
-        }
-        self.enter(Phase::Clean(policy));
-        Ok(())
-    }
-}
-
-// Whether this is a policy's stamp.
-fn is_stamp(known: Option<&Rows>, stamp: u16) -> bool
-    ensures { result ≡ is_stamp (option_map (λ v. v.now) known.entry) stamp }
-{
-    match known {
-        Some(v) => v.stamp == stamp,
-        None => false,
-    }
-}
-
-// A policy's stamp, if there is one.
-fn stamp_of(known: Option<&Rows>) -> Option<u16>
-    ensures { result ≡ option_map (λ v. v.now.stamp) known.entry }
-{
-    match known {
-        Some(v) => Some(v.stamp),
-        None => None,
     }
 }

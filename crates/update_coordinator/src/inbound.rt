@@ -1,5 +1,5 @@
 //! What the messages of a switch do, and the loss and the return of its session.
-ghost use Rattle.std.specs.Prelude.{ℕ, IsTrue, ◌↔◌, ◌≡◌, ◌<◌, ◌≢◌, None, IfErr, IfOk, OnOk, OnErr, length};
+ghost use Rattle.std.specs.Prelude.{IsTrue, ◌↔◌, ◌≡◌, ◌<◌, ◌≢◌, None, IfErr, IfOk, OnOk, OnErr, length};
 
 use crate::batch::{begin_again, begin_all};
 use crate::cause::Cause;
@@ -12,10 +12,11 @@ use openflow_wire::{Message, WireFault};
 use session_core::Move;
 
 impl Coordinator {
-    ghost use Rattle.std.specs.Prelude.{◌≤◌};
     ghost use Rattle.update_coordinator.specs.Calls.{IsRefusedAway, IsRefusedPresent};
     ghost use Rattle.update_coordinator.specs.Controls.{halted, in_phase};
-    ghost use Rattle.update_coordinator.specs.Counts.{comes_to, behind};
+    ghost use Rattle.update_coordinator.specs.Counts.{IsCounted};
+    ghost use Rattle.update_coordinator.specs.Kept.{Suits};
+    ghost use Rattle.update_coordinator.specs.Phases.{swept_after};
     ghost use Rattle.update_coordinator.specs.Sending.{HasGreeted};
     ghost use Rattle.update_coordinator.specs.Hearing.{IsHeard, IsAnswered, IsLost, IsGarbled, IsBack, IsAway, IsSentAway, due};
 
@@ -154,7 +155,7 @@ impl Coordinator {
     {
         match self.replies.heard(place, xid) {
             Heard::Last => {
-                let phase = self.phase.acknowledged(&self.rounds);
+                let phase = self.phase.acknowledged(self.overlap, &self.rounds);
                 self.enter(phase);
             }
             Heard::More => {}
@@ -171,10 +172,12 @@ impl Coordinator {
 
     // A phase begins.
     pub(crate) fn enter(&mut self, phase: Phase)
-        requires { (sw : ℕ) → comes_to self.old.versions phase sw ≤ behind self.old.versions self.old.phase sw }
+        requires counted { IsCounted phase self.old }
+        requires suits { Suits self.old.overlap self.old.versions (swept_after self.old.phase self.old.swept) phase }
         ensures { self.new ≡ in_phase phase self.old }
     {
         self.replies.restart();
+        self.swept = self.phase.swept_after(self.swept);
         self.phase = phase;
         begin_phases(&mut self.sites, phase.works());
         begin_all(&mut self.cursors, &self.spans);

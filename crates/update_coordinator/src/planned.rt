@@ -1,13 +1,16 @@
 //! The rows that a switch holds once the batch of the phase is done.
-ghost use Rattle.std.specs.Prelude.{◌≡◌, ◌++◌, ◌∷◌, [], ◌-◌, ◌==◌, IfOk, OnOk, take};
+ghost use Rattle.std.specs.Prelude.{◌≡◌, ◌++◌, ◌∷◌, [], ◌-◌, ◌==◌, None, Some, IfOk, OnOk, take};
 ghost use Rattle.std.specs.List.{filter};
-ghost use Rattle.update_coordinator.specs.Batches.{part_at, part_len, part_of, planned, version_at};
+ghost use Rattle.update_plan.specs.Batches.{internal_rows, ports_at};
+ghost use Rattle.update_coordinator.specs.Batches.{held, internal_of, part_at, part_len, part_of, planned, version_at};
 
 use crate::batch::version_at;
 use crate::coordinator::Coordinator;
+use crate::drains::draining_in;
 use crate::phase::Phase;
 use nk_values::{Band, Duplicate, PortKind, PortRows, Row, Rows};
 use std::alloc::{AllocError, Global};
+use update_plan::internal;
 
 /// How many rows are there of a list that comes or goes round by round.
 #[derive(Clone, Copy, PartialEq, Eq)]
@@ -33,23 +36,67 @@ impl Coordinator {
     /// The rows that the switch with this number holds once the batch of the phase is done, if it refuses none. A halt
     /// keeps the phase.
     pub fn planned(&self, alloc: Global, sw: u16) -> Result<Vec<Row>, AllocError>
-        ensures { IfOk result (λ v. v.items ≡ planned self.now.versions self.now.phase sw) }
+        ensures rows { IfOk result (λ v. v.items ≡ planned self.now.versions self.now.swept self.now.phase sw) }
+        // Without overlap these are all of the current policy, or of it and the one that comes in or goes.
+        ensures alone { self.now.overlap ≡ None → IfOk result (λ v. v.items ≡ held self.now.versions self.now.phase sw) }
     {
-        planned_in(alloc, &self.versions, self.phase, sw)
+        planned_in(alloc, &self.versions, self.swept, self.phase, sw)
     }
 }
 
 fn planned_in(
     alloc: Global,
     versions: &[Rows],
+    swept: usize,
     phase: Phase,
     sw: u16,
 ) -> Result<Vec<Row>, AllocError>
-    ensures { IfOk result (λ v. v.items ≡ planned versions.now phase sw) }
+    ensures { IfOk result (λ v. v.items ≡ planned versions.now swept phase sw) }
+{
+    let staying = draining_in(versions, phase.swept_after(swept), phase);
+    let mut rows = internal_of(alloc, staying, sw)?;
+    let held = held_in(alloc, versions, phase, sw)?;
+    append(alloc, &mut rows, &held)?;
+    Ok(rows)
+}
+
+// The internal rows of policies at a switch.
+fn internal_of(alloc: Global, versions: &[Rows], sw: u16) -> Result<Vec<Row>, AllocError>
+    ensures { IfOk result (λ v. v.items ≡ internal_of versions.now sw) }
+{
+    let mut rows = Vec::new(alloc);
+    for version in versions {
+        append_internal(alloc, &mut rows, version.ports.as_slice(), sw)?;
+    }
+    Ok(rows)
+}
+
+// Puts copies of the internal rows of the ports of a switch at the end.
+fn append_internal(
+    alloc: Global,
+    rows: &mut Vec<Row>,
+    ports: &[PortRows],
+    sw: u16,
+) -> Result<(), AllocError>
+    ensures { OnOk result (rows.new.items ≡ rows.old.items ++ internal_rows (filter (λ p. p.sw == sw) ports.now)) }
+{
+    for port in ports {
+        if port.sw == sw {
+            append(alloc, rows, internal(port.kind, port.rows.as_slice()))?;
+        }
+    }
+    Ok(())
+}
+
+// The rows of the current policy, and of the one that comes in or goes.
+fn held_in(alloc: Global, versions: &[Rows], phase: Phase, sw: u16) -> Result<Vec<Row>, AllocError>
+    ensures { IfOk result (λ v. v.items ≡ held versions.now phase sw) }
 {
     match phase {
         Phase::Opening => Ok(Vec::new(alloc)),
-        Phase::Idle(i) | Phase::Clean(i) => rows_of(alloc, versions, i, sw, Part::AllBut(0)),
+        Phase::Idle(i) | Phase::Clean(i) | Phase::Tidy(i) | Phase::Sweep(i, _) => {
+            rows_of(alloc, versions, i, sw, Part::AllBut(0))
+        }
         Phase::Install(i) => both(alloc, versions, i, sw, Part::AllBut(0), Part::First(0)),
         Phase::Flip(i, round) => {
             both(

@@ -42,28 +42,28 @@ own-of true base rows_ left rows a r m = a.own r m
 own-of false base rows_ left rows a r m = a.own r m
 
 -- all of a batch that is due is to come once more; of one that is not, nothing is left
-lost-table : (c : Setting) (ph : Phase) (l : Wire) (i : IsLine c ph false l) (b : Bool) → i.due ≡ b → IsTable c ph false (Left c ph l.switch.sw b Away i.held) [] l.switch.sw l.switch.table.rows
-lost-table c ph l i true d =
+lost-table : (c : Setting) (swept : ℕ) (ph : Phase) (l : Wire) (i : IsLine c swept ph false l) (b : Bool) → i.due ≡ b → IsTable c swept ph false (Left c ph l.switch.sw b Away i.held) [] l.switch.sw l.switch.table.rows
+lost-table c swept ph l i true d =
     let sw = l.switch.sw in
     record {
       refused = [];
-      changing = changing-again (adds c ph) (Base c ph sw) (batch c ph sw) (λ r. Left c ph sw i.due i.stage i.held r ⊎ IsIn i.table.refused r) (λ r. Left c ph sw true Away i.held r ⊎ IsIn [] r) l.switch.table.rows
-          (λ r m. let k = own-of (adds c ph) (Base c ph sw) (batch c ph sw) (λ r. Left c ph sw i.due i.stage i.held r ⊎ IsIn i.table.refused r) l.switch.table.rows i.table.changing r m in inl (k, inl (in-job c ph sw r k)))
+      changing = changing-again (adds c ph) (Base c swept ph sw) (batch c ph sw) (λ r. Left c ph sw i.due i.stage i.held r ⊎ IsIn i.table.refused r) (λ r. Left c ph sw true Away i.held r ⊎ IsIn [] r) l.switch.table.rows
+          (λ r m. let k = own-of (adds c ph) (Base c swept ph sw) (batch c ph sw) (λ r. Left c ph sw i.due i.stage i.held r ⊎ IsIn i.table.refused r) l.switch.table.rows i.table.changing r m in inl (k, inl (in-job c ph sw r k)))
           (λ r m. elim m [ inl x ↦ x.0 | inr n ↦ absurd n ]) i.table.changing;
       excuse = inl refl;
     }
-lost-table c ph l i false d =
+lost-table c swept ph l i false d =
     let sw = l.switch.sw in
-    let t = rested c ph l i d in
+    let t = rested c swept ph l i d in
     record {
       refused = [];
-      changing = changing-same (adds c ph) (Base c ph sw) (batch c ph sw) (λ r. ⊥) (λ r. Left c ph sw false Away i.held r ⊎ IsIn [] r) l.switch.table.rows
+      changing = changing-same (adds c ph) (Base c swept ph sw) (batch c ph sw) (λ r. ⊥) (λ r. Left c ph sw false Away i.held r ⊎ IsIn [] r) l.switch.table.rows
           (λ r m. absurd m) (λ r m. elim m [ inl x ↦ none-todo (job c ph sw) Away i.held (mod_of (adds c ph) r) tt t.no_mods x.1 | inr n ↦ n ]) t.rows;
       excuse = inl refl;
     }
 
-pub lose-line : (c : Setting) (ph : Phase) (l : Wire) → IsLine c ph false l → IsLine c ph false (lost_wire l)
-lose-line c ph l i = record {
+pub lose-line : (c : Setting) (swept : ℕ) (ph : Phase) (l : Wire) → IsLine c swept ph false l → IsLine c swept ph false (lost_wire l)
+lose-line c swept ph l i = record {
   stage = Away;
   due = i.due;
   held = i.held;
@@ -77,7 +77,7 @@ lose-line c ph l i = record {
   full = λ m x. absurd x;
   mine = λ m x. elim x [ inl y ↦ later-in i.due (job c ph l.switch.sw) m y | inr y ↦ i.mine m (inr y) ];
   clear = λ d. record { no_mods = (i.clear d).no_mods; no_errors = refl };
-  table = lost-table c ph l i i.due refl;
+  table = lost-table c swept ph l i i.due refl;
   capacity = i.capacity;
   current = i.current;
   standing = record { datapath = i.standing.datapath; state = inr refl };
@@ -95,14 +95,14 @@ away-is (Answered x) e = false-true e
 away-is Resting e = false-true e
 
 -- nothing goes to it or comes from it, and neither side waits for an answer
-pub away-line : (c : Setting) (ph : Phase) (h : Bool) (l : Wire) → l.site.away ≡ true → IsLine c ph h l → IsGone l
-away-line c ph h l w i = subst (λ (st : Stage). IsAt st l) (away-is i.stage (sym i.away ∙ w)) i.at
+pub away-line : (c : Setting) (swept : ℕ) (ph : Phase) (h : Bool) (l : Wire) → l.site.away ≡ true → IsLine c swept ph h l → IsGone l
+away-line c swept ph h l w i = subst (λ (st : Stage). IsAt st l) (away-is i.stage (sym i.away ∙ w)) i.at
 
-pub return-line : (c : Setting) (ph : Phase) (xid : ℕ) (l : Wire) → l.site.away ≡ true → IsLine c ph false l → IsLine c ph false (returned_wire xid l)
-return-line c ph xid l w i =
+pub return-line : (c : Setting) (swept : ℕ) (ph : Phase) (xid : ℕ) (l : Wire) → l.site.away ≡ true → IsLine c swept ph false l → IsLine c swept ph false (returned_wire xid l)
+return-line c swept ph xid l w i =
     let sw = l.switch.sw in
     let gone : i.stage ≡ Away = away-is i.stage (sym i.away ∙ w) in
-    let a = away-line c ph false l w i in
+    let a = away-line c swept ph false l w i in
     let silent : i.voice.before ++ (i.voice.said ++ i.voice.behind) ≡ [] = sym i.voice.is ∙ a.back in
     let none : i.errors ≡ [] = i.voice.parts ∙ (λ j. empty-left i.voice.before (i.voice.said ++ i.voice.behind) silent j ++ empty-right i.voice.said i.voice.behind (empty-right i.voice.before (i.voice.said ++ i.voice.behind) silent) j) in
     record {
@@ -119,7 +119,7 @@ return-line c ph xid l w i =
       full = λ m x. absurd x;
       mine = λ m x. i.mine m (subst (λ (st : Stage). IsTodo (job c ph sw) i.due st i.held m) (sym gone) x);
       clear = λ d. record { no_mods = (i.clear d).no_mods; no_errors = refl };
-      table = subst (λ (es : List Message). IsTable c ph false (Left c ph sw i.due Away i.held) es sw l.switch.table.rows) none (subst (λ (st : Stage). IsTable c ph false (Left c ph sw i.due st i.held) i.errors sw l.switch.table.rows) gone i.table);
+      table = subst (λ (es : List Message). IsTable c swept ph false (Left c ph sw i.due Away i.held) es sw l.switch.table.rows) none (subst (λ (st : Stage). IsTable c swept ph false (Left c ph sw i.due st i.held) i.errors sw l.switch.table.rows) gone i.table);
       capacity = i.capacity;
       current = i.current;
       standing = record { datapath = i.standing.datapath; state = elim i.standing.state [ inl q ↦ inl q | inr q ↦ inr (q ∙ ap (λ (st : Stage). state_of st) gone) ] };

@@ -147,12 +147,12 @@ module _ (t : Layout) (k : ℕ) (flights : List Flight) (f : Flight) (a : Arrive
         ];
       }
 
-pub hop-apart : (t : Layout) (c : Setting) → c.wiring ≡ wiring t → IsSetting c → (ph : Phase) → Within c ph → (sw : ℕ) (left : Row → Type 0) (rows : List Row) →
-    Changing (adds c ph) (Base c ph sw) (batch c ph sw) left rows →
+pub hop-apart : (t : Layout) (c : Setting) → c.wiring ≡ wiring t → IsSetting c → (swept : ℕ) (ph : Phase) → Within c swept ph → (sw : ℕ) (left : Row → Type 0) (rows : List Row) →
+    Changing (adds c ph) (Base c swept ph sw) (batch c ph sw) left rows →
     (k : ℕ) (f : Flight) (a : Arrived) (finished : List Trail) (next flights : List Flight) (arrivals : List Arrived) →
-    slice_get flights k ≡ Some f → sw ≡ f.history.newest.sw → IsHop rows t f finished next → slice_get arrivals f.arrival ≡ Some a → IsTraffic t c ph flights arrivals → AreApart flights arrivals →
+    slice_get flights k ≡ Some f → sw ≡ f.history.newest.sw → IsHop rows t f finished next → slice_get arrivals f.arrival ≡ Some a → IsTraffic t c swept ph flights arrivals → AreApart flights arrivals →
     AreApart (remove flights k ++ next) (slice_set arrivals f.arrival (record a { finished = a.finished ++ finished }))
-hop-apart t c same s ph within sw left rows table k f a finished next flights arrivals here at h there i apart =
+hop-apart t c same s swept ph within sw left rows table k f a finished next flights arrivals here at h there i apart =
     subst (λ (es : List Trail). AreApart (remove flights k ++ next) (slice_set arrivals f.arrival (record a { finished = a.finished ++ es }))) (sym h.ends)
     (subst (λ (fs : List Flight). AreApart (remove flights k ++ fs) (slice_set arrivals f.arrival (record a { finished = a.finished ++ all_ends t f h.sent }))) (sym h.goes_on)
     (hop-parts t k flights f a h.sent arrivals here there sent-parts apart))
@@ -160,7 +160,7 @@ hop-apart t c same s ph within sw left rows table k f a finished next flights ar
     sent-parts : ComesApart t f h.sent
     sent-parts =
         let l = (i.each f.arrival a there).flying f (at-in k flights f here) refl in
-        answered-parts t c l.older f h.sent (flight-answered t c same s ph within sw left rows table f l.older h.sent (subst (λ (q : ℕ). IsFlight c ph q f) l.number l) at h.handled)
+        answered-parts t c l.older f h.sent (flight-answered t c same s swept ph within sw left rows table f l.older h.sent (subst (λ (q : ℕ). IsFlight c swept ph q f) l.number l) at h.handled)
 
 -- ---- Arrive
 
@@ -189,13 +189,13 @@ comes-parts : (t : Layout) (c : Setting) (ph : Phase) (f : Flight) (sent : List 
 comes-parts t c ph f sent (Lost q names none e) = subst (λ (xs : List Sent). ComesApart t f xs) (sym e) (parts t f [] tt)
 comes-parts t c ph f sent (Taken u names none a) = answered-parts t c u f sent a
 
-pub arrive-apart : (t : Layout) (c : Setting) → c.wiring ≡ wiring t → IsSetting c → (ph : Phase) → Within c ph → (sw : ℕ) (left : Row → Type 0) (rows : List Row) →
-    Changing (adds c ph) (Base c ph sw) (batch c ph sw) left rows → (pk : Packet) (tag : Option ℕ) (finished : List Trail) (next flights : List Flight) (arrivals : List Arrived) →
+pub arrive-apart : (t : Layout) (c : Setting) → c.wiring ≡ wiring t → IsSetting c → (swept : ℕ) (ph : Phase) → Within c swept ph → (sw : ℕ) (left : Row → Type 0) (rows : List Row) →
+    Changing (adds c ph) (Base c swept ph sw) (batch c ph sw) left rows → (pk : Packet) (tag : Option ℕ) (finished : List Trail) (next flights : List Flight) (arrivals : List Arrived) →
     ((v : ℕ) → tag ≡ Some v → v ≤ 4094) → IsWellShaped pk → IsIn (edges_of t) (standing pk) → sw ≡ pk.sw → IsHop rows t (record { history = start pk; tag = tag; hops = 0; arrival = length arrivals }) finished next →
     ((g : Flight) → IsIn flights g → g.arrival < length arrivals) → AreApart flights arrivals →
     AreApart (flights ++ next) (arrivals ++ record { packet = pk; tag = tag; entry = entry ph; finished = finished } ∷ [])
-arrive-apart t c same s ph within sw left rows table pk tag finished next flights arrivals small shaped edge at h known apart =
+arrive-apart t c same s swept ph within sw left rows table pk tag finished next flights arrivals small shaped edge at h known apart =
     let f : Flight = record { history = start pk; tag = tag; hops = 0; arrival = length arrivals } in
     let a : Arrived = record { packet = pk; tag = tag; entry = entry ph; finished = finished } in
     subst (λ (fs : List Flight). AreApart (flights ++ fs) (arrivals ++ a ∷ [])) (sym h.goes_on)
-    (arrive-parts t f a h.sent flights arrivals refl h.ends known (comes-parts t c ph f h.sent (comes t c same s ph within sw left rows table pk tag h.sent small shaped edge at h.handled)) apart)
+    (arrive-parts t f a h.sent flights arrivals refl h.ends known (comes-parts t c ph f h.sent (comes t c same s swept ph within sw left rows table pk tag h.sent small shaped edge at h.handled)) apart)

@@ -8,16 +8,18 @@ use Rattle.nk_values.specs.declared.rows.PortRows.{PortRows}
 use Rattle.nk_values.specs.declared.rows.Rows.{Rows}
 use Rattle.openflow_wire.specs.RowChanges.{mod_of}
 use Rattle.update_plan.specs.declared.cursor.Share.{Share}
-use Rattle.update_plan.specs.declared.cursor.Share.TheVariants.{Bulk, Round}
+use Rattle.update_plan.specs.declared.cursor.Share.TheVariants.{Bulk, Round, Ingress, Internal}
 use Rattle.update_plan.specs.declared.cursor.Place.{Place}
 use Rattle.update_plan.specs.declared.cursor.Cursor.{Cursor}
 use Rattle.update_plan.specs.declared.cursor.Span.{Span}
-use Rattle.update_plan.specs.Batches.{by_rounds, at_once, row_in, band_of}
+use Rattle.update_plan.specs.Batches.{by_rounds, at_once, ingress, internal, row_in, band_of}
 
--- the rows of a port that come or go: at once, or in a round
+-- the rows of a port that come or go: at once, in a round, or of those at once the ingress or the internal ones
 abbrev pub share_of : Share → Bool → Band → PortRows → List Row
 share_of Bulk adds band p = at_once band p.kind p.rows
 share_of (Round r) adds band p = row_in adds r (by_rounds band p.kind p.rows)
+share_of Ingress adds band p = ingress band p.kind p.rows
+share_of Internal adds band p = internal p.kind p.rows
 
 -- those of a port if it is of this switch
 abbrev pub share_at : Share → Bool → Band → ℕ → Option PortRows → List Row

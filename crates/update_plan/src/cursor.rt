@@ -10,6 +10,10 @@ pub enum Share {
     Bulk,
     /// Those of this round.
     Round(usize),
+    /// Of those that come or go at once, the ingress rows: those of edge ports.
+    Ingress,
+    /// The internal rows: those of linked ports.
+    Internal,
 }
 
 /// A port among the ports of a policy's rows, and a row of it.

@@ -1,10 +1,11 @@
 //! Where the rows of a batch stand among those of a policy.
 ghost use Rattle.std.specs.Prelude.{◌≡◌, ◌<◌, ◌+◌, ◌^◌, [], IfNone, IfSome, option_map, slice_get, length};
+ghost use Rattle.update_plan.specs.Batches.{ingress, internal};
 ghost use Rattle.update_plan.specs.Reading.{share_at, from_place, IsSpan};
 
 use crate::cursor::{Place, Share, Span};
 use crate::planning::{at_once, by_rounds, row_in};
-use nk_values::{Row, Rows};
+use nk_values::{Band, PortKind, Row, Rows};
 
 // The first place from one on at which there is a row.
 pub(crate) fn place_from(
@@ -42,6 +43,8 @@ pub(crate) fn row_at(at: Place, share: Share, adds: bool, rows: &Rows, sw: u16) 
     }
     match share {
         Share::Bulk => row_of(at_once(rows.band, port.kind, port.rows.as_slice()), at.row),
+        Share::Ingress => row_of(ingress(rows.band, port.kind, port.rows.as_slice()), at.row),
+        Share::Internal => row_of(internal(port.kind, port.rows.as_slice()), at.row),
         Share::Round(round) => {
             if at.row > 0 {
                 return None;
@@ -52,6 +55,26 @@ pub(crate) fn row_at(at: Place, share: Share, adds: bool, rows: &Rows, sw: u16) 
                 by_rounds(rows.band, port.kind, port.rows.as_slice()),
             )
         }
+    }
+}
+
+// The ingress rows that come and go at once.
+fn ingress(band: Band, kind: PortKind, rows: &[Row]) -> &[Row]
+    ensures { result.now ≡ ingress band kind rows.now }
+{
+    match (band, kind) {
+        (Band::Low, PortKind::Edge) => rows,
+        _ => &[],
+    }
+}
+
+/// The rows of a port that are internal: all of a linked port, and none of an edge port.
+pub fn internal(kind: PortKind, rows: &[Row]) -> &[Row]
+    ensures { result.now ≡ internal kind rows.now }
+{
+    match kind {
+        PortKind::Linked => rows,
+        PortKind::Edge => &[],
     }
 }
 

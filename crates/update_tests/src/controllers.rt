@@ -68,7 +68,7 @@ pub fn start(alloc: Global, rejoins: usize) -> Result<Coordinator, AllocError>
 {
     let first = version(alloc, 1, Band::High, (1, 36000), (2, 36000))?;
     let second = version(alloc, 2, Band::Low, (1, 16000), (2, 16000))?;
-    Coordinator::new(alloc, both(alloc, first, second)?, &[1, 2], rejoins)
+    Coordinator::new(alloc, both(alloc, first, second)?, &[1, 2], rejoins, None)
 }
 
 /// The same with both ports at the first switch, so that its batches have two flow mods.
@@ -77,7 +77,7 @@ pub fn start_at_one(alloc: Global, rejoins: usize) -> Result<Coordinator, AllocE
 {
     let first = version(alloc, 1, Band::High, (1, 36000), (1, 35999))?;
     let second = version(alloc, 2, Band::Low, (1, 16000), (1, 15999))?;
-    Coordinator::new(alloc, both(alloc, first, second)?, &[1, 2], rejoins)
+    Coordinator::new(alloc, both(alloc, first, second)?, &[1, 2], rejoins, None)
 }
 
 fn features(alloc: Global, xid: u32, datapath: u64) -> Option<Message> {

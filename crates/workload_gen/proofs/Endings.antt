@@ -18,11 +18,10 @@ use Rattle.packet_tracer.specs.declared.flight.Flight.{Flight}
 use Rattle.rand_pcg.specs.Lcg.{Lcg}
 use Rattle.update_coordinator.specs.declared.phase.Phase.{Phase}
 use Rattle.update_coordinator.specs.declared.phase.Phase.TheVariants as phase
-use Rattle.update_coordinator.specs.Calls.{drain_refusal}
+use Rattle.update_coordinator.specs.Calls.{drain_refusal, leaving}
 use Rattle.update_coordinator.specs.Controls.{Site as Seen}
 use Rattle.update_coordinator.specs.Starts.{new_site}
 use Rattle.update_laws.specs.Fleets.{End, Fleet}
-use Rattle.update_laws.proofs.Moving.{drains-at}
 use Rattle.update_laws.proofs.Places.{get-within, get-map}
 use Rattle.update_laws.proofs.Wiring.{some-is, get-mapped}
 use Rattle.world_core.specs.declared.event.Event.{Event}
@@ -36,7 +35,7 @@ use Rattle.world_core.specs.Steps.{InFleet, IsEnabled, Stands, Step}
 use Rattle.world_core.specs.Ends.{new_end}
 use Rattle.world_core.proofs.Presence.{ArePresent}
 use Rattle.world_core.specs.Worlds.{WorldValue, IsKept, numbers_of}
-use Rattle.workload_gen.specs.Draws.{AreEnabled, IsDrawn, Drawn, Draws, applies_from, pending_at, arrival, draining, left_by, left_behind, report, tried, tried_at, tried_from, tried_last}
+use Rattle.workload_gen.specs.Draws.{AreEnabled, IsDrawn, Drawn, Draws, applies_from, pending_at, arrival, due, left_by, left_behind, report, tried, tried_at, tried_from, tried_last}
 use Rattle.workload_gen.specs.Documents.{document_of, generator, number_by, packet_count, policies, policy_count, seeded, switch_count, topology_lines}
 use Rattle.workload_gen.specs.Laws.{line_of, start_of, HasEnded}
 use Rattle.workload_gen.specs.Versions.{policies_of}
@@ -44,7 +43,7 @@ use Rattle.workload_gen.specs.Words.{next_word, behind}
 use Rattle.workload_laws.specs.Workload.{workload}
 use Rattle.workload_gen.proofs.Lines.{AreGuests, packets-guests, few-switches}
 use Rattle.workload_gen.proofs.Nearing.{AreNear, IsLine, hop-near, arrive-near}
-use Rattle.workload_gen.proofs.Sweeping.{append-none}
+use Rattle.workload_gen.proofs.Sweeping.{append-none, due-at}
 use Rattle.workload_gen.proofs.Unhalted.{IsFree, IsDrivable, AreMute, free-step, no-error}
 
 -- ---- what is drawn was tried
@@ -90,7 +89,7 @@ tried-report lines (Some stamp) = (tt, tt)
 
 are-tried : (lines : List PacketLine) (w : WorldValue) → AreTried lines (tried lines w)
 are-tried lines w =
-    let o = draining w.fleet.control.phase w.fleet.control.versions in
+    let o = due w.fleet.control in
     tried-both lines (tried_from w 0 (length w.topology.switches)) (hops_from 0 (length w.flights) ++ tried_last lines w) (tried-switches lines w 0 (length w.topology.switches))
     (tried-both lines (hops_from 0 (length w.flights)) (tried_last lines w) (tried-hops lines 0 (length w.flights))
     (tried-both lines (arrival lines) ((event.Controller of_controller.Begin) ∷ report o) (tried-arrival lines) (tt, tried-report lines o)))
@@ -258,8 +257,8 @@ module _ (lines : List PacketLine) (w : WorldValue) (long : length w.fleet.ends 
     apply = λ s k h. at-switch s (event.Switch (of_switch.Apply s k)) (of-end s _ h) (inr (inr (applies s k h))) h;
     take = λ s h. at-switch s (event.Switch (of_switch.Take s)) (of-end s _ h) (behind s (event.Switch (of_switch.Take s)) (inl refl)) h;
     send = λ s h. at-switch s (event.Controller (of_controller.Send s)) (sends s h) (behind s (event.Controller (of_controller.Send s)) (inr (inl refl))) h;
-    begin = last-of (event.Controller of_controller.Begin) (in-right (arrival lines) ((event.Controller of_controller.Begin) ∷ report (draining w.fleet.control.phase w.fleet.control.versions)) (event.Controller of_controller.Begin) (inl refl));
-    drained = λ stamp h. last-of (event.Controller (of_controller.Drained stamp)) (in-right (arrival lines) ((event.Controller of_controller.Begin) ∷ report (draining w.fleet.control.phase w.fleet.control.versions)) (event.Controller (of_controller.Drained stamp)) (inr (reported stamp h.0))) h;
+    begin = last-of (event.Controller of_controller.Begin) (in-right (arrival lines) ((event.Controller of_controller.Begin) ∷ report (due w.fleet.control)) (event.Controller of_controller.Begin) (inl refl));
+    drained = λ stamp h. last-of (event.Controller (of_controller.Drained stamp)) (in-right (arrival lines) ((event.Controller of_controller.Begin) ∷ report (due w.fleet.control)) (event.Controller (of_controller.Drained stamp)) (inr (reported stamp h.0))) h;
     rejoin = λ s h. let none : true ≡ false = sym h.away ∙ present s h.site h.here in cc;
     hop = λ k h. none-of w (tried lines w) (event.Packet (of_packet.Hop k)) over
         (in-right (tried_from w 0 (length w.topology.switches)) (hops_from 0 (length w.flights) ++ tried_last lines w) (event.Packet (of_packet.Hop k))
@@ -279,10 +278,10 @@ module _ (lines : List PacketLine) (w : WorldValue) (long : length w.fleet.ends 
       sends : (s : ℕ) → IsEnabled w (event.Controller (of_controller.Send s)) → s < length w.fleet.ends
       sends s h = omega (arith, sites, get-within s w.fleet.control.sites h.site h.here)
 
-      reported : (stamp : ℕ) → drain_refusal w.fleet.control stamp ≡ None → IsIn (report (draining w.fleet.control.phase w.fleet.control.versions)) (event.Controller (of_controller.Drained stamp))
+      reported : (stamp : ℕ) → drain_refusal w.fleet.control stamp ≡ None → IsIn (report (due w.fleet.control)) (event.Controller (of_controller.Drained stamp))
       reported stamp h =
-          let d = drains-at w.fleet.control stamp h in
-          subst (λ (o : Option ℕ). IsIn (report o) (event.Controller (of_controller.Drained stamp))) (sym (ap (λ (ph : Phase). draining ph w.fleet.control.versions) d.phase ∙ d.stamp_at)) (inl refl)
+          let c = w.fleet.control in
+          subst (λ (o : Option ℕ). IsIn (report o) (event.Controller (of_controller.Drained stamp))) (sym (due-at c.halt (leaving c.overlap c.swept c.phase c.versions) stamp h)) (inl refl)
 
 -- ---- the start
 
@@ -302,7 +301,7 @@ start-present numbers k s at = let x = get-map new_site k numbers s at in sym (a
 begins : (n : ℕ) (versions : List Version) → IsKept (start_of (document_of n) versions) → map (λ (x : Version). term_of x.pol) versions ≡ (document_of n).policies →
     IsOnWay (switch_count n) versions (document_of n).packets (document_of n).packets (start_of (document_of n) versions)
 begins n versions kept pols = record {
-  free = record { kept = kept; room = omega arith; running = refl; present = start-present (numbers_of (document_of n).layout.switches); mute = start-mute 200000 (numbers_of (document_of n).layout.switches) };
+  free = record { kept = kept; room = (refl, omega arith); running = refl; present = start-present (numbers_of (document_of n).layout.switches); mute = start-mute 200000 (numbers_of (document_of n).layout.switches) };
   line = record {
     topology = refl;
     policies = λ k v e. policies-at (switch_count n) k (policy_count n) (seeded n) (term_of v.pol)
@@ -347,7 +346,7 @@ pub kept-end : HasRoom → NoDeadEnd → (n : ℕ) (versions : List Version) (ev
 kept-end room dead n versions events v kept pols draws = record {
   running = o.free.running;
   idle = elim (dead v o.free.kept o.free.running quiet) [
-    | inl e ↦ e ∙ ap (λ (k : ℕ). phase.Idle k) (ap (λ (vs : List Version). length vs) o.versions_are ∙ sym (length-map versions (λ (x : Version). term_of x.pol)) ∙ ap (λ (ps : List Term). length ps) pols)
+    | inl e ↦ e.0 ∙ ap (λ (k : ℕ). phase.Idle k) (ap (λ (vs : List Version). length vs) o.versions_are ∙ sym (length-map versions (λ (x : Version). term_of x.pol)) ∙ ap (λ (ps : List Term). length ps) pols)
     | inr b ↦ absurd (not-barred (switch_count n) v (few-switches n).1 o.limit o.near b)
   ];
   arrived = sym (append-none (map line_of v.arrivals)) ∙ ap (λ (ls : List PacketLine). map line_of v.arrivals ++ ls) (sym none) ∙ o.arrived;
@@ -363,4 +362,4 @@ kept-end room dead n versions events v kept pols draws = record {
     none : left_behind events (document_of n).packets ≡ []
     none = no-packet (switch_count n) v (left_behind events (document_of n).packets) o.line.topology o.guests
         (λ e m. last-of (left_behind events (document_of n).packets) v (as-long v o.free.kept) (as-many v o.free.kept) o.free.present draws.over e
-        (in-left (arrival (left_behind events (document_of n).packets)) ((event.Controller of_controller.Begin) ∷ report (draining v.fleet.control.phase v.fleet.control.versions)) e m))
+        (in-left (arrival (left_behind events (document_of n).packets)) ((event.Controller of_controller.Begin) ∷ report (due v.fleet.control)) e m))

@@ -89,8 +89,8 @@ hop-near s k w v h l q near = subst (λ (x : WorldValue). AreNear s x.flights) (
           let i = (q.traffic.each f.arrival h.arrival h.of).flying f among refl in
           let line = line-at w q h.place h.end_ h.here in
           gone-on s w l q i.older f g h.handled.sent
-          (flight-answered w.topology (setting w) refl (set w q) w.fleet.control.phase q.fleet.within h.end_.switch.sw _ h.end_.switch.table.rows line.2.table.changing f i.older h.handled.sent
-          (subst (λ (n : ℕ). IsFlight (setting w) w.fleet.control.phase n f) i.number i) h.stands h.handled.handled)
+          (flight-answered w.topology (setting w) refl (set w q) w.fleet.control.swept w.fleet.control.phase q.fleet.within h.end_.switch.sw _ h.end_.switch.table.rows line.2.table.changing f i.older h.handled.sent
+          (subst (λ (n : ℕ). IsFlight (setting w) w.fleet.control.swept w.fleet.control.phase n f) i.number i) h.stands h.handled.handled)
           (near f among).near (subst (λ (fs : List Flight). IsIn fs g) h.handled.goes_on x)
     ]
 
@@ -115,7 +115,7 @@ arrive-near s pk tag w v h l q here near = subst (λ (x : WorldValue). AreNear s
       | inr x ↦
           let line = line-at w q h.place h.end_ h.here in
           from g
-          (comes w.topology (setting w) refl (set w q) w.fleet.control.phase q.fleet.within h.end_.switch.sw _ h.end_.switch.table.rows line.2.table.changing pk tag h.handled.sent
+          (comes w.topology (setting w) refl (set w q) w.fleet.control.swept w.fleet.control.phase q.fleet.within h.end_.switch.sw _ h.end_.switch.table.rows line.2.table.changing pk tag h.handled.sent
           (small tag h.may.1) h.may.0 h.may.2 h.stands h.handled.handled)
           (subst (λ (fs : List Flight). IsIn fs g) h.handled.goes_on x)
     ]

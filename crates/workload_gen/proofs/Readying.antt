@@ -1,5 +1,5 @@
 -- The policies of a number's document with their rows.
-use Rattle.std.proofs.Common.{◌≡◌, ◌≢◌, ℕ, zero, suc, ◌+◌, ◌%◌, ◌<◌, ◌≤◌, List, [], ◌∷◌, ◌++◌, length, map, take, get_or, refl, sym, ◌∙◌, ap, subst, Some, slice_get, arith}
+use Rattle.std.proofs.Common.{◌≡◌, ◌≢◌, ℕ, zero, suc, ◌+◌, ◌%◌, ◌<◌, ◌≤◌, List, [], ◌∷◌, ◌++◌, length, map, take, get_or, refl, sym, ◌∙◌, ap, subst, None, Some, slice_get, arith}
 use Rattle.std.proofs.Math.Nat.{mod-lt, mod-eq_of_lt}
 use Rattle.std.proofs.lemmas.List.{length-append, length-map}
 use Rattle.std.proofs.lemmas.Option.{slice_get_read}
@@ -99,22 +99,24 @@ stamps-apart k l e =
     let b : suc k % 4094 ≡ suc k = mod-eq_of_lt (omega (arith, l)) in
     omega (arith, e, a, b)
 
-starts : (n : ℕ) (vs : List Version) → AreVersionsOf (document_of n) vs → AreVersions (document_of n).layout vs
+starts : (n : ℕ) (vs : List Version) → AreVersionsOf (document_of n) vs → AreVersions (document_of n).layout vs None
 starts n vs a = record {
   few = let l = few-versions n vs a in omega (arith, l);
   means = λ k v e. (a.each k v e).means;
   limits = λ k v e. (a.each k v e).limits;
   writable = λ k v e. (a.each k v e).writable;
   bands = λ k v e. (a.each k v e).rows.band_is;
-  stamps = λ k v w e f q.
-      stamps-apart k (let l = few-versions n vs a in let m = get-within (suc k) vs w f in omega (arith, l, m)) (sym (a.each k v e).rows.stamp_is ∙ q ∙ (a.each (suc k) w f).rows.stamp_is);
+  two = omega arith;
+  stamps = λ j k v w b d e f q.
+      let next : k ≡ suc j = omega (arith, b, d) in
+      stamps-apart j (let l = few-versions n vs a in let m = get-within k vs w f in omega (arith, l, m, next)) (sym (a.each j v e).rows.stamp_is ∙ q ∙ (a.each k w f).rows.stamp_is ∙ ap (λ (i : ℕ). stamp_at 1 4094 i) next);
 }
 
-pub versions-start : (n : ℕ) (d : Doc) (vs : List Version) → d ≡ document_of n → AreVersionsOf d vs → AreVersions d.layout vs
-versions-start n d vs e a = subst (λ (x : Doc). AreVersions x.layout vs) (sym e) (starts n vs (subst (λ (x : Doc). AreVersionsOf x vs) e a))
+pub versions-start : (n : ℕ) (d : Doc) (vs : List Version) → d ≡ document_of n → AreVersionsOf d vs → AreVersions d.layout vs None
+versions-start n d vs e a = subst (λ (x : Doc). AreVersions x.layout vs None) (sym e) (starts n vs (subst (λ (x : Doc). AreVersionsOf x vs) e a))
 
 -- ---- every drawn run of it ends
 
 pub runs-end : HasRoom → NoDeadEnd → RunsEnd
 runs-end room dead n versions events v t a draws =
-    kept-end room dead n versions events v (start-kept (document_of n).layout versions (record { hops = 64; capacity = 200000; rejoins = 0 }) t (starts n versions a) (omega arith)) a.policies draws
+    kept-end room dead n versions events v (start-kept (document_of n).layout versions (record { hops = 64; capacity = 200000; rejoins = 0; overlap = None }) t (starts n versions a) (omega arith)) a.policies draws

@@ -2,6 +2,14 @@
 use Rattle.std.proofs.Common.{◌≡◌, Bool, true, false, IsTrue, ◌↔◌, IsSomeAnd, ℕ, zero, suc, ◌+◌, ◌-◌, ◌^◌, ◌<◌, ◌≤◌, ◌⊎◌, inl, inr, min, List, [], ◌∷◌, ◌++◌, length, refl, sym, ◌∙◌, ap, subst, Option, None, Some, slice_get, append_assoc, arith}
 use Rattle.std.proofs.lemmas.List.{length-append}
 use Rattle.std.proofs.lemmas.Option.{slice_get_past}
+use Rattle.std.specs.Prelude.{IfSome}
+use Rattle.std.proofs.lemmas.Bool.Decides.{Decides-eqb}
+use Rattle.nk_values.specs.declared.rows.Rows.{Rows}
+use Rattle.update_coordinator.specs.declared.cause.Cause.{Cause}
+use Rattle.update_coordinator.specs.declared.refusal.Refusal.{Refusal}
+use Rattle.update_coordinator.specs.declared.refusal.Refusal.TheVariants.{Halted, NotDraining}
+use Rattle.update_coordinator.specs.Calls.{drain_refusal, drains, is_stamp, leaving, unless_halted}
+use Rattle.update_coordinator.specs.Controls.{Control}
 use Rattle.update_laws.specs.Switches.{SwitchValue}
 use Rattle.update_laws.specs.Fleets.{End}
 use Rattle.update_laws.proofs.Places.{get-within}
@@ -14,8 +22,32 @@ use Rattle.world_core.specs.Settling.{NoneIs, hops_from}
 use Rattle.world_core.specs.Steps.{IsEnabled}
 use Rattle.world_core.specs.Worlds.{WorldValue}
 use Rattle.workload_gen.specs.declared.sweep.Sweep.{Sweep}
-use Rattle.workload_gen.specs.Draws.{AreEnabled, applies_from, pending_at, report, tried_at, tried_from}
+use Rattle.workload_gen.specs.Draws.{AreEnabled, applies_from, due, due_of, pending_at, report, tried_at, tried_from}
 use Rattle.workload_gen.specs.Sweeps.{IsSweep, Passes}
+
+-- ---- the report that is waited for
+
+some-none : {X : Type 0} {P : Type 0} (a : X) → Some a ≡ None → P
+some-none a q = cc
+
+stamp-is : (b : Bool) → (if b then None else Some NotDraining) ≡ None → b ≡ true
+stamp-is true e = refl
+stamp-is false e = some-none NotDraining e
+
+pub due-at : (halt : Option Cause) (known : Option Rows) (stamp : ℕ) → unless_halted halt (drains known stamp) ≡ None → due_of halt known ≡ Some stamp
+due-at (Some cause) known stamp e = some-none Halted e
+due-at None None stamp e = some-none NotDraining e
+due-at None (Some v) stamp e = ap (λ (n : ℕ). Some n) ((Decides-eqb v.stamp stamp).0 (stamp-is (is_stamp (Some v) stamp) e))
+
+told-by : (halt : Option Cause) (known : Option Rows) (told : Option ℕ) → IfSome told (λ (stamp : ℕ). unless_halted halt (drains known stamp) ≡ None) →
+    ((stamp : ℕ) → unless_halted halt (drains known stamp) ≡ None → told ≡ Some stamp) → told ≡ due_of halt known
+told-by halt known (Some stamp) some only = sym (due-at halt known stamp some)
+told-by (Some cause) known None some only = refl
+told-by None None None some only = refl
+told-by None (Some v) None some only = only v.stamp (ap (λ (b : Bool). if b then None else Some NotDraining) ((Decides-eqb v.stamp v.stamp).1 refl))
+
+pub told-due : (c : Control) (told : Option ℕ) → IfSome told (λ (stamp : ℕ). drain_refusal c stamp ≡ None) → ((stamp : ℕ) → drain_refusal c stamp ≡ None → told ≡ Some stamp) → told ≡ due c
+told-due c told some only = told-by c.halt (leaving c.overlap c.swept c.phase c.versions) told some only
 
 -- ---- lists
 

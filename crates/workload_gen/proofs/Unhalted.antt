@@ -32,7 +32,7 @@ use Rattle.world_core.specs.declared.event.Event.TheVariants as event
 use Rattle.world_core.specs.declared.event.ControllerEvent.TheVariants as of_controller
 use Rattle.world_core.specs.declared.event.PacketEvent.TheVariants as of_packet
 use Rattle.world_core.specs.declared.event.SwitchEvent.TheVariants as of_switch
-use Rattle.world_core.specs.Laws.{HasRoom}
+use Rattle.world_core.specs.Laws.{HasSpace, HasRoom}
 use Rattle.world_core.specs.Steps.{InFleet, Step}
 use Rattle.world_core.specs.Worlds.{WorldValue, setting, IsKept}
 use Rattle.world_core.proofs.Kept.{line-at, step-keeps}
@@ -73,8 +73,8 @@ in-errors st sw held errors back v m i r = elim (in-either v.before (v.said ++ v
   ]
 ]
 
-full-error : (c : Setting) (ph : Phase) (h : Bool) (l : Wire) → IsLine c ph h l → (m : Message) → IsIn l.back m → IsError m → IsFullError m
-full-error c ph h l i m j r = i.full m (in-errors i.stage l.switch.sw i.held i.errors l.back i.voice m j r)
+full-error : (c : Setting) (swept : ℕ) (ph : Phase) (h : Bool) (l : Wire) → IsLine c swept ph h l → (m : Message) → IsIn l.back m → IsError m → IsFullError m
+full-error c swept ph h l i m j r = i.full m (in-errors i.stage l.switch.sw i.held i.errors l.back i.voice m j r)
 
 -- what a switch answers at once is no such ERROR
 abbrev form-of : Message → ℕ
@@ -176,11 +176,11 @@ hears-on c place f g h i mute = ap (λ (z : Fleet). z.control.halt) h.now ∙ mo
     l : Wire
     l = wire_of f.control h.heard.site there.reply h.old
 
-    line : IsLine c f.control.phase false l
-    line = subst (λ (b : Bool). IsLine c f.control.phase b l) (ap (λ (o : Option Cause). is_some o) h.heard.running) (i.lines place h.heard.site there.reply h.old h.heard.here there.reply_at h.here)
+    line : IsLine c f.control.swept f.control.phase false l
+    line = subst (λ (b : Bool). IsLine c f.control.swept f.control.phase b l) (ap (λ (o : Option Cause). is_some o) h.heard.running) (i.lines place h.heard.site there.reply h.old h.heard.here there.reply_at h.here)
 
-    heard : HeardLine c f.control.phase h.message h.rest l
-    heard = hear-line c f.control.phase h.message h.rest l h.front line
+    heard : HeardLine c f.control.swept f.control.phase h.message h.rest l
+    heard = hear-line c f.control.swept f.control.phase h.message h.rest l h.front line
 
     quiet : ¬ (IsError h.message)
     quiet = mute place h.old h.here h.message (subst (λ (ms : List Message). IsIn ms h.message) (sym h.front) (inl refl))
@@ -201,7 +201,7 @@ hears-on c place f g h i mute = ap (λ (z : Fleet). z.control.halt) h.now ∙ mo
 -- the updates have not halted, no switch is away, and nothing on its way halts them
 pub record IsFree (w : WorldValue) : Type 0 where
   pub kept : IsKept w
-  pub room : 130000 ≤ w.capacity
+  pub room : HasSpace w
   pub running : w.fleet.control.halt ≡ None
   pub present : ArePresent w.fleet.control.sites
   pub mute : AreMute w.fleet.ends
@@ -218,7 +218,7 @@ free-in : (Does : Fleet → Fleet → Type 0) (w v : WorldValue) (h : InFleet Do
 free-in Does w v h f k present running mute = record {
   kept = k;
   present = present;
-  room = subst (λ (n : ℕ). 130000 ≤ n) (sym (ap (λ (x : WorldValue). x.capacity) h.now)) f.room;
+  room = subst (λ (x : WorldValue). HasSpace x) (sym h.now) f.room;
   running = ap (λ (x : WorldValue). x.fleet.control.halt) h.now ∙ running;
   mute = subst (λ (x : WorldValue). AreMute x.fleet.ends) (sym h.now) mute;
 }
@@ -227,7 +227,7 @@ full-of : (v : WorldValue) → IsKept v → (place : ℕ) (e : End) → slice_ge
 unfolding IsKept
 full-of v k place e here m i r =
     let l = line-at v k place e here in
-    full-error (setting v) v.fleet.control.phase (is_some v.fleet.control.halt) (wire_of v.fleet.control l.0 l.1 e) l.2 m i r
+    full-error (setting v) v.fleet.control.swept v.fleet.control.phase (is_some v.fleet.control.halt) (wire_of v.fleet.control l.0 l.1 e) l.2 m i r
 
 -- a switch has taken a message
 takes-mute : (w v : WorldValue) (s : ℕ) (h : InFleet (TakesAt s) w v) → IsFree w → IsKept v → AreMute h.fleet.ends
@@ -292,14 +292,14 @@ free-step room w (event.Controller (of_controller.Heard p)) v d s f =
 free-step room w (event.Packet (of_packet.Arrive pk tag)) v d s f = record {
   kept = step-keeps w (event.Packet (of_packet.Arrive pk tag)) v s f.kept;
   present = present-step w (event.Packet (of_packet.Arrive pk tag)) v s refl f.present;
-  room = subst (λ (x : WorldValue). 130000 ≤ x.capacity) (sym s.now) f.room;
+  room = subst (λ (x : WorldValue). HasSpace x) (sym s.now) f.room;
   running = ap (λ (x : WorldValue). x.fleet.control.halt) s.now ∙ f.running;
   mute = subst (λ (x : WorldValue). AreMute x.fleet.ends) (sym s.now) f.mute;
 }
 free-step room w (event.Packet (of_packet.Hop n)) v d s f = record {
   kept = step-keeps w (event.Packet (of_packet.Hop n)) v s f.kept;
   present = present-step w (event.Packet (of_packet.Hop n)) v s refl f.present;
-  room = subst (λ (x : WorldValue). 130000 ≤ x.capacity) (sym s.now) f.room;
+  room = subst (λ (x : WorldValue). HasSpace x) (sym s.now) f.room;
   running = ap (λ (x : WorldValue). x.fleet.control.halt) s.now ∙ f.running;
   mute = subst (λ (x : WorldValue). AreMute x.fleet.ends) (sym s.now) f.mute;
 }

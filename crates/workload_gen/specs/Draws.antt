@@ -1,10 +1,11 @@
 -- Runs by drawn events: each word draws one of the events that can happen.
-use Rattle.std.specs.Prelude.{◌≡◌, ◌⊎◌, ℕ, zero, suc, ◌+◌, ◌-◌, ◌%◌, List, [], ◌∷◌, ◌++◌, length, drop, slice_get, Option, Some, None, option_map}
+use Rattle.std.specs.Prelude.{◌≡◌, ◌⊎◌, ℕ, zero, suc, ◌+◌, ◌%◌, List, [], ◌∷◌, ◌++◌, length, drop, slice_get, Option, Some, None, option_map}
 use Rattle.rand_pcg.specs.Lcg.{Lcg}
 use Rattle.nk_values.specs.declared.rows.Rows.{Rows}
 use Rattle.document_text.specs.declared.document.PacketLine.{PacketLine}
-use Rattle.update_coordinator.specs.declared.phase.Phase.{Phase}
-use Rattle.update_coordinator.specs.declared.phase.Phase.TheVariants.{Drain}
+use Rattle.update_coordinator.specs.declared.cause.Cause.{Cause}
+use Rattle.update_coordinator.specs.Calls.{leaving}
+use Rattle.update_coordinator.specs.Controls.{Control}
 use Rattle.update_laws.specs.Fleets.{End}
 use Rattle.world_core.specs.declared.event.Event.{Event}
 use Rattle.world_core.specs.declared.event.Event.TheVariants as event
@@ -41,10 +42,13 @@ abbrev pub arrival : List PacketLine → List Event
 arrival [] = []
 arrival (line ∷ lines) = event.Packet (of_packet.Arrive line.packet line.tag) ∷ []
 
--- the stamp that is drained is that of the policy before
-abbrev pub draining : Phase → List Rows → Option ℕ
-draining (Drain i) versions = option_map (λ r. r.stamp) (slice_get versions (i - 2))
-draining _ versions = None
+-- the stamp of which the report is waited for, unless the updates have halted
+abbrev pub due_of : Option Cause → Option Rows → Option ℕ
+due_of None known = option_map (λ r. r.stamp) known
+due_of (Some cause) known = None
+
+abbrev pub due : Control → Option ℕ
+due c = due_of c.halt (leaving c.overlap c.swept c.phase c.versions)
 
 abbrev pub report : Option ℕ → List Event
 report None = []
@@ -52,7 +56,7 @@ report (Some stamp) = event.Controller (of_controller.Drained stamp) ∷ []
 
 -- an arrival, the beginning of an update, and the report that a stamp is drained
 abbrev pub tried_last : List PacketLine → WorldValue → List Event
-tried_last lines w = arrival lines ++ (event.Controller of_controller.Begin) ∷ report (draining w.fleet.control.phase w.fleet.control.versions)
+tried_last lines w = arrival lines ++ (event.Controller of_controller.Begin) ∷ report (due w.fleet.control)
 
 -- all of them: the switches in their order, the copies in theirs, and these
 abbrev pub tried : List PacketLine → WorldValue → List Event

@@ -14,7 +14,7 @@ use Rattle.workload_gen.specs.Versions.{AreVersionsOf}
 
 -- the world of these versions in the document's topology, before anything has happened
 abbrev pub start_of : Doc → List Version → WorldValue
-start_of d versions = start d.layout versions (record { hops = d.settings.hops; capacity = d.settings.capacity; rejoins = 0 })
+start_of d versions = start d.layout versions (record { hops = d.settings.hops; capacity = d.settings.capacity; rejoins = 0; overlap = None })
 
 -- the line that an arrival came from
 abbrev pub line_of : Arrived → PacketLine

@@ -1,5 +1,5 @@
 // The policies of workloads with their rows.
-ghost use Rattle.std.specs.Prelude.{◌≡◌, ℕ, IfOk};
+ghost use Rattle.std.specs.Prelude.{◌≡◌, ℕ, None, IfOk};
 ghost use Rattle.document_text.specs.Answers.{doc_of};
 ghost use Rattle.update_laws.specs.Settings.{AreVersions};
 ghost use Rattle.workload_gen.specs.Documents.{document_of};
@@ -14,7 +14,7 @@ use workload_laws::version_of;
 pub fn versions(alloc: Global, document: &Document) -> Result<Vec<Version>, AllocError>
     requires { (n : ℕ) × (doc_of document.now ≡ document_of n) }
     ensures versions { IfOk result (λ vs. AreVersionsOf (doc_of document.now) vs.items) }
-    ensures start { IfOk result (λ vs. AreVersions document.now.topology vs.items) }
+    ensures start { IfOk result (λ vs. AreVersions document.now.topology vs.items None) }
 {
     let (low, high) = document.settings.stamps;
     let mut versions = Vec::new(alloc);

@@ -38,6 +38,7 @@ pub fn drive(alloc: Global, number: u64) -> Result<Driven, AllocError>
         hops,
         capacity: settings.capacity as usize,
         rejoins: 0,
+        overlap: None,
     };
     let mut world = World::start(alloc, versions, topology, settings)?;
     let events = draw(alloc, &mut world, &packets, &mut rng)?;

@@ -3,12 +3,11 @@ ghost use Rattle.std.specs.Prelude.{◌≡◌, ◌<◌, ◌≤◌, ◌⊎◌, �
 ghost use Rattle.world_core.specs.Settling.{hops_from};
 ghost use Rattle.world_core.specs.declared.event.Event.{Event as EventValue};
 ghost use Rattle.world_core.specs.declared.event.Event.TheVariants as event;
-ghost use Rattle.workload_gen.specs.Draws.{AreEnabled, applies_from, arrival, draining, pending_at, report, tried, tried_at, tried_from, tried_last};
+ghost use Rattle.workload_gen.specs.Draws.{AreEnabled, applies_from, arrival, due, pending_at, report, tried, tried_at, tried_from, tried_last};
 ghost use Rattle.workload_gen.specs.Counts.{AreCounts, IsCount};
 ghost use Rattle.workload_gen.specs.Sweeps.{IsSweep, Passes};
 
 use document_text::PacketLine;
-use update_coordinator::Phase;
 use world_core::{ControllerEvent, Event, PacketEvent, SwitchEvent, World};
 
 /// A sweep over the events that can happen: how many it has passed, and the one with a number, from 0, if it has
@@ -129,12 +128,12 @@ impl Sweep {
         }
     }
 
-    // Passes the report that the stamp in drain is carried no more.
+    // Passes the report that is waited for.
     fn drain(&mut self, world: &World)
         ensures number { self.new.number ≡ self.old.number }
-        ensures passed { Passes world.now (report (draining world.now.fleet.control.phase world.now.fleet.control.versions)) self.old self.new }
+        ensures passed { Passes world.now (report (due world.now.fleet.control)) self.old self.new }
     {
-        if let Some(stamp) = draining(world) {
+        if let Some(stamp) = due(world) {
             self.event(world, Event::Controller(ControllerEvent::Drained(stamp)));
         }
     }
@@ -194,18 +193,9 @@ impl Sweep {
     }
 }
 
-// The stamp that is to be drained, if one is.
-fn draining(world: &World) -> Option<u16>
-    ensures { result ≡ draining world.now.fleet.control.phase world.now.fleet.control.versions }
+// The stamp of which the report is waited for.
+fn due(world: &World) -> Option<u16>
+    ensures { result ≡ due world.now.fleet.control }
 {
-    match world.coordinator().phase() {
-        Phase::Drain(policy) => {
-            let rows = world
-                .coordinator()
-                .versions()
-                .get(policy.saturating_sub(2))?;
-            Some(rows.stamp)
-        }
-        _ => None,
-    }
+    world.coordinator().leaving()
 }

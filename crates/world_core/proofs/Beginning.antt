@@ -57,7 +57,7 @@ pub all-rows : (P : Rows → Type 0) (vs : List Version) → ((k : ℕ) (v : Ver
 all-rows P [] h = tt
 all-rows P (v ∷ vs) h = (h 0 v refl, all-rows P vs (λ k w e. h (suc k) w e))
 
-pub start-kept : (t : Layout) (vs : List Version) (settings : Settings) → IsTopology t → AreVersions t vs → 1 ≤ settings.hops → IsKept (start t vs settings)
+pub start-kept : (t : Layout) (vs : List Version) (settings : Settings) → IsTopology t → AreVersions t vs settings.overlap → 1 ≤ settings.hops → IsKept (start t vs settings)
 unfolding IsKept
 start-kept t vs settings k v l = record {
   topology = k;
@@ -66,24 +66,25 @@ start-kept t vs settings k v l = record {
   places = numbers-kept settings.capacity (numbers_of t.switches);
   rows = refl;
   distinct = new-distinct settings.capacity (numbers_of t.switches);
-  fleet = start-fleet (setting_of t vs settings.hops settings.capacity) (start t vs settings).fleet (made-start t vs settings.hops settings.capacity settings.rejoins (numbers_of t.switches) (start t vs settings).fleet k v made);
-  traffic = start-traffic t (setting_of t vs settings.hops settings.capacity);
+  fleet = start-fleet (setting_of t vs settings.hops settings.capacity settings.overlap) (start t vs settings).fleet (made-start t vs settings.hops settings.capacity settings.overlap settings.rejoins (numbers_of t.switches) (start t vs settings).fleet k v made);
+  traffic = start-traffic t (setting_of t vs settings.hops settings.capacity settings.overlap) 0;
   apart = start-apart;
 }
   where
-    made : IsMade settings.capacity settings.rejoins vs (numbers_of t.switches) (start t vs settings).fleet
+    made : IsMade settings.capacity settings.rejoins settings.overlap vs (numbers_of t.switches) (start t vs settings).fleet
     made = record { control = refl; count = length-map (numbers_of t.switches) (new_end settings.capacity); some = some-switch t k; ends = λ n sw e. new-end settings.capacity (numbers_of t.switches) n sw e }
 
 -- the world that is made of its parts
 pub made-of : (t : Layout) (vs : List Version) (settings : Settings) (ps : List Pol) (d : Control) (es : List End) (rows : List Rows) (ns ms : List ℕ) (fs : List Flight) (as' : List Arrived) →
-    ps ≡ pols_of vs → d ≡ starts.start rows ns settings.rejoins → rows ≡ rows_of vs → ns ≡ numbers_of t.switches → es ≡ map (new_end settings.capacity) ms → ms ≡ numbers_of t.switches → fs ≡ [] → as' ≡ [] →
-    record { topology = t; versions = paired ps d.versions; limit = settings.hops; capacity = settings.capacity; fleet = record { control = d; ends = es }; flights = fs; arrivals = as' } ≡ start t vs settings
+    ps ≡ pols_of vs → d ≡ starts.start rows ns settings.rejoins settings.overlap → rows ≡ rows_of vs → ns ≡ numbers_of t.switches → es ≡ map (new_end settings.capacity) ms → ms ≡ numbers_of t.switches → fs ≡ [] → as' ≡ [] →
+    record { topology = t; versions = paired ps d.versions; limit = settings.hops; capacity = settings.capacity; overlap = settings.overlap; fleet = record { control = d; ends = es }; flights = fs; arrivals = as' } ≡ start t vs settings
 made-of t vs settings ps d es rows ns ms fs as' p a b c e f g h = λ i. record {
   topology = t;
   versions = ((λ j. paired (p j) (ap (λ (x : Control). x.versions) a j)) ∙ ap (paired (pols_of vs)) b ∙ paired-parts vs) i;
   limit = settings.hops;
   capacity = settings.capacity;
-  fleet = record { control = (a ∙ (λ j. starts.start (b j) (c j) settings.rejoins)) i; ends = (e ∙ ap (map (new_end settings.capacity)) f) i };
+  overlap = settings.overlap;
+  fleet = record { control = (a ∙ (λ j. starts.start (b j) (c j) settings.rejoins settings.overlap)) i; ends = (e ∙ ap (map (new_end settings.capacity)) f) i };
   flights = g i;
   arrivals = h i;
 }

@@ -70,7 +70,7 @@ moved-present place sw (moves.Failed f) c d m p = subst (λ (x : Control). ArePr
 moved-present place sw (moves.Barrier x) c d m p = elim (awaits-or-not c.replies place x) [
   | inr n ↦ as-before c d (m.stray n) p
   | inl a ↦ elim (below-either c.replies place (length c.replies)) [
-    | inl o ↦ as-before (in_phase (acknowledged (rounds_of c.versions) c.phase) c) d (m.last a o) (phase-present (acknowledged (rounds_of c.versions) c.phase) c p)
+    | inl o ↦ as-before (in_phase (acknowledged c.overlap (rounds_of c.versions) c.phase) c) d (m.last a o) (phase-present (acknowledged c.overlap (rounds_of c.versions) c.phase) c p)
     | inr u ↦ as-before (record c { replies = heard_at c.replies place }) d (m.more a (λ (h : OthersHeard c.replies place). u.is (h u.other u.below u.differs))) p
   ]
 ]

@@ -1,5 +1,5 @@
 -- What holds of every run of the world.
-use Rattle.std.specs.Prelude.{◌≡◌, ◌≢◌, ◌⊎◌, ◌≤◌, ℕ, suc, ◌+◌, ◌-◌, Bool, true, false, List, [], ◌∷◌, length, slice_get, option_map, Some, None}
+use Rattle.std.specs.Prelude.{◌≡◌, ◌≢◌, ◌⊎◌, ◌≤◌, ℕ, suc, ◌+◌, Bool, true, false, List, [], ◌∷◌, length, slice_get, option_map, Some, None}
 use Rattle.nk_values.specs.declared.rows.Rows.{Rows}
 use Rattle.nk_values.specs.Members.{IsIn}
 use Rattle.nk_values.specs.Patterns.{Incoming}
@@ -9,7 +9,8 @@ use Rattle.policy_rows.specs.declared.version.Version.{Version}
 use Rattle.packet_tracer.specs.declared.flight.Flight.{Flight}
 use Rattle.packet_tracer.specs.Hops.{NoTie}
 use Rattle.update_coordinator.specs.declared.phase.Phase.TheVariants as phase
-use Rattle.update_laws.specs.Fleets.{End, AppliesAt, IsFleet}
+use Rattle.update_coordinator.specs.Calls.{draining}
+use Rattle.update_laws.specs.Fleets.{End, AppliesAt, waited, IsFleet}
 use Rattle.update_laws.specs.Settings.{AreVersions}
 use Rattle.update_laws.specs.Traffic.{Arrived, IsGood, IsLanded}
 use Rattle.world_core.specs.declared.settings.Settings.{Settings}
@@ -32,7 +33,7 @@ EveryRunIsGood w = (events : List Event) (v : WorldValue) → Runs w events v �
 
 -- A world that starts with rows for its policies keeps what every world keeps.
 abbrev pub StartIsKept : Type 0
-StartIsKept = (t : Layout) (versions : List Version) (settings : Settings) → IsTopology t → AreVersions t versions → 1 ≤ settings.hops → IsKept (start t versions settings)
+StartIsKept = (t : Layout) (versions : List Version) (settings : Settings) → IsTopology t → AreVersions t versions settings.overlap → 1 ≤ settings.hops → IsKept (start t versions settings)
 
 -- Once no copy of it is in flight, its finished histories are, each exactly once, its complete ones under that policy.
 abbrev pub PacketsLand : Type 0
@@ -77,22 +78,24 @@ pub record IsStill (w : WorldValue) : Type 0 where
 
 -- a copy with the stamp that is to be drained took as many hops as it may
 pub record IsBarred (w : WorldValue) : Type 0 where
-  pub policy : ℕ
-  pub drains : w.fleet.control.phase ≡ phase.Drain policy
   pub flight : Flight
   pub flies : IsIn w.flights flight
   pub stamp : ℕ
-  pub old : option_map (λ (v : Rows). v.stamp) (slice_get w.fleet.control.versions (policy - 2)) ≡ Some stamp
+  pub old : option_map (λ (v : Rows). v.stamp) (waited w.fleet.control) ≡ Some stamp
   pub carries : flight.tag ≡ Some stamp
   pub limit : w.limit ≤ flight.hops
 
--- There is no dead end: where nothing can happen all updates are done, or a copy of the policy before bars the drain.
+-- There is no dead end: if nothing can happen all updates are done and nothing drains, or a copy of a policy before bars a drain.
 abbrev pub NoDeadEnd : Type 0
-NoDeadEnd = (w : WorldValue) → IsKept w → w.fleet.control.halt ≡ None → IsStill w → (w.fleet.control.phase ≡ phase.Idle (length w.versions)) ⊎ IsBarred w
+NoDeadEnd = (w : WorldValue) → IsKept w → w.fleet.control.halt ≡ None → IsStill w → ((w.fleet.control.phase ≡ phase.Idle (length w.versions)) × (draining w.fleet.control ≡ [])) ⊎ IsBarred w
 
--- With room for 130,000 rows no flow mod meets a full table.
+-- drains do not overlap, and each switch has room for the rows of two policies
+abbrev pub HasSpace : WorldValue → Type 0
+HasSpace w = (w.overlap ≡ None) × (130000 ≤ w.capacity)
+
+-- Then no flow mod meets a full table.
 abbrev pub HasRoom : Type 0
-HasRoom = (w : WorldValue) (s k : ℕ) (v : WorldValue) → IsKept w → 130000 ≤ w.capacity → (h : InFleet (AppliesAt s k) w v) → h.step.answer ≡ None
+HasRoom = (w : WorldValue) (s k : ℕ) (v : WorldValue) → IsKept w → HasSpace w → (h : InFleet (AppliesAt s k) w v) → h.step.answer ≡ None
 
 -- two worlds show the same: the coordinator, the copies in flight, and the packets that came in
 pub record ShowsSame (w v : WorldValue) : Type 0 where

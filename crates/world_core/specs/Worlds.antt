@@ -1,5 +1,5 @@
 -- The world: what it has, how it starts, and what holds of it at each moment.
-use Rattle.std.specs.Prelude.{◌≡◌, ◌≤◌, ℕ, List, [], ◌∷◌, map, slice_get, Some}
+use Rattle.std.specs.Prelude.{◌≡◌, ◌≤◌, ℕ, List, [], ◌∷◌, map, slice_get, Option, Some}
 use Rattle.nk_syntax.specs.declared.pol.Pol.{Pol}
 use Rattle.nk_values.specs.declared.rows.Rows.{Rows}
 use Rattle.nk_values.specs.Tables.{Distinct}
@@ -16,18 +16,19 @@ use Rattle.update_laws.specs.Traffic.{Arrived, IsTraffic, AreApart}
 use Rattle.world_core.specs.declared.settings.Settings.{Settings}
 use Rattle.world_core.specs.Ends.{new_end}
 
--- The topology, the versions, the hop limit, the rows that a switch has room for, the coordinator and the switches with their channels, the copies in flight and the packets that came in.
+-- The topology, the versions, the hop limit, the rows that a switch has room for, how many stamps go round if drains overlap, the coordinator and the switches with their channels, the copies in flight and the packets that came in.
 pub record WorldValue : Type 0 where
   pub topology : Layout
   pub versions : List Version
   pub limit : ℕ
   pub capacity : ℕ
+  pub overlap : Option ℕ
   pub fleet : Fleet
   pub flights : List Flight
   pub arrivals : List Arrived
 
 abbrev pub setting : WorldValue → Setting
-setting w = setting_of w.topology w.versions w.limit w.capacity
+setting w = setting_of w.topology w.versions w.limit w.capacity w.overlap
 
 abbrev pub numbers_of : List Site → List ℕ
 numbers_of sites = map (λ s. s.sw) sites
@@ -51,8 +52,9 @@ start t versions settings = record {
   versions = versions;
   limit = settings.hops;
   capacity = settings.capacity;
+  overlap = settings.overlap;
   fleet = record {
-    control = starts.start (rows_of versions) (numbers_of t.switches) settings.rejoins;
+    control = starts.start (rows_of versions) (numbers_of t.switches) settings.rejoins settings.overlap;
     ends = map (new_end settings.capacity) (numbers_of t.switches);
   };
   flights = [];
@@ -66,13 +68,13 @@ AreDistinct ends = (place : ℕ) (e : End) → slice_get ends place ≡ Some e �
 -- What every world keeps: its versions stand for their policies, and the coordinator has their rows; the switches are those of the topology, no two rows of a table have one key, each switch is where the phase has it, each packet is handled by one policy of its entry, and its copies are apart.
 pub record Keeps (w : WorldValue) : Type 0 where
   pub topology : IsTopology w.topology
-  pub versions : AreVersions w.topology w.versions
+  pub versions : AreVersions w.topology w.versions w.overlap
   pub limit : 1 ≤ w.limit
   pub places : map (λ (e : End). e.switch.sw) w.fleet.ends ≡ numbers_of w.topology.switches
   pub rows : w.fleet.control.versions ≡ rows_of w.versions
   pub distinct : AreDistinct w.fleet.ends
   pub fleet : IsFleet (setting w) w.fleet
-  pub traffic : IsTraffic w.topology (setting w) w.fleet.control.phase w.flights w.arrivals
+  pub traffic : IsTraffic w.topology (setting w) w.fleet.control.swept w.fleet.control.phase w.flights w.arrivals
   pub apart : AreApart w.flights w.arrivals
 
 -- shut to all proofs but those of its own laws

@@ -1,6 +1,6 @@
 //! What a world is started with beside its policies and its topology.
 
-/// How far a copy goes, how many rows a switch holds, and how many sessions may be lost.
+/// How far a copy goes, how many rows a switch holds, how many sessions may be lost, and whether drains overlap.
 #[derive(Clone, Copy, Debug, PartialEq, Eq)]
 pub struct Settings {
     /// How many hops a copy may take, at least 1.
@@ -9,4 +9,6 @@ pub struct Settings {
     pub capacity: usize,
     /// How many sessions may be lost without a halt, at most 1,000.
     pub rejoins: usize,
+    /// If drains overlap, how many stamps go round.
+    pub overlap: Option<u16>,
 }

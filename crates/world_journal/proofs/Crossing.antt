@@ -4,7 +4,7 @@ use denote.RattleType.{RattleType}
 use denote.Enum.Enum.{Enum}
 use denote.Enum.Declared as E
 use denote.Struct.Declared as S
-use denote.Builtin.{bool, u32, u64}
+use denote.Builtin.{bool, u16, u32, u64}
 use denote.Struct.Field.{row_field, bool-field, u64-field, usize-field}
 use denote.Param.Send.{IsSend, SendAt, LiveAt, enum_send_at, recorded_send_of, sendable, view_send}
 use denote.Param.SendFields.{variants_send, declared_send, as_row_send}
@@ -153,14 +153,17 @@ inside-send = declared_send inside.the_type (
       (
         as_row_send usize-field (search sendable),
         (
-          coordinator-send,
+          options.the_send u16 (search sendable),
           (
-            vec-send end_.the_row ends.the_send,
+            coordinator-send,
             (
-              flights-send,
+              vec-send end_.the_row ends.the_send,
               (
-                vec-send arrival.the_row arrival-send,
-                tt,
+                flights-send,
+                (
+                  vec-send arrival.the_row arrival-send,
+                  tt,
+                ),
               ),
             ),
           ),

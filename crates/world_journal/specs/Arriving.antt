@@ -2,7 +2,7 @@
 use Rattle.std.specs.Prelude.{◌≡◌, ◌≢◌, ◌≤◌, ◌⊎◌, ℕ, ◌+◌, Bool, true, false, List, [], ◌∷◌, length, map, None, All, IsPermutation}
 use Rattle.packet_tracer.specs.declared.flight.Flight.{Flight}
 use Rattle.update_coordinator.specs.declared.phase.Phase.TheVariants as phase
-use Rattle.update_coordinator.specs.declared.phase.Phase.{Phase}
+use Rattle.update_coordinator.specs.Calls.{draining}
 use Rattle.update_laws.specs.Traffic.{Arrived}
 use Rattle.world_core.specs.declared.event.Event.{Event}
 use Rattle.world_core.specs.declared.event.Event.TheVariants as event
@@ -38,23 +38,23 @@ pub record HaveArrived (lines : List Line) (marks : List Bool) (arrivals : List 
   pub long : length marks ≡ length lines
   pub same : IsPermutation (lines_of arrivals) (marked lines marks)
 
--- the last policy handles all packets
-abbrev pub last_phase : WorldValue → Phase
-last_phase w = phase.Idle (length w.versions)
+-- the last policy handles all packets, and none before it drains
+abbrev pub IsLast : WorldValue → Type 0
+IsLast w = (w.fleet.control.phase ≡ phase.Idle (length w.versions)) × (draining w.fleet.control ≡ [])
 
 -- no copy may take another hop
 abbrev pub AreSpent : WorldValue → Type 0
 AreSpent w = All (λ (f : Flight). w.limit ≤ f.hops) w.flights
 
--- no policy is to come: the updates have halted, or the last policy handles all packets
+-- there is no more to update: the updates have halted, or the last policy handles all packets and none before it drains
 abbrev pub IsSettled : WorldValue → Type 0
-IsSettled w = (w.fleet.control.halt ≢ None) ⊎ (w.fleet.control.phase ≡ last_phase w)
+IsSettled w = (w.fleet.control.halt ≢ None) ⊎ IsLast w
 
 -- each line came in once
 abbrev pub HaveAllCome : List Line → WorldValue → Type 0
 HaveAllCome lines w = IsPermutation (lines_of w.arrivals) lines
 
--- A run is over if no policy is to come, each line came in once, and no copy may take another hop. After a halt packets go on to their end.
+-- A run is over if there is no more to update, each line came in once, and no copy may take another hop. After a halt packets go on to their end.
 pub record IsOver (lines : List Line) (w : WorldValue) : Type 0 where
   pub settled : IsSettled w
   pub came : HaveAllCome lines w

@@ -5,7 +5,7 @@ use Rattle.world_core.specs.declared.event.Event.TheVariants as event
 use Rattle.world_core.specs.declared.event.ControllerEvent.TheVariants as of_controller
 use Rattle.world_core.specs.declared.event.PacketEvent.TheVariants as of_packet
 use Rattle.world_core.specs.Steps.{IsEnabled}
-use Rattle.world_journal.specs.Arriving.{last_phase}
+use Rattle.world_journal.specs.Arriving.{IsLast}
 use Rattle.world_journal.specs.Calls.{Made, Arrives, IsBarred, Returns}
 use Rattle.world_journal.specs.Journals.{events_of, name_of, session}
 use Rattle.world_journal.specs.Runs.{HasEnded, RunValue}
@@ -37,7 +37,7 @@ IsUpdate _ = ⊥
 
 -- Switch s is to return: it is away, and not all updates are done.
 abbrev pub IsMissing : {E : Type 0} → ℕ → RunValue E → Type 0
-IsMissing s run = IsEnabled run.held.world (event.Controller (of_controller.Rejoin s)) × (run.held.world.fleet.control.phase ≢ last_phase run.held.world)
+IsMissing s run = IsEnabled run.held.world (event.Controller (of_controller.Rejoin s)) × ¬ IsLast run.held.world
 
 -- it is one of n switches, and is to return over a pair with this name
 pub record IsAbsence {E : Type 0} (n : ℕ) (run : RunValue E) (a : Absence) : Type 0 where

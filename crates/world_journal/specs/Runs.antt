@@ -6,7 +6,7 @@ use Rattle.world_core.specs.Channels.{IsQuiet, newest_at}
 use Rattle.world_journal.specs.declared.entry.Entry.{Entry}
 use Rattle.world_journal.specs.declared.line.Line.{Line}
 use Rattle.world_journal.specs.Journals.{HeldValue, events_of, session, told_before}
-use Rattle.world_journal.specs.Arriving.{IsOver, last_phase}
+use Rattle.world_journal.specs.Arriving.{IsLast, IsOver}
 
 -- The journal with its world, which lines have come in, whether the run was closed, how many seats were laid back, and of each switch whether the last message of its session, and its own, still waits to be handed out, and the new ends that are laid out for the workers of both.
 pub record RunValue (E : Type 0) : Type 0 where
@@ -107,6 +107,6 @@ pub record HasCounts (n : ℕ) (journal : List Entry) (to_told back_told : List 
 abbrev pub HasEnded : {E : Type 0} → List Line → RunValue E → Type 0
 HasEnded lines r = (r.closed ≡ true) ⊎ IsOver lines r.held.world
 
--- The workers of switch s are to stop: the run is closed or has halted, or the last policy handles all packets and no message is left for either of them.
+-- The workers of switch s are to stop: the run is closed or has halted; or the last policy handles all packets, none before it drains, and no message is left for either of them.
 abbrev pub Stops : {E : Type 0} → RunValue E → ℕ → Type 0
-Stops r s = (r.closed ≡ true) ⊎ ((r.held.world.fleet.control.halt ≢ None) ⊎ ((r.held.world.fleet.control.phase ≡ last_phase r.held.world) × (IsQuiet side.Controller s r.held.world × IsQuiet side.Switch s r.held.world)))
+Stops r s = (r.closed ≡ true) ⊎ ((r.held.world.fleet.control.halt ≢ None) ⊎ (IsLast r.held.world × (IsQuiet side.Controller s r.held.world × IsQuiet side.Switch s r.held.world)))

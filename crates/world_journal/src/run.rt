@@ -1,7 +1,7 @@
 // What lies under the one lock of a run.
 ghost use Rattle.std.specs.Prelude.{◌≡◌, ◌↔◌, IfOk, IsTrue, None, replicate, slice_get, true};
 ghost use Rattle.world_core.specs.Worlds.{WorldValue};
-ghost use Rattle.world_journal.specs.Arriving.{AreSpent, IsSettled, last_phase};
+ghost use Rattle.world_journal.specs.Arriving.{AreSpent, IsLast, IsSettled};
 
 use crate::entry::Entry;
 use crate::held::{CutFault, Held};
@@ -376,17 +376,20 @@ fn no_ends<E: Link>(alloc: Global, count: usize) -> Result<Vec<Option<E>>, Alloc
     Ok(ends)
 }
 
-/// Whether the last policy handles all packets.
+/// Whether the last policy handles all packets, and none before it drains.
 pub(crate) fn is_last(world: &World) -> bool
-    ensures { IsTrue result ↔ (world.now.fleet.control.phase ≡ last_phase world.now) }
+    ensures { IsTrue result ↔ IsLast world.now }
 {
-    match world.coordinator().phase() {
-        Phase::Idle(policy) => policy == world.version_count(),
+    let coordinator = world.coordinator();
+    match coordinator.phase() {
+        Phase::Idle(policy) => {
+            policy == world.version_count() && coordinator.draining().is_empty()
+        }
         _ => false,
     }
 }
 
-// Whether no policy is to come.
+// Whether there is no more to update.
 fn is_settled(world: &World) -> bool
     ensures { IsTrue result ↔ IsSettled world.now }
 {

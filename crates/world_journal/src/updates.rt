@@ -5,7 +5,7 @@ ghost use Rattle.world_core.specs.declared.event.Event.TheVariants as event;
 ghost use Rattle.world_core.specs.declared.event.ControllerEvent.TheVariants as of_controller;
 ghost use Rattle.world_core.specs.declared.event.PacketEvent.TheVariants as of_packet;
 ghost use Rattle.world_core.specs.Steps.{IsEnabled};
-ghost use Rattle.world_journal.specs.Arriving.{last_phase};
+ghost use Rattle.world_journal.specs.Arriving.{IsLast};
 ghost use Rattle.world_journal.specs.Calls.{IsUnmoved};
 ghost use Rattle.world_journal.specs.Journals.{switches};
 ghost use Rattle.world_journal.specs.Makers.{IsCaller};
@@ -43,7 +43,8 @@ pub enum Update {
 impl<L: RunName, E: Link> Run<L, E> {
     /// Tells which switch is to return; or begins the next update, or reports what became of the drain: that no copy
     /// carries the old stamp any more, or that one with it can go no further. There is no more to do if the run was
-    /// closed or is over. Once the last policy handles all packets no switch is to return.
+    /// closed or is over. Once the last policy handles all packets and none before it drains, no switch is to
+    /// return.
     pub fn update(&mut self, alloc: Global, seat: &mut Seat<L>) -> Result<Update, AllocError>
         requires { IsCaller seat.old.worker }
         ensures seat { IsUnmoved seat.old.worker seat.new.worker seat.old.share.parts seat.new.share.parts }
@@ -131,7 +132,7 @@ impl<L: RunName, E: Link> Run<L, E> {
 
 // Whether a switch is to return.
 fn is_missing(world: &World, place: usize) -> bool
-    ensures { IsTrue result ↔ (IsEnabled world.now (event.Controller (of_controller.Rejoin place)) × (world.now.fleet.control.phase ≢ last_phase world.now)) }
+    ensures { IsTrue result ↔ (IsEnabled world.now (event.Controller (of_controller.Rejoin place)) × ¬ IsLast world.now) }
 {
     !is_last(world) && world.enabled(&Event::Controller(ControllerEvent::Rejoin(place)))
 }
@@ -158,7 +159,7 @@ fn next_update(world: &World) -> Option<Event>
     if world.enabled(&Event::Controller(ControllerEvent::Begin)) {
         return Some(Event::Controller(ControllerEvent::Begin));
     }
-    let stamp = world.coordinator().draining()?;
+    let stamp = world.coordinator().leaving()?;
     if world.enabled(&Event::Controller(ControllerEvent::Drained(stamp))) {
         return Some(Event::Controller(ControllerEvent::Drained(stamp)));
     }

@@ -21,7 +21,7 @@ pub verdict_on-requires-clause-distinct : goal.verdict_on-requires-clause-distin
 verdict_on-requires-clause-distinct c =
     let w = c.args.world.now in
     let sw = (get_or c.switches.result.now c.args.place c.index-switches-place.result).sw in
-    let is = c.deref.ensures.value ∙ (c.in_ok-planned.ensures ∙ ap (λ (k : Control). planned k.versions k.phase sw) c.coordinator.ensures) in
+    let is = c.deref.ensures.value ∙ (c.in_ok-planned.ensures.rows ∙ ap (λ (k : Control). planned k.versions k.swept k.phase sw) c.coordinator.ensures) in
     subst (λ (rs : List Row). Distinct rs) (sym is) (planned-distinct w c.kept.ensures sw)
 
 pub returns : goal.returns
@@ -32,5 +32,5 @@ returns c =
     let sites = c.switches.ensures.switches ∙ ap (λ (t : Layout). t.switches) c.topology.ensures in
     let here = ap (λ (xs : List Site). get_or xs c.args.place site) sites ∙ get_or_from_slice_get w.topology.switches c.args.place s.site site s.named in
     let sw = (get_or c.switches.result.now c.args.place site).sw in
-    let is = c.deref.ensures.value ∙ (c.in_ok-planned.ensures ∙ ap (λ (k : Control). planned k.versions k.phase sw) c.coordinator.ensures) in
+    let is = c.deref.ensures.value ∙ (c.in_ok-planned.ensures.rows ∙ ap (λ (k : Control). planned k.versions k.swept k.phase sw) c.coordinator.ensures) in
     audit-at w c.args.place c.switch.result.now s sw c.deref.result.now c.deref-2.result.now c.in_ok-report.report.items c.verdict_on.result (ap (λ (x : Site). x.sw) here) is c.in_ok-report.ensures c.deref-2.ensures.value c.verdict_on.ensures

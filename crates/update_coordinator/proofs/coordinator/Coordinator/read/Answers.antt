@@ -1,30 +1,17 @@
-use Rattle.std.proofs.Common.{◌≡◌, ◌∙◌, ◌<◌, ◌+◌, ◌-◌, ◌≤◌, ℕ, true, false, List, length, map, take, drop, ◌++◌, slice_get, slice_set, Some, None, refl, sym, ap, subst, arith}
-use Rattle.openflow_wire.specs.declared.message.Message.TheVariants as to
+use Rattle.std.proofs.Common.{◌≡◌, ◌∙◌, ◌<◌, ◌+◌, ℕ, List, length, slice_get, Some, sym, ap, subst, arith}
 use Rattle.update_plan.specs.declared.cursor.Cursor.{Cursor}
-use Rattle.barrier_tracker.specs.declared.tracker.Awaited.{Awaited}
-use Rattle.update_coordinator.specs.Controls.{Site, Control, Change, begun_site, halted, in_phase}
-use Rattle.update_coordinator.specs.Kept.{IsControl}
-use Rattle.update_coordinator.specs.Batches.{rounds_of}
-use Rattle.update_coordinator.specs.Counts.{comes_to, behind}
-use Rattle.update_coordinator.specs.Phases.{works}
-use Rattle.update_coordinator.specs.Reading.{AreRead, IsAtEnd, IsAtChange, begun_again}
-use Rattle.update_coordinator.specs.Sending.{IsSent}
-use Rattle.update_coordinator.specs.Sites.{in_batch, SendsAt, FencesAt, GreetsAt, LosesAt, ReturnsAt}
-use Rattle.update_coordinator.proofs.Places.{whole, some_is}
-use Rattle.update_coordinator.proofs.Kept.{owes_by, phase_keeps, lost_keeps, back_keeps, noted_keeps, hears_keeps, heard_by, quiet_moved, none_by, free_for, silent_sends, silent_owes}
-use Rattle.update_coordinator.proofs.Numbers.{small_number}
-use Rattle.update_coordinator.proofs.Cursors.{phase_read, lost_read, back_read, noted_read, hears_read}
+use Rattle.update_coordinator.specs.Controls.{Site, Control}
 use Rattle.nk_values.specs.declared.rows.Rows.{Rows}
 use Rattle.std.proofs.lemmas.Option.{slice_get-get_or}
 use Rattle.std.proofs.Common.{IfOk, IfNone, IfSome, [], ◌∷◌}
 use Rattle.update_coordinator.specs.Reading.{left_in}
-use Rattle.update_coordinator.proofs.Sent.{IsUngreeted, greet_keeps, greet_reads, greet_nothing, greet_sends, read_none, read_some, greets_keep, greets_read, greets_sent, greets_none, change_small, change_keeps, changes_read, change_sent, change_fits, fences_keep, fences_read, fences_sent, batch_sends}
+use Rattle.update_coordinator.proofs.Sent.{read_none, read_some}
 use Rattle.update_coordinator.proofs.coordinator.Coordinator.read.Goals as goal
 
 pub returns-clause-none : goal.returns-clause-none
 returns-clause-none c =
     let old = c.self.inside in
-    let c0 : Control = (record { phase = old.phase; halt = old.halt; versions = old.versions.items; sites = old.sites.items; replies = old.replies; rejoins = old.rejoins }) in
+    let c0 : Control = (record { phase = old.phase; halt = old.halt; versions = old.versions.items; sites = old.sites.items; replies = old.replies; rejoins = old.rejoins; overlap = old.overlap; swept = old.swept }) in
     let s = c.index-site.result.now in
     let x = c.index.result.now in
     let within : c.args.place < length old.sites.items = subst (λ (v : Control). c.args.place < length v.sites) (sym c.self.view_is) c.requires.within in
@@ -40,7 +27,7 @@ returns-clause-none c =
 pub returns-clause-some : goal.returns-clause-some
 returns-clause-some c =
     let old = c.self.inside in
-    let c0 : Control = (record { phase = old.phase; halt = old.halt; versions = old.versions.items; sites = old.sites.items; replies = old.replies; rejoins = old.rejoins }) in
+    let c0 : Control = (record { phase = old.phase; halt = old.halt; versions = old.versions.items; sites = old.sites.items; replies = old.replies; rejoins = old.rejoins; overlap = old.overlap; swept = old.swept }) in
     let s = c.index-site.result.now in
     let x = c.index.result.now in
     let within : c.args.place < length old.sites.items = subst (λ (v : Control). c.args.place < length v.sites) (sym c.self.view_is) c.requires.within in

@@ -1,59 +1,50 @@
-use Rattle.std.proofs.Common.{◌≡◌, ◌∙◌, ◌<◌, ◌+◌, ◌-◌, ◌≤◌, ℕ, true, false, List, length, map, take, drop, ◌++◌, slice_get, slice_set, Some, None, refl, sym, ap, subst, arith}
-use Rattle.openflow_wire.specs.declared.message.Message.TheVariants as to
-use Rattle.update_plan.specs.declared.cursor.Cursor.{Cursor}
-use Rattle.barrier_tracker.specs.declared.tracker.Awaited.{Awaited}
-use Rattle.update_coordinator.specs.Controls.{Site, Control, Change, begun_site, halted, in_phase}
+use Rattle.std.proofs.Common.{◌≡◌, ◌∙◌, ◌<◌, true, List, length, take, drop, ◌++◌, slice_get, slice_set, Some, sym, ap, subst, arith}
+use Rattle.update_coordinator.specs.Controls.{Site, Control, Change}
 use Rattle.update_coordinator.specs.Kept.{IsControl}
-use Rattle.update_coordinator.specs.Batches.{rounds_of}
-use Rattle.update_coordinator.specs.Counts.{comes_to, behind}
-use Rattle.update_coordinator.specs.Phases.{works}
-use Rattle.update_coordinator.specs.Reading.{AreRead, IsAtEnd, IsAtChange, begun_again}
+use Rattle.update_coordinator.specs.Reading.{AreRead, IsAtChange}
 use Rattle.update_coordinator.specs.Sending.{IsSent}
-use Rattle.update_coordinator.specs.Sites.{in_batch, SendsAt, FencesAt, GreetsAt, LosesAt, ReturnsAt}
-use Rattle.update_coordinator.proofs.Places.{whole, some_is}
-use Rattle.update_coordinator.proofs.Kept.{phase_keeps, lost_keeps, back_keeps, noted_keeps, hears_keeps, heard_by, quiet_moved, none_by, free_for, silent_sends, silent_owes}
-use Rattle.update_coordinator.proofs.Numbers.{small_number}
-use Rattle.update_coordinator.proofs.Cursors.{phase_read, lost_read, back_read, noted_read, hears_read}
-use Rattle.update_coordinator.proofs.Sent.{greets_keep, greets_read, greets_sent, greets_none, change_small, change_keeps, changes_read, change_sent, change_fits, fences_keep, fences_read, fences_sent, batch_sends}
+use Rattle.update_coordinator.specs.Sites.{in_batch, SendsAt}
+use Rattle.update_coordinator.proofs.Places.{whole}
+use Rattle.update_coordinator.proofs.Sent.{change_small, change_keeps, changes_read, change_sent, change_fits}
 use Rattle.update_coordinator.proofs.coordinator.Coordinator.send_change.Goals as goal
 
 pub change-message-requires-clause-small : goal.change-message-requires-clause-small
 change-message-requires-clause-small c =
     let old = c.self.inside in
-    let c0 : Control = (record { phase = old.phase; halt = old.halt; versions = old.versions.items; sites = old.sites.items; replies = old.replies; rejoins = old.rejoins }) in
+    let c0 : Control = (record { phase = old.phase; halt = old.halt; versions = old.versions.items; sites = old.sites.items; replies = old.replies; rejoins = old.rejoins; overlap = old.overlap; swept = old.swept }) in
     let at : IsAtChange c.args.place c.args.read.change c.args.read.cursor c0 = subst (λ (v : Control). IsAtChange c.args.place c.args.read.change c.args.read.cursor v) (sym c.self.view_is) c.requires.change in
     λ s e. change_small c0 c.args.place c.args.read.change c.args.read.cursor c.self.invariant.0 at s (ap (λ (xs : List Site). slice_get xs c.args.place) (sym c.deref_mut.ensures.value) ∙ e)
 
 pub invariant_of-self : goal.invariant_of-self
 invariant_of-self c =
     let old = c.self.inside in
-    let c0 : Control = (record { phase = old.phase; halt = old.halt; versions = old.versions.items; sites = old.sites.items; replies = old.replies; rejoins = old.rejoins }) in
+    let c0 : Control = (record { phase = old.phase; halt = old.halt; versions = old.versions.items; sites = old.sites.items; replies = old.replies; rejoins = old.rejoins; overlap = old.overlap; swept = old.swept }) in
     let new = c.change-message.new.sites in
     let sites : take old.sites.len (new ++ drop (length new) old.sites.items) ≡ new = whole old.sites.len old.sites.items new (omega (arith, old.sites.ok)) (omega arith) in
     let turn : (s : Site) → slice_get old.sites.items c.args.place ≡ Some s → in_batch s.greets s.asks s.sends ≡ true = subst (λ (v : Control). (s : Site) → slice_get v.sites c.args.place ≡ Some s → in_batch s.greets s.asks s.sends ≡ true) (sym c.self.view_is) c.requires.turn in
     let sends : SendsAt c.args.place (Change c.args.read.change) old.sites.items new c.change-message.result = subst (λ (xs : List Site). SendsAt c.args.place (Change c.args.read.change) xs new c.change-message.result) c.deref_mut.ensures.value c.change-message.ensures in
     let at : IsAtChange c.args.place c.args.read.change c.args.read.cursor c0 = subst (λ (v : Control). IsAtChange c.args.place c.args.read.change c.args.read.cursor v) (sym c.self.view_is) c.requires.change in (
-      subst (λ (zs : List Site). IsControl (record { phase = old.phase; halt = old.halt; versions = old.versions.items; sites = zs; replies = old.replies; rejoins = old.rejoins })) (sym sites) (change_keeps c0 c.args.place c.args.read.change c.args.read.cursor new c.change-message.result c.self.invariant.0 turn at sends),
+      subst (λ (zs : List Site). IsControl (record { phase = old.phase; halt = old.halt; versions = old.versions.items; sites = zs; replies = old.replies; rejoins = old.rejoins; overlap = old.overlap; swept = old.swept })) (sym sites) (change_keeps c0 c.args.place c.args.read.change c.args.read.cursor new c.change-message.result c.self.invariant.0 turn at sends),
       c.self.invariant.1,
-      subst (λ (zs : List Site). AreRead (record { phase = old.phase; halt = old.halt; versions = old.versions.items; sites = zs; replies = old.replies; rejoins = old.rejoins }) old.spans.items (slice_set old.cursors.items c.args.place c.args.read.cursor)) (sym sites) (changes_read c0 c.args.place c.args.read.change c.args.read.cursor new c.change-message.result old.spans.items old.cursors.items c.self.invariant.2 at sends),
+      subst (λ (zs : List Site). AreRead (record { phase = old.phase; halt = old.halt; versions = old.versions.items; sites = zs; replies = old.replies; rejoins = old.rejoins; overlap = old.overlap; swept = old.swept }) old.spans.items (slice_set old.cursors.items c.args.place c.args.read.cursor)) (sym sites) (changes_read c0 c.args.place c.args.read.change c.args.read.cursor new c.change-message.result old.spans.items old.cursors.items c.self.invariant.2 at sends),
     )
 
 pub returns-clause-sent : goal.returns-clause-sent
 returns-clause-sent c =
     let old = c.self.inside in
-    let c0 : Control = (record { phase = old.phase; halt = old.halt; versions = old.versions.items; sites = old.sites.items; replies = old.replies; rejoins = old.rejoins }) in
+    let c0 : Control = (record { phase = old.phase; halt = old.halt; versions = old.versions.items; sites = old.sites.items; replies = old.replies; rejoins = old.rejoins; overlap = old.overlap; swept = old.swept }) in
     let new = c.change-message.new.sites in
     let sites : take old.sites.len (new ++ drop (length new) old.sites.items) ≡ new = whole old.sites.len old.sites.items new (omega (arith, old.sites.ok)) (omega arith) in
     let turn : (s : Site) → slice_get old.sites.items c.args.place ≡ Some s → in_batch s.greets s.asks s.sends ≡ true = subst (λ (v : Control). (s : Site) → slice_get v.sites c.args.place ≡ Some s → in_batch s.greets s.asks s.sends ≡ true) (sym c.self.view_is) c.requires.turn in
     let sends : SendsAt c.args.place (Change c.args.read.change) old.sites.items new c.change-message.result = subst (λ (xs : List Site). SendsAt c.args.place (Change c.args.read.change) xs new c.change-message.result) c.deref_mut.ensures.value c.change-message.ensures in
     let at : IsAtChange c.args.place c.args.read.change c.args.read.cursor c0 = subst (λ (v : Control). IsAtChange c.args.place c.args.read.change c.args.read.cursor v) (sym c.self.view_is) c.requires.change in
-    rw (← c.self.view_is) (subst (λ (zs : List Site). IsSent c.args.place c0 (record { phase = old.phase; halt = old.halt; versions = old.versions.items; sites = zs; replies = old.replies; rejoins = old.rejoins }) c.change-message.result) (sym sites)
+    rw (← c.self.view_is) (subst (λ (zs : List Site). IsSent c.args.place c0 (record { phase = old.phase; halt = old.halt; versions = old.versions.items; sites = zs; replies = old.replies; rejoins = old.rejoins; overlap = old.overlap; swept = old.swept }) c.change-message.result) (sym sites)
     (change_sent c0 c.args.place c.args.read.change c.args.read.cursor new c.change-message.result (ap (λ (v : Control). v.halt) c.self.view_is ∙ c.requires.running) turn at sends))
 
 pub returns-clause-fits : goal.returns-clause-fits
 returns-clause-fits c =
     let old = c.self.inside in
-    let c0 : Control = (record { phase = old.phase; halt = old.halt; versions = old.versions.items; sites = old.sites.items; replies = old.replies; rejoins = old.rejoins }) in
+    let c0 : Control = (record { phase = old.phase; halt = old.halt; versions = old.versions.items; sites = old.sites.items; replies = old.replies; rejoins = old.rejoins; overlap = old.overlap; swept = old.swept }) in
     let new = c.change-message.new.sites in
     let sites : take old.sites.len (new ++ drop (length new) old.sites.items) ≡ new = whole old.sites.len old.sites.items new (omega (arith, old.sites.ok)) (omega arith) in
     let sends : SendsAt c.args.place (Change c.args.read.change) old.sites.items new c.change-message.result = subst (λ (xs : List Site). SendsAt c.args.place (Change c.args.read.change) xs new c.change-message.result) c.deref_mut.ensures.value c.change-message.ensures in

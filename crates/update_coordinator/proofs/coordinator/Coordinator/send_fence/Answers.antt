@@ -1,26 +1,20 @@
-use Rattle.std.proofs.Common.{◌≡◌, ◌∙◌, ◌<◌, ◌+◌, ◌-◌, ◌≤◌, ℕ, true, false, List, length, map, take, drop, ◌++◌, slice_get, slice_set, Some, None, refl, sym, ap, subst, arith}
+use Rattle.std.proofs.Common.{◌≡◌, ◌∙◌, true, List, length, take, drop, ◌++◌, slice_get, Some, sym, ap, subst, arith}
 use Rattle.openflow_wire.specs.declared.message.Message.TheVariants as to
-use Rattle.update_plan.specs.declared.cursor.Cursor.{Cursor}
-use Rattle.barrier_tracker.specs.declared.tracker.Awaited.{Awaited}
-use Rattle.update_coordinator.specs.Controls.{Site, Control, Change, begun_site, halted, in_phase}
+use Rattle.update_coordinator.specs.Controls.{Site, Control}
 use Rattle.update_coordinator.specs.Kept.{IsControl}
-use Rattle.update_coordinator.specs.Batches.{rounds_of}
-use Rattle.update_coordinator.specs.Counts.{comes_to, behind}
-use Rattle.update_coordinator.specs.Phases.{works}
-use Rattle.update_coordinator.specs.Reading.{AreRead, IsAtEnd, IsAtChange, begun_again}
+use Rattle.update_coordinator.specs.Reading.{AreRead, IsAtEnd}
 use Rattle.update_coordinator.specs.Sending.{IsSent}
-use Rattle.update_coordinator.specs.Sites.{in_batch, SendsAt, FencesAt, GreetsAt, LosesAt, ReturnsAt}
-use Rattle.update_coordinator.proofs.Places.{whole, some_is}
-use Rattle.update_coordinator.proofs.Kept.{phase_keeps, lost_keeps, back_keeps, noted_keeps, hears_keeps, heard_by, quiet_moved, none_by, free_for, silent_sends, silent_owes}
+use Rattle.update_coordinator.specs.Sites.{in_batch, FencesAt}
+use Rattle.update_coordinator.proofs.Places.{whole}
+use Rattle.update_coordinator.proofs.Kept.{free_for}
 use Rattle.update_coordinator.proofs.Numbers.{small_number}
-use Rattle.update_coordinator.proofs.Cursors.{phase_read, lost_read, back_read, noted_read, hears_read}
-use Rattle.update_coordinator.proofs.Sent.{greets_keep, greets_read, greets_sent, greets_none, change_small, change_keeps, changes_read, change_sent, change_fits, fences_keep, fences_read, fences_sent, batch_sends}
+use Rattle.update_coordinator.proofs.Sent.{fences_keep, fences_read, fences_sent, batch_sends}
 use Rattle.update_coordinator.proofs.coordinator.Coordinator.send_fence.Goals as goal
 
 pub fence-xid-requires-clause-small : goal.fence-xid-requires-clause-small
 fence-xid-requires-clause-small c =
     let old = c.self.inside in
-    let c0 : Control = (record { phase = old.phase; halt = old.halt; versions = old.versions.items; sites = old.sites.items; replies = old.replies; rejoins = old.rejoins }) in
+    let c0 : Control = (record { phase = old.phase; halt = old.halt; versions = old.versions.items; sites = old.sites.items; replies = old.replies; rejoins = old.rejoins; overlap = old.overlap; swept = old.swept }) in
     let turn : (s : Site) → slice_get old.sites.items c.args.place ≡ Some s → in_batch s.greets s.asks s.sends ≡ true = subst (λ (v : Control). (s : Site) → slice_get v.sites c.args.place ≡ Some s → in_batch s.greets s.asks s.sends ≡ true) (sym c.self.view_is) c.requires.turn in
     λ s e. let here : slice_get old.sites.items c.args.place ≡ Some s = ap (λ (xs : List Site). slice_get xs c.args.place) (sym c.deref_mut.ensures.value) ∙ e in
     (small_number c0 s (c.self.invariant.0.numbers c.args.place s here), batch_sends s (turn s here))
@@ -28,7 +22,7 @@ fence-xid-requires-clause-small c =
 pub expect-requires-clause-free : goal.expect-requires-clause-free
 expect-requires-clause-free c =
     let old = c.self.inside in
-    let c0 : Control = (record { phase = old.phase; halt = old.halt; versions = old.versions.items; sites = old.sites.items; replies = old.replies; rejoins = old.rejoins }) in
+    let c0 : Control = (record { phase = old.phase; halt = old.halt; versions = old.versions.items; sites = old.sites.items; replies = old.replies; rejoins = old.rejoins; overlap = old.overlap; swept = old.swept }) in
     let new = c.fence-xid.new.sites in
     let sites : take old.sites.len (new ++ drop (length new) old.sites.items) ≡ new = whole old.sites.len old.sites.items new (omega (arith, old.sites.ok)) (omega arith) in
     let turn : (s : Site) → slice_get old.sites.items c.args.place ≡ Some s → in_batch s.greets s.asks s.sends ≡ true = subst (λ (v : Control). (s : Site) → slice_get v.sites c.args.place ≡ Some s → in_batch s.greets s.asks s.sends ≡ true) (sym c.self.view_is) c.requires.turn in
@@ -38,25 +32,25 @@ expect-requires-clause-free c =
 pub invariant_of-self : goal.invariant_of-self
 invariant_of-self c =
     let old = c.self.inside in
-    let c0 : Control = (record { phase = old.phase; halt = old.halt; versions = old.versions.items; sites = old.sites.items; replies = old.replies; rejoins = old.rejoins }) in
+    let c0 : Control = (record { phase = old.phase; halt = old.halt; versions = old.versions.items; sites = old.sites.items; replies = old.replies; rejoins = old.rejoins; overlap = old.overlap; swept = old.swept }) in
     let new = c.fence-xid.new.sites in
     let sites : take old.sites.len (new ++ drop (length new) old.sites.items) ≡ new = whole old.sites.len old.sites.items new (omega (arith, old.sites.ok)) (omega arith) in
     let turn : (s : Site) → slice_get old.sites.items c.args.place ≡ Some s → in_batch s.greets s.asks s.sends ≡ true = subst (λ (v : Control). (s : Site) → slice_get v.sites c.args.place ≡ Some s → in_batch s.greets s.asks s.sends ≡ true) (sym c.self.view_is) c.requires.turn in
     let fences : FencesAt c.args.place old.sites.items new c.fence-xid.result = subst (λ (xs : List Site). FencesAt c.args.place xs new c.fence-xid.result) c.deref_mut.ensures.value c.fence-xid.ensures in
     let end : IsAtEnd c.args.place c0 = subst (λ (v : Control). IsAtEnd c.args.place v) (sym c.self.view_is) c.requires.end in (
-      subst (λ (zs : List Site). IsControl (record { phase = old.phase; halt = old.halt; versions = old.versions.items; sites = zs; replies = c.expect.new.self; rejoins = old.rejoins })) (sym sites) (rw c.expect.ensures (fences_keep c0 c.args.place c.fence-xid.result new c.self.invariant.0 turn end fences)),
+      subst (λ (zs : List Site). IsControl (record { phase = old.phase; halt = old.halt; versions = old.versions.items; sites = zs; replies = c.expect.new.self; rejoins = old.rejoins; overlap = old.overlap; swept = old.swept })) (sym sites) (rw c.expect.ensures (fences_keep c0 c.args.place c.fence-xid.result new c.self.invariant.0 turn end fences)),
       c.self.invariant.1,
-      subst (λ (zs : List Site). AreRead (record { phase = old.phase; halt = old.halt; versions = old.versions.items; sites = zs; replies = c.expect.new.self; rejoins = old.rejoins }) old.spans.items old.cursors.items) (sym sites) (rw c.expect.ensures (fences_read c0 c.args.place c.fence-xid.result new old.spans.items old.cursors.items c.self.invariant.2 fences)),
+      subst (λ (zs : List Site). AreRead (record { phase = old.phase; halt = old.halt; versions = old.versions.items; sites = zs; replies = c.expect.new.self; rejoins = old.rejoins; overlap = old.overlap; swept = old.swept }) old.spans.items old.cursors.items) (sym sites) (rw c.expect.ensures (fences_read c0 c.args.place c.fence-xid.result new old.spans.items old.cursors.items c.self.invariant.2 fences)),
     )
 
 pub returns-clause-sent : goal.returns-clause-sent
 returns-clause-sent c =
     let old = c.self.inside in
-    let c0 : Control = (record { phase = old.phase; halt = old.halt; versions = old.versions.items; sites = old.sites.items; replies = old.replies; rejoins = old.rejoins }) in
+    let c0 : Control = (record { phase = old.phase; halt = old.halt; versions = old.versions.items; sites = old.sites.items; replies = old.replies; rejoins = old.rejoins; overlap = old.overlap; swept = old.swept }) in
     let new = c.fence-xid.new.sites in
     let sites : take old.sites.len (new ++ drop (length new) old.sites.items) ≡ new = whole old.sites.len old.sites.items new (omega (arith, old.sites.ok)) (omega arith) in
     let turn : (s : Site) → slice_get old.sites.items c.args.place ≡ Some s → in_batch s.greets s.asks s.sends ≡ true = subst (λ (v : Control). (s : Site) → slice_get v.sites c.args.place ≡ Some s → in_batch s.greets s.asks s.sends ≡ true) (sym c.self.view_is) c.requires.turn in
     let fences : FencesAt c.args.place old.sites.items new c.fence-xid.result = subst (λ (xs : List Site). FencesAt c.args.place xs new c.fence-xid.result) c.deref_mut.ensures.value c.fence-xid.ensures in
     let end : IsAtEnd c.args.place c0 = subst (λ (v : Control). IsAtEnd c.args.place v) (sym c.self.view_is) c.requires.end in
-    rw (← c.self.view_is) (subst (λ (zs : List Site). IsSent c.args.place c0 (record { phase = old.phase; halt = old.halt; versions = old.versions.items; sites = zs; replies = c.expect.new.self; rejoins = old.rejoins }) (to.BarrierRequest c.fence-xid.result)) (sym sites)
+    rw (← c.self.view_is) (subst (λ (zs : List Site). IsSent c.args.place c0 (record { phase = old.phase; halt = old.halt; versions = old.versions.items; sites = zs; replies = c.expect.new.self; rejoins = old.rejoins; overlap = old.overlap; swept = old.swept }) (to.BarrierRequest c.fence-xid.result)) (sym sites)
     (rw c.expect.ensures (fences_sent c0 c.args.place c.fence-xid.result new (ap (λ (v : Control). v.halt) c.self.view_is ∙ c.requires.running) turn end fences)))
