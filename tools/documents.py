@@ -24,6 +24,7 @@ class Document:
     capacity: int = 200_000
     stamps: Tuple[int, int] = (1, 4094)
     rejoins: int = 0
+    overlap: bool = False
     policies: List[Meaning] = field(default_factory=list)
     packets: List[PacketLine] = field(default_factory=list)
     schedule: List[str] = field(default_factory=list)
@@ -63,6 +64,8 @@ def add_line(document: Document, words: List[str]) -> None:
         document.packets.append(read_packet(rest[0], rest[1:]))
     elif kind == "stamps":
         document.stamps = (int(rest[0]), int(rest[1]))
+    elif words == ["overlap"]:
+        document.overlap = True
     elif kind in ("hops", "capacity", "rejoins"):
         setattr(document, kind, int(rest[0]))
     else:

@@ -89,10 +89,10 @@ class FlightList:
                     self.on_arrive()
                 elif word == "hop":
                     self.on_hop(int(rest[0]))
-                elif word == "drained" and not self.is_clear(moment.phase[1] - 1):
+                elif word == "drained" and not self.is_clear(moment.leaving or 0):
                     raise Misfit(f"a copy carries this stamp in phase {show_phase(moment.phase)}")
-                elif word == "stuck" and self.is_clear(moment.phase[1] - 1):
-                    raise Misfit("no copy carries the stamp of the policy before")
+                elif word == "stuck" and self.is_clear(moment.leaving or 0):
+                    raise Misfit("no copy carries the stamp that is waited for")
             except Misfit as why:
                 raise Misfit(f"event {number} ({word} {' '.join(rest[:1])}): {why}") from None
         if any(not flight[1].is_open for group in self.flights for flight in group):

@@ -2,6 +2,7 @@
 
 from __future__ import annotations
 
+import copy
 from dataclasses import dataclass
 from typing import Dict, List, Optional, Tuple
 
@@ -25,6 +26,7 @@ class Moment:
     sent: Optional[Tuple[str, int, int]] = None  # kind, place in the batch, xid
     heard: Optional[str] = None
     done: Tuple[int, ...] = ()  # the switches whose answer for the phase was heard before
+    leaving: Optional[int] = None  # the policy of which it is waited for that no packet has its stamp
 
 
 class Journal:
@@ -35,9 +37,10 @@ class Journal:
         self.events = [event.split() for event in report.events]
         if any(words[0] in ("send", "heard") and len(words) == 3 or words[0] == "garbled" for words in self.events):
             raise Fault("this is the report of a drive, which has no switches of a model: `ovs-ofctl ofp-print` reads its messages")
-        self.barriers = barriers(self.events)
+        self.barriers = barriers(self.events, document.rejoins)
         self.sessions = {switch: Session() for switch in document.switches}
         self.phase: Phase = ("opening",)
+        self.draining: List[int] = []  # policies, the oldest first, if drains overlap
         self.losses = 0
         self.halt: Optional[str] = None
         self.rounds: Dict[int, int] = {}  # of each update
@@ -55,22 +58,29 @@ class Journal:
     def follow(self) -> List[Moment]:
         """Each event with the phase that it found. The phase at the end has to be that of the report."""
         moments = []
-        for self.place, words in enumerate(self.events):
-            done = tuple(switch for switch, session in self.sessions.items() if session.is_done)
-            moment = Moment(words, self.phase, self.halt is not None, done=done)
-            moments.append(moment)
-            if words[0] in CONTROL:
-                self.must(self.halt is None, "the updates have halted")
-            step = getattr(self, "on_" + words[0], None)
-            if step is not None:
-                step(moment, *words[1:])
+        for self.place in range(len(self.events)):
+            moments.append(self.step())
         self.check_end()
         return moments
+
+    def step(self) -> Moment:
+        """What the event at the place does."""
+        words = self.events[self.place]
+        done = tuple(switch for switch, session in self.sessions.items() if session.is_done)
+        moment = Moment(words, self.phase, self.halt is not None, done=done, leaving=self.leaving())
+        if words[0] in CONTROL:
+            self.must(self.halt is None, "the updates have halted")
+        step = getattr(self, "on_" + words[0], None)
+        if step is not None:
+            step(moment, *words[1:])
+        return moment
 
     def check_end(self) -> None:
         printed = self.report.phase_words
         if self.phase != printed:
             raise Fault(f"the events lead to phase {show_phase(self.phase)}, and the report says {self.report.phase}")
+        if [self.document.stamp(policy) for policy in self.draining] != self.report.draining:
+            raise Fault("the report has other stamps that drain than the events lead to")
         if self.report.halt is not None and self.halt is None:
             raise Fault(f"no event halts, and the report says halted {self.report.halt}")
 
@@ -83,6 +93,7 @@ class Journal:
     def on_begin(self, moment: Moment) -> None:
         self.must(self.phase[0] == "idle", f"an update begins in phase {show_phase(self.phase)}")
         self.must(self.phase[1] < len(self.document.policies), "there is no policy left")
+        self.must(not self.document.overlap or self.has_stamp(), "each stamp is current or drains")
         self.enter(("install", self.phase[1] + 1))
 
     def on_send(self, moment: Moment, switch: str) -> None:
@@ -149,12 +160,13 @@ class Journal:
                 self.enter(self.following())
 
     def on_drained(self, moment: Moment, stamp: str) -> None:
-        self.must(self.phase[0] == "drain", f"it is said in phase {show_phase(self.phase)}")
-        self.must(int(stamp) == self.document.stamp(self.phase[1] - 1), "it is not the stamp of the policy before")
-        self.enter(("clean", self.phase[1]))
+        policy = self.leaving()
+        self.must(policy is not None, f"it is said in phase {show_phase(self.phase)}, and nothing is waited for")
+        self.must(int(stamp) == self.document.stamp(policy or 0), "it is not the stamp that is waited for")
+        self.enter(("sweep", self.phase[1], int(stamp)) if self.document.overlap else ("clean", self.phase[1]))
 
     def on_stuck(self, moment: Moment, place: str) -> None:
-        self.must(self.phase[0] == "drain", f"it is told in phase {show_phase(self.phase)}")
+        self.must(self.leaving() is not None, f"it is told in phase {show_phase(self.phase)}, and nothing is waited for")
         self.must((self.report.halt or "").startswith("undrained "), "the report has no halt by it")
         self.halt = self.report.halt
 
@@ -180,14 +192,31 @@ class Journal:
 
     # ---- phases
 
+    def leaving(self) -> Optional[int]:
+        """The policy of which it is waited for that no packet has its stamp."""
+        if self.phase[0] == "drain":
+            return self.phase[1] - 1
+        return self.draining[0] if self.phase[0] == "idle" and self.draining else None
+
+    def has_stamp(self) -> bool:
+        """Whether a stamp is neither current nor drains."""
+        low, high = self.document.stamps
+        live = self.draining + [policy for policy in self.phase[1:] if policy]
+        return len({self.document.stamp(policy) for policy in live}) <= high - low
+
     def enter(self, phase: Phase) -> None:
+        if self.phase[0] == "sweep":
+            self.draining.pop(0)
+        if self.document.overlap and self.phase[0] == "flip" != phase[0] and phase[1] > 1:
+            self.draining.append(phase[1] - 1)
         self.phase = phase
         for session in self.sessions.values():
             session.enter_phase()
 
     def following(self) -> Phase:
         """The phase that comes once all switches have answered."""
-        phase = following(self.phase, self.phase[0] == "flip" and self.goes_on())
+        overlap = self.document.overlap
+        phase = following(self.phase, self.phase[0] == "flip" and self.goes_on(), overlap)
         if self.phase[0] == "flip" and phase[0] != "flip":
             # both flips go through the list of the odd policy, so they have the same number of rounds
             _, policy, rounds = self.phase
@@ -198,6 +227,9 @@ class Journal:
 
     def goes_on(self) -> bool:
         """Whether one more round follows, by what comes next of all that tells it, and at the end by the report's phase."""
+        end = following(self.phase, False, self.document.overlap)
+        if end[0] == "tidy":
+            return not self.fits(end)
         sent = {switch: session.session_sent for switch, session in self.sessions.items()}
         for word, *rest in self.events[self.place + 1 :]:
             if word in ("begin", "drained", "stuck"):
@@ -209,3 +241,16 @@ class Journal:
                 if sent[int(rest[0])] > 2:
                     return True
         return self.report.phase_words == ("flip", self.phase[1], self.phase[2] + 1)
+
+    def fits(self, phase: Phase) -> bool:
+        """Whether the events up to the next one that needs an idle phase, or up to the end, can happen from this phase on."""
+        trial = copy.deepcopy(self)
+        trial.enter(phase)
+        try:
+            for trial.place in range(self.place + 1, len(self.events)):
+                if self.events[trial.place][0] in ("begin", "drained", "stuck"):
+                    return trial.phase[0] == "idle"
+                trial.step()
+        except Fault:
+            return False
+        return trial.phase == self.report.phase_words

@@ -57,7 +57,7 @@ def add_line(network: Network, words: list[str]) -> None:
         place, *fields = rest
         named = dict(text.split("=") for text in fields)
         network.packets.append(Packet(read_place(place), named))
-    elif kind not in ("hops", "capacity", "stamps", "rejoins"):
+    elif kind not in ("hops", "capacity", "stamps", "rejoins", "overlap"):
         raise ValueError
 
 

@@ -6,7 +6,7 @@ from typing import List, Tuple
 
 # The name of a phase and its numbers.
 Phase = Tuple
-BATCHES = ("opening", "install", "flip", "clean")
+BATCHES = ("opening", "install", "flip", "clean", "tidy", "sweep")
 
 
 def entry(phase: Phase) -> List[int]:
@@ -22,7 +22,7 @@ def show_phase(phase: Phase) -> str:
     return " ".join(map(str, phase))
 
 
-def following(phase: Phase, goes_on: bool) -> Phase:
+def following(phase: Phase, goes_on: bool, overlap: bool) -> Phase:
     """The phase that comes once all switches have answered; whether a flip goes on depends on its longest list."""
     name, *numbers = phase
     if name == "opening":
@@ -30,8 +30,10 @@ def following(phase: Phase, goes_on: bool) -> Phase:
     policy = numbers[0]
     if name == "install":
         return ("flip", policy, 1)
-    if name == "clean":
+    if name in ("clean", "tidy", "sweep"):
         return ("idle", policy)
     if goes_on:
         return ("flip", policy, numbers[1] + 1)
-    return ("drain", policy) if policy > 1 else ("idle", 1)
+    if policy == 1 or overlap and policy % 2 == 0:
+        return ("idle", policy)
+    return ("tidy" if overlap else "drain", policy)

@@ -24,6 +24,7 @@ class Arrival:
 class Report:
     events: List[str] = field(default_factory=list)
     phase: str = ""
+    draining: List[int] = field(default_factory=list)
     halt: Optional[str] = None
     arrivals: List[Arrival] = field(default_factory=list)
     audit: List[str] = field(default_factory=list)
@@ -55,6 +56,10 @@ def add_line(report: Report, line: str) -> None:
         report.events.append(rest)
     elif word == "phase":
         report.phase = rest
+    elif word == "draining":
+        if report.draining or not rest:
+            raise ValueError(line)
+        report.draining = [int(stamp) for stamp in rest.split()]
     elif word == "halted":
         report.halt = rest
     elif word == "arrival":

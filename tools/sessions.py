@@ -54,15 +54,20 @@ class Taken:
     doubtful: List[int] = field(default_factory=list)  # the last ones of lost sessions: flow mods or barriers
 
 
-def barriers(events: List[List[str]]) -> Set[Tuple[int, int]]:
+def barriers(events: List[List[str]], rejoins: int) -> Set[Tuple[int, int]]:
     """The barriers, by switch and xid.
 
     A switch takes nothing after a barrier until it has answered it, so the last one taken before a `reply` is one. Flow mods
-    are all applied before it. What is left then was no flow mod: a barrier that was forgotten with its session."""
+    are all applied before it. What is left then was no flow mod: a barrier that was forgotten with its session. A loss that
+    halts leaves the channels as they are."""
     switches: Dict[int, Taken] = {}
     found = set()
+    losses = 0
     for word, *rest in events:
         if word not in ("send", "take", "apply", "reply", "lost", "rejoin"):
+            continue
+        losses += word == "lost"
+        if word == "lost" and losses > rejoins:
             continue
         number = int(rest[0])
         switch = switches.setdefault(number, Taken())

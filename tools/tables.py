@@ -90,13 +90,18 @@ def edge_lists(policies: List[Policy], number: int, switch: int) -> Iterator[Lis
 def batch(policies: List[Policy], phase: Tuple, switch: int) -> List[Tuple[str, Row]]:
     """The flow mods of a phase for a switch, in the order in which they are sent: `add` or `delete` and the row."""
     name, *numbers = phase
-    if name not in ("install", "flip", "clean"):
+    if name not in ("install", "flip", "clean", "tidy", "sweep"):
         return []
     number = numbers[0]
     if name == "install":
         return [("add", row) for row in policies[number - 1].switches[switch] if number % 2 == 0 or not row.is_ingress]
     if name == "clean":
         return [("delete", row) for row in policies[number - 2].switches[switch] if number % 2 or not row.is_ingress]
+    if name == "tidy":
+        return [("delete", row) for row in policies[number - 2].switches[switch] if row.is_ingress]
+    if name == "sweep":
+        swept = [policy for policy in policies[: number - 1] if policy.stamp == numbers[1]][-1]
+        return [("delete", row) for row in swept.switches[switch] if not row.is_ingress]
     turn = numbers[1]
     if number % 2:
         return [("add", rows[turn - 1]) for rows in edge_lists(policies, number, switch) if len(rows) >= turn]

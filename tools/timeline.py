@@ -14,6 +14,7 @@ from reports import Arrival, Report
 LEFT, TOP, LANE, WIDEST = 90, 64, 26, 1500
 COLOURS = {
     "opening": "#eeeeee", "idle": "#ffffff", "install": "#fff2cc", "flip": "#f8cecc", "drain": "#dae8fc", "clean": "#d5e8d4",
+    "tidy": "#d5e8d4", "sweep": "#e1d5e7",
 }  # fmt: skip
 # The mark of an event in the lane of its switch, and its colour.
 MARKS = {

@@ -8,7 +8,9 @@ from typing import Optional
 from .document import Network, Version
 from .switch import Change, Message
 
-Phase = tuple  # ("opening",) ("idle", i) ("install", i) ("flip", i, r) ("drain", i) ("clean", i)
+# ("opening",) ("idle", i) ("install", i) ("flip", i, r), and then ("drain", i) ("clean", i); or, if drains overlap,
+# ("tidy", i), and ("sweep", i, stamp) for each policy that drained.
+Phase = tuple
 
 
 @dataclass
@@ -28,7 +30,9 @@ class Coordinator:
     network: Network
     versions: list[Version]
     rejoins: int
+    stamps: Optional[range] = None  # all stamps, if drains overlap
     phase: Phase = ("opening",)
+    draining: list[int] = field(default_factory=list)  # policies, if drains overlap
     halt: Optional[str] = None
     sessions: dict[int, Session] = field(default_factory=dict)
 
@@ -56,6 +60,22 @@ class Coordinator:
     def version(self, policy: int) -> Version:
         return self.versions[policy - 1]
 
+    def stamp(self, policy: int) -> int:
+        return self.version(policy).stamp
+
+    def leaving(self) -> Optional[int]:
+        """The policy of which it is waited for that no packet has its stamp."""
+        if self.phase[0] == "drain":
+            return self.phase[1] - 1
+        return self.draining[0] if self.phase[0] == "idle" and self.draining else None
+
+    def may_begin(self) -> bool:
+        """Whether there is a next policy, and, if drains overlap, a stamp for it."""
+        if self.phase[0] != "idle" or self.phase[1] == len(self.versions):
+            return False
+        live = self.draining + [self.phase[1]] * (self.phase[1] > 0)
+        return self.stamps is None or not set(self.stamps) <= {self.stamp(policy) for policy in live}
+
     def after(self) -> Phase:
         """The phase that comes once all switches have answered."""
         kind, *numbers = self.phase
@@ -66,7 +86,9 @@ class Coordinator:
             return ("flip", policy, 1)
         if kind == "flip" and numbers[1] < self.rounds(policy):
             return ("flip", policy, numbers[1] + 1)
-        return ("drain", policy) if kind == "flip" and policy > 1 else ("idle", policy)
+        if kind == "flip" and policy > 1 and self.stamps is None:
+            return ("drain", policy)
+        return ("tidy", policy) if kind == "flip" and policy > 1 and policy % 2 == 1 else ("idle", policy)
 
     def batch(self, sw: int) -> list[Change]:
         """The flow mods of this phase for a switch, port by port."""
@@ -83,6 +105,10 @@ class Coordinator:
         if kind == "clean":
             gone = self.version(policy - 1).rows[sw, port]
             return [Change("delete strict", row) for row in gone] if odd or not edge else []
+        if kind == "tidy":
+            return [Change("delete strict", row) for row in self.version(policy - 1).rows[sw, port] if edge]
+        if kind == "sweep":
+            return [Change("delete strict", row) for row in self.version(self.draining[0]).rows[sw, port] if not edge]
         turn = self.phase[2]
         rows = self.version(policy if odd else policy - 1).rows[sw, port]
         if not edge or len(rows) < turn:
@@ -90,6 +116,10 @@ class Coordinator:
         return [Change("add", rows[turn - 1])] if odd else [Change("delete strict", rows[len(rows) - turn])]
 
     def enter(self, phase: Phase) -> None:
+        if self.phase[0] == "sweep":
+            self.draining.pop(0)
+        if self.stamps is not None and self.phase[0] == "flip" != phase[0] and phase[1] > 1:
+            self.draining.append(phase[1] - 1)
         self.phase = phase
         for sw, session in self.sessions.items():
             session.owed, session.heard = None, False

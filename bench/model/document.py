@@ -41,9 +41,14 @@ class Document:
     capacity: int = 200_000
     stamps: tuple[int, int] = (1, 4094)
     rejoins: int = 0
+    overlap: bool = False
     policies: list[Policy] = field(default_factory=list)
     packets: list[Packet] = field(default_factory=list)
     schedule: list[tuple[int, list[str]]] = field(default_factory=list)  # numbers of lines, and their words
+
+    def round(self) -> Optional[range]:
+        """All stamps, if drains overlap."""
+        return range(self.stamps[0], self.stamps[1] + 1) if self.overlap else None
 
     def versions(self) -> list[Version]:
         low, high = self.stamps
@@ -98,6 +103,8 @@ def read_document(text: str) -> Document:
                 document.stamps = (int(low), int(high))
             case ["rejoins", count]:
                 document.rejoins = int(count)
+            case ["overlap"]:
+                document.overlap = True
             case ["policy"]:
                 document.policies.append(read_policy("\n".join(block(lines))))
             case ["packet", *rest]:

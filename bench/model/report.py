@@ -38,6 +38,8 @@ def event_text(event: Event) -> str:
 def report(world: World) -> str:
     lines = [f"e {event_text(event)}" for event in world.journal]
     lines.append("phase " + " ".join(map(str, world.control.phase)))
+    draining = [world.control.stamp(policy) for policy in world.control.draining]
+    lines += [" ".join(map(str, ["draining", *draining]))] if draining else []
     halt = world.control.halt
     if halt is not None:
         lines.append(f"halted {halt if isinstance(halt, str) else 'undrained ' + history_text(halt)}")

@@ -40,7 +40,7 @@ class World:
     def __init__(self, document: Document) -> None:
         self.network = document.network
         self.limit = document.hops
-        self.control = Coordinator(document.network, document.versions(), document.rejoins)
+        self.control = Coordinator(document.network, document.versions(), document.rejoins, document.round())
         switches = document.network.switches
         self.switches = {sw: Switch(document.capacity) for sw in switches}
         self.down: dict[int, list[Message]] = {sw: [] for sw in switches}
@@ -75,7 +75,7 @@ class World:
         if control.halt is not None:
             return False
         if kind == "begin":
-            return control.phase[0] == "idle" and control.phase[1] < len(control.versions)
+            return control.may_begin()
         if kind == "drained":
             return self.is_draining(rest[0]) and all(flight.tag != rest[0] for flight in self.flights)
         if kind == "stuck":
@@ -87,8 +87,8 @@ class World:
         return not session.away and (kind == "lost" or bool(self.up[rest[0]] if kind == "heard" else session.unsent))
 
     def is_draining(self, stamp: int) -> bool:
-        phase = self.control.phase
-        return phase[0] == "drain" and self.control.version(phase[1] - 1).stamp == stamp
+        policy = self.control.leaving()
+        return policy is not None and self.control.stamp(policy) == stamp
 
     # ---- what it does
 
@@ -100,8 +100,9 @@ class World:
     def _begin(self) -> None:
         self.control.enter(("install", self.control.phase[1] + 1))
 
-    def _drained(self, _stamp: int) -> None:
-        self.control.enter(("clean", self.control.phase[1]))
+    def _drained(self, stamp: int) -> None:
+        kind, policy = self.control.phase
+        self.control.enter(("clean", policy) if kind == "drain" else ("sweep", policy, stamp))
 
     def _stuck(self, number: int) -> None:
         self.control.halt = self.flights[number].history

@@ -83,6 +83,9 @@ fn told(alloc: Global, document: &Document) -> Result<String, AllocError> {
         settings.stamps.1,
         settings.rejoins
     )?;
+    if settings.overlap {
+        out.push_str(", overlap")?;
+    }
     for policy in &document.policies {
         let printed = policy.print(alloc)?;
         out.push_str(&format!(in alloc; "\npolicy {printed}")?)?;

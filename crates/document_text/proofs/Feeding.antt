@@ -174,7 +174,7 @@ module _ (end : Bool) (old new : DocReader) (f : new.fed ≡ old.fed) (r : new.r
                   inside-piece (state_of old.reader) begin old.line front o old.pending.items piece rest w,
             ))
 
-  -- ---- a policy behind its `end` line
+  -- ---- a policy after its `end` line
 
   module _ (begin : ℕ) (a : old.spot ≡ spot.Closing begin) (q : new.pending.items ≡ old.pending.items) where
     pub made-reaches : (p : Term) → ((front : List ℕ) → policy.EndsFor (line_start begin) old.policy front → IsText front p)
@@ -214,7 +214,7 @@ stands-end r text h = record {
 
 -- ---- a policy's text
 
--- the place behind some bytes
+-- the place after some bytes
 pub given-place : (p q : Place) (xs ys : List ℕ) (n fed : ℕ) → n ≤ length xs → q ≡ place_behind p (take n xs) → ys ≡ drop n xs → p.line + length xs ≤ fed + 1 → p.column + length xs ≤ fed + 1
     → (q.line + length ys ≤ fed + 1) × (q.column + length ys ≤ fed + 1)
 given-place p q xs ys n fed within e f l k =
@@ -249,7 +249,7 @@ answers-one P x f (Ok d) h = f (Accepted (doc_of d)) (sym h)
 answers-one P x f (Err (document.Fault g)) h = f (Refused g) (sym h)
 answers-one P x f (Err document.Memory) h = tt
 
--- what comes of no more text at a spot comes of it behind the reader
+-- what comes of no more text at a spot comes of it after the reader
 ended-by : (r : DocReader) (x : Spot) (front : List ℕ) (a : Result Document DocumentError) → r.spot ≡ x → r.pending.items ≡ []
     → Answers (λ o. ComesAt x (state_of r.reader) r.line front [] o) a → Answers (λ o. Comes r front [] o) a
 ended-by r x front a e p h =
@@ -331,7 +331,7 @@ lines-append xs ys =
 row-sum : (a b c new row : ℕ) → row ≡ a → new + 1 ≡ row + b → c + 1 ≡ a + b → new ≡ c
 row-sum a b c new row e f g = omega (arith, e, f, g)
 
--- a text and the bytes behind it that count
+-- a text and the bytes after it that count
 module _ (text piece few shown : List ℕ) (fed : ℕ) (e : fed ≡ length (counted text)) (few_is : few ≡ take (4194305 - fed) piece) (shown_is : shown ≡ take (4194304 - fed) piece) where
   pub counted-both : counted (text ++ piece) ≡ counted text ++ few
   counted-both = first-both 4194305 text piece ∙ ap (λ n. counted text ++ take (4194305 - n) piece) (sym e) ∙ ap (λ zs. counted text ++ zs) (sym few_is)
@@ -385,7 +385,7 @@ many-bytes text fed e f = elim (cases_lt (length text) 4194305) [
   | inr h ↦ omega (arith, h)
 ]
 
--- what comes of all lines of a text behind a reader
+-- what comes of all lines of a text after a reader
 abbrev Ended : DocReader → Result Document DocumentError → Type 0
 Ended r a = (front : List ℕ) → Holds r front → Answers (λ o. Comes r front [] o) a
 

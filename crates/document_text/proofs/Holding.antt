@@ -25,7 +25,7 @@ use Rattle.document_text.specs.Packets.{Given, is_value, is_vlan_id, with_words,
 use Rattle.document_text.specs.Texts.{numeral, end_of, is_end}
 use Rattle.document_text.specs.States.{State, start, place_of_kind, is_late, is_empty, has_edge, with_policy}
 use Rattle.document_text.specs.Schedules.{refused_if, formed, at_switch, arrival, event_alone, event_of_one, event_of_two, event_of, is_index}
-use Rattle.document_text.specs.Lines.{is_end_value, at_edge, placed_by, switch_form, switch_line, link_form, link_line, behind_policies, one_numeral, two_numerals, hops_line, capacity_line, stamps_line, rejoins_line, policy_line, packet_form, packet_line, schedule_line}
+use Rattle.document_text.specs.Lines.{is_end_value, at_edge, placed_by, switch_form, switch_line, link_form, link_line, behind_policies, one_numeral, two_numerals, hops_line, capacity_line, stamps_line, rejoins_line, overlap_line, policy_line, packet_form, packet_line, schedule_line}
 use Rattle.document_text.specs.Steps.{Next, Stops, head_of, event_too_many, is_too_many, next, opens, enters, happens, scheduled, declares, step}
 use Rattle.document_text.specs.Answers.{IsNext, IsOpening}
 use Rattle.document_text.specs.Laws.{Arrives, IsNamed, IsRead}
@@ -160,6 +160,9 @@ stamps-holds s o h k = record { hops = h.hops; capacity = h.capacity; stamps = k
 rejoins-holds : (s : State) (o : Option ℕ) → Holds s → IfSome o InRejoins → Holds (record s { rejoins = o })
 rejoins-holds s o h k = record { hops = h.hops; capacity = h.capacity; stamps = h.stamps; rejoins = k; policies = h.policies; packets = h.packets; events = h.events; read = h.read; arrives = h.arrives; named = h.named; no_packets = h.no_packets; no_events = h.no_events; inside = h.inside }
 
+overlap-holds : (s : State) → Holds s → Holds (record s { overlap = true })
+overlap-holds s h = record { hops = h.hops; capacity = h.capacity; stamps = h.stamps; rejoins = h.rejoins; policies = h.policies; packets = h.packets; events = h.events; read = h.read; arrives = h.arrives; named = h.named; no_packets = h.no_packets; no_events = h.no_events; inside = h.inside }
+
 inside-holds : (s : State) (b : Bool) → Holds s → (b ≡ true → 5 ≤ place_of_kind s.reached) → Holds (record s { inside = b })
 inside-holds s b h k = record { hops = h.hops; capacity = h.capacity; stamps = h.stamps; rejoins = h.rejoins; policies = h.policies; packets = h.packets; events = h.events; read = h.read; arrives = h.arrives; named = h.named; no_packets = h.no_packets; no_events = h.no_events; inside = k }
 
@@ -228,6 +231,13 @@ rejoins-line-holds s t ws h e =
     subst Holds (ok-is _ t c.1)
     (kind-holds (record s { rejoins = Some x.0 }) kind.Setting (rejoins-holds s (Some x.0) h (upto x.0 1000 range.1)) (on-time s kind.Setting (left-false _ _ a.0)))
 
+overlap-line-holds : (s t : State) (ws : List (List ℕ)) → Holds s → overlap_line s ws ≡ Ok t → Holds t
+overlap-line-holds s t [] h e =
+    let a = refused-ok _ _ _ t e in
+    let b = refused-ok _ _ _ t a.1 in
+    subst Holds (ok-is _ t b.1) (kind-holds (record s { overlap = true }) kind.Setting (overlap-holds s h) (on-time s kind.Setting (left-false _ _ a.0)))
+overlap-line-holds s t (w ∷ ws) h e = absurd (cc)
+
 apart : (m n : ℕ) → (m == n) ≡ false → m ≢ n
 apart m n h = grind (arith, nat_tests)
 
@@ -247,7 +257,7 @@ stamps-line-holds s t ws h e =
     subst Holds (ok-is _ t d.1)
     (kind-holds (record s { stamps = Some x.0 }) kind.Setting (stamps-holds s (Some x.0) h (upto 1 x.0.0 low.0, two, upto x.0.1 4094 range.1)) (on-time s kind.Setting (left-false _ _ a.0)))
 
--- behind the topology and a policy
+-- after the topology and a policy
 pub policies-ok : {A : Type 0} (s : State) (r : Result A TextFault) (t : A) → behind_policies s r ≡ Ok t → r ≡ Ok t
 policies-ok s r t e =
     (refused-ok (is_empty s.policies) NoPolicy r t (refused-ok (not (has_edge s.layout)) NoEdge (refused_if (is_empty s.policies) NoPolicy r) t e).1).1
@@ -426,6 +436,7 @@ few-events s head.Hops ws e = e
 few-events s head.Capacity ws e = e
 few-events s head.Stamps ws e = e
 few-events s head.Rejoins ws e = e
+few-events s head.Overlap ws e = e
 few-events s head.Schedule ws e = e
 few-events s head.Unlisted ws e = e
 
@@ -436,6 +447,7 @@ declares-holds s t head.Hops all ws h few k = hops-line-holds s t ws h (next-is 
 declares-holds s t head.Capacity all ws h few k = capacity-line-holds s t ws h (next-is (capacity_line s ws) t k)
 declares-holds s t head.Stamps all ws h few k = stamps-line-holds s t ws h (next-is (stamps_line s ws) t k)
 declares-holds s t head.Rejoins all ws h few k = rejoins-line-holds s t ws h (next-is (rejoins_line s ws) t k)
+declares-holds s t head.Overlap all ws h few k = overlap-line-holds s t ws h (next-is (overlap_line s ws) t k)
 declares-holds s t head.Policy all ws h few k = absurd (opens-no-next (policy_line s ws) t k)
 declares-holds s t head.Packet all ws h few k = enters-holds s t ws (packet_line s ws) refl h (below 10000 (length s.packets) (left-false _ _ few)) k
 declares-holds s t head.Schedule all ws h few k = schedule-line-holds s t ws h (next-is (schedule_line s ws) t k)
@@ -491,6 +503,7 @@ declares-opens s t head.Hops all ws h few k = absurd (next-no-opening (hops_line
 declares-opens s t head.Capacity all ws h few k = absurd (next-no-opening (capacity_line s ws) t k)
 declares-opens s t head.Stamps all ws h few k = absurd (next-no-opening (stamps_line s ws) t k)
 declares-opens s t head.Rejoins all ws h few k = absurd (next-no-opening (rejoins_line s ws) t k)
+declares-opens s t head.Overlap all ws h few k = absurd (next-no-opening (overlap_line s ws) t k)
 declares-opens s t head.Policy all ws h few k = opens-holds s t ws (policy_line s ws) refl h (below 64 (length s.policies) (left-false _ _ few)) k
 declares-opens s t head.Packet all ws h few k = absurd (enters-no-opening s (packet_line s ws) t k)
 declares-opens s t head.Schedule all ws h few k = absurd (next-no-opening (schedule_line s ws) t k)

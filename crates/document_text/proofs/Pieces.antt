@@ -33,7 +33,7 @@ front-of n xs = let e : n - 0 ≡ n = omega arith in ap (λ k. take k xs) e
 abbrev Lines : Type 0
 Lines = List (List ℕ)
 
--- the first line, and those behind it
+-- the first line, and those after it
 lines-by : (x : ℕ) (xs : List ℕ) (b : Bool) → (0 < length xs → lines_of xs ≡ take (first_len xs) xs ∷ lines_of (drop (first_len xs) xs))
     → cond b ((x ∷ []) ∷ lines_of xs) (in_front x (lines_of xs))
     ≡ take (cond b 1 (suc (first_len xs))) (x ∷ xs) ∷ lines_of (drop (cond b 1 (suc (first_len xs))) (x ∷ xs))
@@ -79,7 +79,7 @@ over-more xs i l h e = rw add-one (omega (arith, e, over-suc xs i l h))
 pub over-here : (xs : List ℕ) (i : ℕ) → is_over (drop i xs) ≡ true → content_len xs ≡ i + content_len (drop i xs) → i ≡ content_len xs
 over-here xs i h e = omega (arith, e, over-zero (drop i xs) h)
 
--- the first piece, and those behind it
+-- the first piece, and those after it
 piece-by : (x : ℕ) (xs : List ℕ) (b : Bool) → (piece_len xs < length xs → pieces xs ≡ take (piece_len xs) xs ∷ pieces (drop (suc (piece_len xs)) xs))
     → cond b 0 (suc (piece_len xs)) < length (x ∷ xs)
     → cond b ([] ∷ pieces xs) (in_front x (pieces xs))
@@ -220,7 +220,7 @@ at-start : (r : List ℕ) → Starts r → is_end (filter is_filled (pieces r)) 
 at-start [] s = refl
 at-start (x ∷ xs) s = at-word x xs s
 
--- the one word of a line is `end` where it is the first and blanks are behind it
+-- the one word of a line is `end` where it is the first and blanks are after it
 pub end-line : (line c r : List ℕ) (n : ℕ) → c ≡ content line → r ≡ drop (prefix_len is_blank c) c → n ≡ position_or_len is_blank r
     → (bytes_eq (take n r) (codes "end") && list_all is_blank (drop n r)) ≡ is_end (words_of line)
 end-line line c r n ce re ne =

@@ -23,7 +23,7 @@ use Rattle.document_text.specs.declared.told.Kind.TheVariants as kind
 use Rattle.document_text.specs.Answers.{IsNext, IsOpening}
 use Rattle.document_text.specs.Documents.{Doc, Accepted, Refused}
 use Rattle.document_text.specs.Grammar.{Mode, Lines, Block, Does, Closes, Chosen, Goes, Ends, IsFrom, IsDocument, most_bytes, line_behind, cut_off}
-use Rattle.document_text.specs.Lines.{is_end_value, behind_topology, behind_policies, unset, at_edge, placed_by, placed, switch_form, switch_line, link_form, link_line, one_numeral, two_numerals, hops_line, capacity_line, stamps_line, rejoins_line, policy_line, packet_form, packet_line, schedule_line}
+use Rattle.document_text.specs.Lines.{is_end_value, behind_topology, behind_policies, unset, at_edge, placed_by, placed, switch_form, switch_line, link_form, link_line, one_numeral, two_numerals, hops_line, capacity_line, stamps_line, rejoins_line, overlap_line, policy_line, packet_form, packet_line, schedule_line}
 use Rattle.document_text.specs.Packets.{Given, is_value}
 use Rattle.document_text.specs.Parts.{Part, SwitchLine, LinkLine, PacketWords, PolicyText, EventLine, Stand, Free, InPolicy, InSchedule, begun, part_of, parts_from, parts_of, given_by, topology_in, packets_in, texts_in, lines_in, AreRead, Says}
 use Rattle.document_text.specs.Schedules.{refused_if, event_of}
@@ -202,6 +202,13 @@ rejoins-says s t ws out e =
     let c = refused-ok range ValueRange (Ok made) t (unset-ok s (is_some s.rejoins) (refused_if range ValueRange (Ok made)) t x.2) in
     subst (Follows ([], Free) s) (ok-is made t c.1) (set s made out refl refl)
 
+overlap-says : (s t : State) (ws : List (List ℕ)) → s.inside ≡ false → overlap_line s ws ≡ Ok t → Follows ([], Free) s t
+overlap-says s t [] out e =
+    let made : State = record s { reached = kind.Setting; overlap = true } in
+    let c = unset-ok s s.overlap (Ok made) t e in
+    subst (Follows ([], Free) s) (ok-is made t c) (set s made out refl refl)
+overlap-says s t (w ∷ ws) out e = absurd (cc)
+
 schedule-says : (s t : State) (ws : List (List ℕ)) → schedule_line s ws ≡ Ok t → Follows ([], InSchedule) s t
 schedule-says s t [] e =
     let made : State = record s { reached = kind.Schedule; inside = true } in
@@ -248,6 +255,7 @@ declares-says s t head.Hops ws out k = hops-says s t ws out (next-is (hops_line 
 declares-says s t head.Capacity ws out k = capacity-says s t ws out (next-is (capacity_line s ws) t k)
 declares-says s t head.Stamps ws out k = stamps-says s t ws out (next-is (stamps_line s ws) t k)
 declares-says s t head.Rejoins ws out k = rejoins-says s t ws out (next-is (rejoins_line s ws) t k)
+declares-says s t head.Overlap ws out k = overlap-says s t ws out (next-is (overlap_line s ws) t k)
 declares-says s t head.Policy ws out k = absurd (opens-no-next (policy_line s ws) t k)
 declares-says s t head.Packet ws out k = enters-says s t ws (packet_line s ws) refl out k
 declares-says s t head.Schedule ws out k = schedule-says s t ws (next-is (schedule_line s ws) t k)
@@ -310,6 +318,7 @@ declares-begins s t head.Hops ws out k = absurd (next-no-opening (hops_line s ws
 declares-begins s t head.Capacity ws out k = absurd (next-no-opening (capacity_line s ws) t k)
 declares-begins s t head.Stamps ws out k = absurd (next-no-opening (stamps_line s ws) t k)
 declares-begins s t head.Rejoins ws out k = absurd (next-no-opening (rejoins_line s ws) t k)
+declares-begins s t head.Overlap ws out k = absurd (next-no-opening (overlap_line s ws) t k)
 declares-begins s t head.Policy ws out k = policy-begins s t ws (policy_line s ws) refl out k
 declares-begins s t head.Packet ws out k = absurd (enters-no-opening s (packet_line s ws) t k)
 declares-begins s t head.Schedule ws out k = absurd (next-no-opening (schedule_line s ws) t k)
@@ -338,7 +347,7 @@ abbrev Ready : Mode → Type 0
 Ready (Lines s) = Unit {0}
 Ready (Block s begin text) = s.inside ≡ false
 
--- what comes of the lines behind
+-- what comes of the lines after
 abbrev IsMade : List (List ℕ) → ℕ → Doc → Mode → Type 0
 IsMade ls n d m = Grows (parts_from (stand_in m) n ls) (shown_in m) (shown_doc d)
 

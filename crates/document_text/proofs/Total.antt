@@ -130,7 +130,7 @@ goes-some : (Go : Mode → Outcome → Type 0) (n : ℕ) (m : Mode) (line : List
 goes-some Go n (Lines s) line go = does-some Go n (step s n (words_of line)) go
 goes-some Go n (Block s begin text) line go = chosen-some Go s begin text (text ++ line) (is_end (words_of line)) go
 
--- the place of a fault is behind the text or not
+-- the place of a fault is after the text or not
 place-either : (p : Place) (line column : ℕ) → Either (p ≡ record { line = line; column = column })
 place-either p line column = split (same-either p.line line) (same-either p.column column)
   where

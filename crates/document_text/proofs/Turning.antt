@@ -42,7 +42,7 @@ filled : (p : List ℕ) → p ≢ [] → 0 < length p
 filled [] h = absurd (h refl)
 filled (x ∷ xs) h = omega arith
 
--- a line of a text that goes on behind `p`
+-- a line of a text that goes on after `p`
 module _ (end : Bool) (p : List ℕ) (n : ℕ) (some : 0 < n) (within : n ≤ length p) (first : IsLine end p n) (rest : List ℕ) (e : EndsAt end rest) where
   pub line-front : take (first_len (p ++ rest)) (p ++ rest) ≡ take n p
   line-front = ap (λ k. take k (p ++ rest)) (first rest e) ∙ take-append-le n p rest within

@@ -38,6 +38,7 @@ state t told = record {
   capacity = told.capacity;
   stamps = told.stamps;
   rejoins = told.rejoins;
+  overlap = told.overlap;
   policies = map term_of told.policies.items;
   packets = told.packets.items;
   inside = told.inside;
@@ -117,7 +118,7 @@ Takes x old new (Ok Opening) = IsOpening x new
 Takes x old new (Err (stop.Fault f)) = IsStop x f
 Takes x old new (Err stop.Memory) = new ≡ old
 
--- the same of a line behind which another one stands
+-- the same of a line after which another one stands
 abbrev pub Passes : {U : Type 0} → Step → State → State → Result U Stop → Type 0
 Passes x old new (Ok u) = IsNext x new
 Passes x old new (Err (stop.Fault f)) = IsStop x f

@@ -30,7 +30,7 @@ ComesAt (spot.Refused f) s n front text o = o ≡ Refused f
 abbrev pub Comes : DocReader → List ℕ → List ℕ → Outcome → Type 0
 Comes r front rest o = ComesAt r.spot (state_of r.reader) r.line front (r.pending.items ++ rest) o
 
--- the reader of policies stands for the policy's text so far, behind which the place is
+-- the reader of policies stands for the policy's text so far, after which the place is
 abbrev pub StandsIn : ℕ → PolicyReader → Place → List ℕ → Type 0
 StandsIn begin p at front = policy.StandsFor (line_start begin) p front × (place_behind (line_start begin) front ≡ at)
 
@@ -49,8 +49,8 @@ Holds r front = HoldsAt r.spot r.policy r.behind front
 abbrev pub counted : List ℕ → List ℕ
 counted text = take (most_bytes + 1) text
 
--- How many bytes of the text count is known, and the line of the byte behind those that a document may have; and whatever may
--- follow, what comes of it behind what was read is what the grammar gives of the text with it. At the end nothing may follow.
+-- How many bytes of the text count is known, and the line of the byte after those that a document may have; and whatever may
+-- follow, what comes of it after what was read is what the grammar gives of the text with it. At the end nothing may follow.
 pub record StandsBy (end : Bool) (r : DocReader) (text : List ℕ) : Type 0 where
   pub fed : r.fed ≡ length (counted text)
   pub row : r.row ≡ line_behind (take most_bytes text)
@@ -64,7 +64,7 @@ StandsFor r text = StandsBy false r text
 
 -- ---- from one reader to another
 
--- What comes of any text behind the one comes of it behind the other too. At the end nothing may follow.
+-- What comes of any text after the one comes of it after the other too. At the end nothing may follow.
 pub record Reaches (end : Bool) (old new : DocReader) : Type 0 where
   pub fed : new.fed ≡ old.fed
   pub row : new.row ≡ old.row
@@ -129,7 +129,7 @@ pub record KeepsSpot (old new : DocReader) : Type 0 where
   pub fed : new.fed ≡ old.fed
   pub row : new.row ≡ old.row
 
--- the first bytes that were pending stand behind the policy's text
+-- the first bytes that were pending stand after the policy's text
 pub record Gives (len : ℕ) (old new : DocReader) : Type 0 where
   pub pending : new.pending.items ≡ drop len old.pending.items
   pub stands : (begin : ℕ) (front : List ℕ) → StandsIn begin old.policy old.behind front → StandsIn begin new.policy new.behind (front ++ take len old.pending.items)

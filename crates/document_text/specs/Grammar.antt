@@ -54,14 +54,14 @@ abbrev pub Goes : (Mode → Type 0) → ℕ → Outcome → Mode → List ℕ �
 Goes Go n o (Lines s) line = Does Go n o (step s n (words_of line))
 Goes Go n o (Block s begin text) line = Chosen (is_end (words_of line)) (Closes Go o s begin text) (Go (Block s begin (text ++ line)))
 
--- the document is whole behind its last line
+-- the document is whole after its last line
 abbrev pub finished : State → ℕ → Outcome
 finished s n =
     if s.inside then refused_at n BadLine else
     if not (has_edge s.layout) then refused_at n NoEdge else
     if is_empty s.policies then refused_at n NoPolicy else Accepted (doc_of_state s)
 
--- the place of the fault is behind the text
+-- the place of the fault is after the text
 abbrev pub IsBehind : ℕ → List ℕ → ParseFault → Type 0
 IsBehind begin text f = place_behind (line_start begin) text ≡ record { line = f.line; column = f.column }
 
@@ -71,7 +71,7 @@ LacksEnd n begin text o =
     ((f : ParseFault) × HasFault (line_start begin) text f × (IsBehind begin text f → ⊥) × (o ≡ refused_in f))
     ⊎ (((f : ParseFault) → HasFault (line_start begin) text f → IsBehind begin text f) × (o ≡ refused_at n BadLine))
 
--- behind the last line
+-- after the last line
 abbrev pub Ends : ℕ → Outcome → Mode → Type 0
 Ends n o (Lines s) = o ≡ finished s n
 Ends n o (Block s begin text) = LacksEnd n begin text o
@@ -85,7 +85,7 @@ IsFrom m n (line ∷ lines) o = Goes (λ t. IsFrom t (n + 1) lines o) n o m line
 abbrev pub most_bytes : ℕ
 most_bytes = 4194304
 
--- the number of the line of the byte behind these
+-- the number of the line of the byte after these
 abbrev pub line_behind : List ℕ → ℕ
 line_behind front = count_by (λ b. b == 10) front + 1
 
@@ -97,7 +97,7 @@ cut_off n (Refused f) = if nat_lt f.line n then Refused f else refused_at n Limi
 abbrev pub within_limit : List ℕ → Outcome → Outcome
 within_limit text o = if nat_le (length text) most_bytes then o else cut_off (line_behind (take most_bytes text)) o
 
--- What a text is. Bytes behind the first one that is too many don't count.
+-- What a text is. Bytes after the first one that is too many don't count.
 abbrev pub IsReading : List ℕ → Outcome → Type 0
 IsReading text o = (whole : Outcome) × IsFrom (Lines start) 1 (lines_of (take (most_bytes + 1) text)) whole × (o ≡ within_limit text whole)
 

@@ -54,7 +54,7 @@ link_line s ws =
     (refused_if (not (is_end_value x.0 && is_end_value x.1)) ValueRange
     (placed s Link (topology.Link x.0 x.1))))
 
--- behind the topology, which has to have an edge port
+-- after the topology, which has to have an edge port
 abbrev pub behind_topology : {A : Type 0} → State → Result A TextFault → Result A TextFault
 behind_topology s r = refused_if (not (has_edge s.layout)) NoEdge r
 
@@ -99,12 +99,17 @@ stamps_line s ws =
 abbrev pub rejoins_line : State → List (List ℕ) → Result State TextFault
 rejoins_line s ws = new_number s (is_some s.rejoins) 0 1000 ws (λ n. Ok (record s { reached = Setting; rejoins = Some n }))
 
+-- `overlap` alone, once
+abbrev pub overlap_line : State → List (List ℕ) → Result State TextFault
+overlap_line s [] = unset s s.overlap (Ok (record s { reached = Setting; overlap = true }))
+overlap_line s _ = Err BadLine
+
 -- `policy` alone, which begins a policy's text
 abbrev pub policy_line : State → List (List ℕ) → Result State TextFault
 policy_line s [] = refused_if (is_late s Policy) BadLine (behind_topology s (Ok (record s { reached = Policy })))
 policy_line s _ = Err BadLine
 
--- behind a policy
+-- after a policy
 abbrev pub behind_policies : {A : Type 0} → State → Result A TextFault → Result A TextFault
 behind_policies s r = behind_topology s (refused_if (is_empty s.policies) NoPolicy r)
 

@@ -1,4 +1,4 @@
--- The words of a packet line behind its place.
+-- The words of a packet line after its place.
 use Rattle.std.specs.Prelude.{ℕ, Bool, true, false, not, ◌==◌, ◌&&◌, nat_le, List, [], ◌∷◌, ◌++◌, length, slice_index, codes, Option, None, Some, if◌then◌else◌, option_map, option_and_then}
 use Rattle.std.specs.List.{list_any, list_all, find, before_first, after_first}
 use Rattle.std.specs.Char.{is_ascii_alphabetic, is_ascii_alphanumeric}

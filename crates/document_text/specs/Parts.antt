@@ -15,7 +15,7 @@ use Rattle.document_text.specs.Lines.{switch_form, link_form, packet_form}
 use Rattle.document_text.specs.Steps.{head_of}
 use Rattle.document_text.specs.Texts.{lines_of, words_of, is_end}
 
--- A switch line, a link line or a packet line with the words behind its first one; the text of a policy, between its first line and its `end` line; an event with the number and the words of its line.
+-- A switch line, a link line or a packet line with the words after its first one; the text of a policy, between its first line and its `end` line; an event with the number and the words of its line.
 pub data Part : Type 0 where
   SwitchLine : List (List ℕ) → Part
   LinkLine : List (List ℕ) → Part
@@ -23,7 +23,7 @@ pub data Part : Type 0 where
   PolicyText : List ℕ → Part
   EventLine : ℕ → List (List ℕ) → Part
 
--- where a line stands: among the lines of the document, in a policy's text behind this much of it, or in the schedule
+-- where a line stands: among the lines of the document, in a policy's text after this much of it, or in the schedule
 pub data Stand : Type 0 where
   Free : Stand
   InPolicy : List ℕ → Stand

@@ -17,6 +17,7 @@ pub record State : Type 0 where
   pub capacity : Option ℕ
   pub stamps : Option (ℕ × ℕ)
   pub rejoins : Option ℕ
+  pub overlap : Bool
   pub policies : List Term
   pub packets : List PacketLine
   pub inside : Bool
@@ -31,6 +32,7 @@ start = record {
   capacity = None;
   stamps = None;
   rejoins = None;
+  overlap = false;
   policies = [];
   packets = [];
   inside = false;
@@ -46,7 +48,7 @@ place_of_kind kind.Policy = 3
 place_of_kind kind.Packet = 4
 place_of_kind kind.Schedule = 5
 
--- a line of this kind stands behind one of a later kind
+-- a line of this kind stands after one of a later kind
 abbrev pub is_late : State → Kind → Bool
 is_late s k = nat_lt (place_of_kind k) (place_of_kind s.reached)
 
@@ -73,6 +75,7 @@ doc_of_state s = record {
     capacity = unwrap_or s.capacity 200000;
     stamps = unwrap_or s.stamps (1, 4094);
     rejoins = unwrap_or s.rejoins 0;
+    overlap = s.overlap;
   };
   schedule = s.events;
 }

@@ -1,4 +1,4 @@
--- One line behind others.
+-- One line after others.
 use Rattle.std.specs.Prelude.{ℕ, Bool, false, not, ◌&&◌, ◌||◌, nat_le, List, [], ◌∷◌, ◌++◌, length, codes, if◌then◌else◌, Result, Ok, Err}
 use Rattle.std.specs.Str.{bytes_eq}
 use Rattle.nk_values.specs.declared.fault.TextFault.{TextFault}
@@ -11,7 +11,7 @@ use Rattle.document_text.specs.declared.head.Head.TheVariants as head
 use Rattle.document_text.specs.States.{State}
 use Rattle.document_text.specs.Texts.{is_end}
 use Rattle.document_text.specs.Schedules.{event_of}
-use Rattle.document_text.specs.Lines.{switch_line, link_line, hops_line, capacity_line, stamps_line, rejoins_line, policy_line, packet_line, schedule_line}
+use Rattle.document_text.specs.Lines.{switch_line, link_line, hops_line, capacity_line, stamps_line, rejoins_line, overlap_line, policy_line, packet_line, schedule_line}
 
 -- What a line does: reading goes on; or it does where the packet is well shaped; or a policy's text begins; or reading stops.
 pub data Step : Type 0 where
@@ -26,6 +26,7 @@ head_of w =
     if bytes_eq w (codes "switch") then head.Switch else if bytes_eq w (codes "link") then head.Link else
     if bytes_eq w (codes "hops") then head.Hops else if bytes_eq w (codes "capacity") then head.Capacity else
     if bytes_eq w (codes "stamps") then head.Stamps else if bytes_eq w (codes "rejoins") then head.Rejoins else
+    if bytes_eq w (codes "overlap") then head.Overlap else
     if bytes_eq w (codes "policy") then head.Policy else if bytes_eq w (codes "packet") then head.Packet else
     if bytes_eq w (codes "schedule") then head.Schedule else head.Unlisted
 
@@ -68,6 +69,7 @@ declares s head.Hops ws = next (hops_line s ws)
 declares s head.Capacity ws = next (capacity_line s ws)
 declares s head.Stamps ws = next (stamps_line s ws)
 declares s head.Rejoins ws = next (rejoins_line s ws)
+declares s head.Overlap ws = next (overlap_line s ws)
 declares s head.Policy ws = opens (policy_line s ws)
 declares s head.Packet ws = enters s (packet_line s ws)
 declares s head.Schedule ws = next (schedule_line s ws)

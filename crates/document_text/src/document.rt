@@ -10,14 +10,15 @@ pub struct PacketLine {
     pub tag: Tag,
 }
 
-/// The hop limit, the rows that a switch has room for, the first and last stamp of the policies, and how many
-/// sessions may be lost without a halt.
+/// The hop limit, the rows that a switch has room for, the first and last stamp of the policies, and how many sessions may
+/// be lost without a halt. If drains overlap, an update may begin while packets of earlier policies are on their way.
 #[derive(Clone, Copy, Debug, PartialEq, Eq)]
 pub struct Settings {
     pub hops: u32,
     pub capacity: u32,
     pub stamps: (u16, u16),
     pub rejoins: u32,
+    pub overlap: bool,
 }
 
 /// A command of a schedule. Switches go by their numbers, packet lines count from 1, and flow mods and

@@ -12,6 +12,7 @@ pub enum Head {
     Capacity,
     Stamps,
     Rejoins,
+    Overlap,
     Policy,
     Packet,
     Schedule,
@@ -34,6 +35,8 @@ pub fn head_of(word: &[u8]) -> Head
         Head::Stamps
     } else if is_text(word, "rejoins") {
         Head::Rejoins
+    } else if is_text(word, "overlap") {
+        Head::Overlap
     } else if is_text(word, "policy") {
         Head::Policy
     } else if is_text(word, "packet") {

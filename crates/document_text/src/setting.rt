@@ -1,7 +1,7 @@
 //! The settings, and the line that begins a policy.
 ghost use Rattle.std.specs.Prelude.{◌≡◌, ◌≤◌, true, IfOk, OnOk};
 ghost use Rattle.document_text.specs.States.{State, has_edge};
-ghost use Rattle.document_text.specs.Lines.{unset, one_numeral, two_numerals, new_number, hops_line, capacity_line, stamps_line, rejoins_line, policy_line};
+ghost use Rattle.document_text.specs.Lines.{unset, one_numeral, two_numerals, new_number, hops_line, capacity_line, stamps_line, rejoins_line, overlap_line, policy_line};
 ghost use Rattle.document_text.specs.Answers.{texts, state_of, Becomes, Forms, Leads, Lets};
 
 use crate::fault::Stop;
@@ -118,6 +118,19 @@ pub fn rejoins_line(reader: &mut Reader, alloc: Global, words: &[&[u8]]) -> Resu
     let given = reader.told.rejoins.is_some();
     let rejoins = new_number(reader, alloc, words, given, 0, MOST_REJOINS)?;
     reader.told.rejoins = Some(rejoins as u32);
+    reader.told.reached = Kind::Setting;
+    Ok(())
+}
+
+/// Takes `overlap`.
+pub fn overlap_line(reader: &mut Reader, alloc: Global, words: &[&[u8]]) -> Result<(), Stop>
+    ensures { Becomes (overlap_line (state_of reader.old) (texts words.now)) (state_of reader.old) (state_of reader.new) result }
+{
+    if !words.is_empty() {
+        return Err(Stop::Fault(TextFault::BadLine));
+    }
+    unset(reader, alloc, reader.told.overlap)?;
+    reader.told.overlap = true;
     reader.told.reached = Kind::Setting;
     Ok(())
 }

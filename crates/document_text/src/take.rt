@@ -12,7 +12,9 @@ use crate::head::{Head, head_of};
 use crate::packet::packet_line;
 use crate::reader::{Reader, Taken};
 use crate::schedule::{event_of, schedule_line};
-use crate::setting::{capacity_line, hops_line, policy_line, rejoins_line, stamps_line};
+use crate::setting::{
+    capacity_line, hops_line, overlap_line, policy_line, rejoins_line, stamps_line,
+};
 use crate::told::{Kind, Told};
 use crate::topology::{link_line, switch_line};
 use crate::words::is_end;
@@ -119,6 +121,7 @@ impl Reader {
             Head::Capacity => capacity_line(self, alloc, words)?,
             Head::Stamps => stamps_line(self, alloc, words)?,
             Head::Rejoins => rejoins_line(self, alloc, words)?,
+            Head::Overlap => overlap_line(self, alloc, words)?,
             Head::Policy => {
                 policy_line(self, alloc, words)?;
                 return Ok(Taken::Opening);
@@ -181,6 +184,7 @@ impl Reader {
                 capacity: told.capacity.unwrap_or(200_000),
                 stamps: told.stamps.unwrap_or((1, GREATEST_VLAN_ID)),
                 rejoins: told.rejoins.unwrap_or(0),
+                overlap: told.overlap,
             },
             schedule: told.events,
         })

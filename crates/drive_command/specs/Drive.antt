@@ -17,13 +17,13 @@ use Rattle.program_answer.specs.Answers.{Reads, StopsBy}
 use Rattle.program_answer.specs.Called.{Change, HasRisen, IsSame, SourceSeen}
 use Rattle.program_answer.specs.Input.{IsAccepted, IsAcceptedAs, IsRefused}
 use Rattle.program_answer.specs.Statuses.{report_status}
-use Rattle.program_answer.specs.Worlds.{start_with}
+use Rattle.program_answer.specs.Worlds.{start_of_drive}
 
 -- ---- the drive
 
--- The coordinator of the document's world before anything has happened. The first loss halts it.
+-- The coordinator of the document's world before anything has happened. The first loss halts it, and no drains overlap.
 abbrev pub beginning : Doc → List Version → Control
-beginning d versions = (start_with d versions 0).fleet.control
+beginning d versions = (start_of_drive d versions).fleet.control
 
 -- The journal leads from the beginning to this coordinator, which has halted or has the last policy handle all packets; `halts` says which. Each drain in it was reported, and a session is lost only if the net's count of broken ends rose. The text is that of the journal and of the coordinator.
 pub record IsDriveOf {Q : Type 0} (stamped : Q → ℕ) (halts : Bool) (broken : Change ℕ) (d : Doc) (versions : List Version) (text : List ℕ) : Type 0 where

@@ -15,7 +15,7 @@ use std::sync::{Arc, Condvar, Mutex, MutexGuard, Wait};
 use std::thread;
 use std::time::{Clock, Duration};
 
-/// A drive behind its one lock, as its workers share it. Each call locks once and asks the drive; what it answers is
+/// A drive under its one lock, as its workers share it. Each call locks once and asks the drive; what it answers is
 /// stated of the drive's own call of that name. A worker that is told there is nothing to do waits, with the lock given
 /// up, until a phase begins. After a second it is to receive for a moment, so that it hears what its switch sends unasked.
 /// After a message that nobody asked for it is to receive once more before it waits, so a switch that sends much is heard

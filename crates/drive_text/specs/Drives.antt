@@ -1,5 +1,5 @@
 -- The texts of drives.
-use Rattle.std.specs.Prelude.{ℕ, List, ◌++◌, Option, codes}
+use Rattle.std.specs.Prelude.{ℕ, List, [], ◌++◌, Option, codes}
 use Rattle.std.specs.Fmt.{decimal}
 use Rattle.std.specs.List.{flat_map}
 use Rattle.event_words.specs.declared.word.EventWord.TheVariants as word
@@ -36,6 +36,6 @@ steering_line switches e = line (codes "e " ++ steering_text switches e)
 abbrev pub steerings_text : List Site → List Steering → List ℕ
 steerings_text switches journal = flat_map (steering_line switches) journal
 
--- The text of a drive: its events, the phase, and why the updates stand still.
+-- The text of a drive, in which no drains overlap: its events, the phase, and why the updates stand still.
 abbrev pub drive_text : List Site → List Steering → Phase → Option Cause → List ℕ
-drive_text switches journal ph halt = steerings_text switches journal ++ state_text ph halt
+drive_text switches journal ph halt = steerings_text switches journal ++ state_text [] [] ph halt

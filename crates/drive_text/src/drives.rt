@@ -8,7 +8,7 @@ use bytes::BytesMut;
 use drive_journal::Steering;
 use event_words::EventWord;
 use openflow_wire::{Message, encode};
-use report_text::{fault_number, put_bytes, put_named, put_numbered, put_state};
+use report_text::{UpdateState, fault_number, put_bytes, put_named, put_numbered, put_state};
 use std::alloc::{AllocError, Global};
 use std::fmt::Write;
 use topology_model::Site;
@@ -30,7 +30,14 @@ pub fn drive_text(
 {
     let mut out = String::new(alloc);
     put_journal(alloc, &mut out, switches, journal)?;
-    put_state(alloc, &mut out, phase, halt)?;
+    // No drains overlap in a drive.
+    let state = UpdateState {
+        phase,
+        stamps: &[],
+        draining: &[],
+        halt,
+    };
+    put_state(alloc, &mut out, state)?;
     Ok(Text::new(out))
 }
 

@@ -36,7 +36,7 @@ use Rattle.drive_workers.specs.contracts.worker.DriveWorker as worker
 vec-send : (R : RattleType) → IsSend R → IsSend (vecs.the_row R global.the_row heap.ghosts)
 vec-send R s = listed.the_send R global.the_row heap.ghosts s globals.the_send heaps.the_frees
 
--- ---- a drive behind its lock
+-- ---- a drive under its lock
 
 steered-parts : (L E Q : RattleType) (a : DriveName.Ghosts L.Denot) (b : Link.Ghosts E.Denot) (c : Receipt.Ghosts Q.Denot) → IsSend L → IsSend E → IsSend Q → IsSend (steered_inside.the_row L E Q a b c)
 steered-parts L E Q a b c l e q = declared_send (steered_inside.the_type L E Q a b c) (coordinator-send, (vec-send steering.the_row steerings.the_send, (vec-send Q q, (vec-send E e, (vec-send usize (search sendable), (search sendable, tt))))))

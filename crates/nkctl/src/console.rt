@@ -46,7 +46,8 @@ impl<R: Eprint> Onlooker for Console<R> {
 // The phase and the number of events, as `flip 2 1, 340 events`.
 fn line_of(alloc: Global, seen: Seen) -> Result<String, AllocError> {
     let mut line = String::new(alloc);
-    put_phase(&mut line, seen.phase)?;
+    // What is seen has no stamps, so a policy that is swept is not named.
+    put_phase(&mut line, &[], seen.phase)?;
     let count = seen.count;
     write!(line, ", {count} events")?;
     if seen.halted {

@@ -4,6 +4,7 @@ use Rattle.document_text.specs.declared.document.Event.{Event as Order}
 use Rattle.document_text.specs.declared.document.Event.TheVariants as order
 use Rattle.document_text.specs.declared.document.PacketLine.{PacketLine}
 use Rattle.document_text.specs.declared.document.ScheduleLine.{ScheduleLine}
+use Rattle.report_text.specs.Causes.{control_text}
 use Rattle.report_text.specs.Reports.{IsReportText, IsWorldReport}
 use Rattle.report_text.proofs.OneText.{one-report}
 use Rattle.topology_model.specs.declared.line.Site.{Site}
@@ -97,7 +98,7 @@ no-stop sites packets w ls es v line k c s =
     let same = carried-same sites packets w w s.before r.events r.world s.events s.world k (itself w k) r.done s.done in
     no-does sites packets s.here.event r.world s.world r.more r.next (run-keeps w r.events r.world (carried-runs sites packets w s.before r.events r.world r.done) k) same.worlds r.does s.refused
 
--- two parts of one list: one line, or the one part goes on behind the other one's line
+-- two parts of one list: one line, or the one part goes on after the other one's line
 data Parts (xs : List ScheduleLine) (x : ScheduleLine) (ys : List ScheduleLine) (y : ScheduleLine) : Type 0 where
   one_line : x ≡ y → Parts xs x ys y
   longer : (more : List ScheduleLine) → ys ≡ xs ++ x ∷ more → Parts xs x ys y
@@ -136,10 +137,10 @@ one-simulation d versions halts stands text other p q =
     let same = carried-same d.layout.switches d.packets first first d.schedule p.events p.world q.events q.world k (itself first k) p.outcome.done q.outcome.done in
     let control : p.world.fleet.control ≡ q.world.fleet.control = same.worlds.fleet.control in
     let now = subst (λ (z : WorldValue). IsWorldReport z q.events other) same.worlds.now q.text_is in
-    let late = subst (λ (c : Control). IsReportText p.world.topology.switches q.events c.phase c.halt p.world.flights p.world.arrivals other) (sym control) now in
+    let late = subst (λ (c : Control). IsReportText p.world.topology.switches q.events (control_text c) p.world.flights p.world.arrivals other) (sym control) now in
     let there = subst (λ (es : List Event). IsWorldReport p.world es other) (sym same.events) late in (
       sym p.ends ∙ ap (λ (c : Control). is_some c.halt) control ∙ q.ends,
-      one-report p.world.topology.switches p.events p.world.fleet.control.phase p.world.fleet.control.halt p.world.flights p.world.arrivals text other p.text_is there,
+      one-report p.world.topology.switches p.events (control_text p.world.fleet.control) p.world.flights p.world.arrivals text other p.text_is there,
     )
 
 pub one-line : OneStop

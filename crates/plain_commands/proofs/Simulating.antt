@@ -1,5 +1,5 @@
 -- Simulations, as the calls tell them.
-use Rattle.std.proofs.Common.{◌≡◌, ℕ, List, refl, sym, ◌∙◌, inl, inr, subst, None, Result, Ok, Err, IfOk, IfErr}
+use Rattle.std.proofs.Common.{◌≡◌, ℕ, List, refl, sym, ap, ◌∙◌, inl, inr, subst, Result, Ok, Err, IfOk, IfErr}
 use Rattle.document_text.specs.declared.document.Document.{Document}
 use Rattle.document_text.specs.declared.document.PacketLine.{PacketLine}
 use Rattle.document_text.specs.declared.document.ScheduleLine.{ScheduleLine}
@@ -9,6 +9,7 @@ use Rattle.policy_rows.specs.declared.version.Version.{Version}
 use Rattle.report_text.specs.Fault.{Fault}
 use Rattle.world_core.specs.declared.event.Event.{Event}
 use Rattle.world_core.specs.Laws.{EveryRunIsGood}
+use Rattle.world_core.specs.declared.settings.Settings.{Settings}
 use Rattle.world_core.specs.Worlds.{WorldValue, IsKept, start}
 use Rattle.program_answer.specs.declared.answer.Answer.{Answer}
 use Rattle.program_answer.specs.declared.answer.AnswerError.{AnswerError}
@@ -16,7 +17,7 @@ use Rattle.program_answer.specs.declared.answer.AnswerError.TheVariants as error
 use Rattle.program_answer.specs.Answers.{Reads, Stops, StopsBy}
 use Rattle.program_answer.specs.Called.{SourceSeen}
 use Rattle.program_answer.specs.Input.{IsAcceptedAs, IsRefused}
-use Rattle.program_answer.specs.Worlds.{start_of}
+use Rattle.program_answer.specs.Worlds.{start_of, world_settings}
 use Rattle.program_answer.proofs.Stopping.{known_more, reads_more, stops_more}
 use Rattle.plain_commands.specs.Schedules.{CarriedOut}
 use Rattle.plain_commands.specs.Simulate.{IsOutcomeOf, IsSimulateAnswer, IsSimulateRefused}
@@ -42,9 +43,9 @@ came d versions w packets schedule events world s r =
       good = s.runs events world (carried-runs w.topology.switches packets w schedule events world r);
     }
 
-pub starts : (d : Document) (versions : List Version) (w : WorldValue) (hops capacity rejoins : ℕ) (packets : List PacketLine) (schedule : List ScheduleLine) → w ≡ start d.topology versions (record { hops = hops; capacity = capacity; rejoins = rejoins; overlap = None }) → hops ≡ d.settings.hops → capacity ≡ d.settings.capacity → rejoins ≡ d.settings.rejoins → IsKept w → EveryRunIsGood w →
+pub starts : (d : Document) (versions : List Version) (w : WorldValue) (settings : Settings) (packets : List PacketLine) (schedule : List ScheduleLine) → w ≡ start d.topology versions settings → settings ≡ world_settings d.settings → IsKept w → EveryRunIsGood w →
     packets ≡ d.packets.items → schedule ≡ d.schedule.items → Starts d versions w packets schedule
-starts d versions w hops capacity rejoins packets schedule a b c e k r p l = record { world = a ∙ (λ i. start d.topology versions (record { hops = b i; capacity = c i; rejoins = e i; overlap = None })); kept = k; runs = r; packets_are = p; schedule_is = l }
+starts d versions w settings packets schedule a b k r p l = record { world = a ∙ ap (λ (x : Settings). start d.topology versions x) b; kept = k; runs = r; packets_are = p; schedule_is = l }
 
 pub stopped : (d : Document) (versions : List Version) (w : WorldValue) (packets : List PacketLine) (schedule : List ScheduleLine) (x : AnswerError) → Starts d versions w packets schedule → TellsStop w.topology.switches packets w schedule x → TellsStopIn d versions x
 stopped d versions w packets schedule error.Memory s h = tt

@@ -10,9 +10,9 @@ ghost use Rattle.plain_commands.specs.Told.{TellsStopIn};
 use crate::schedule::carry_out;
 use document_text::Document;
 use policy_rows::Version;
-use program_answer::AnswerError;
+use program_answer::{AnswerError, world_settings};
 use std::alloc::Global;
-use world_core::{Event, Settings, World};
+use world_core::{Event, World};
 
 /// A world, and the events that led to it.
 #[derive(Drop)]
@@ -40,14 +40,7 @@ pub fn schedule_outcome(
         schedule,
         ..
     } = document;
-    let hops = u64::from(settings.hops);
-    let settings = Settings {
-        hops,
-        capacity: settings.capacity as usize,
-        rejoins: settings.rejoins as usize,
-        overlap: None,
-    };
-    let mut world = World::start(alloc, versions, topology, settings)?;
+    let mut world = World::start(alloc, versions, topology, world_settings(settings))?;
     world.kept();
     let events = carry_out(alloc, &mut world, &packets, &schedule)?;
     Ok(Outcome { world, events })

@@ -33,7 +33,7 @@ version_at t s k (q ∷ ps) [] i p v a h = absurd a
 version_at t s k (q ∷ ps) (w ∷ vs) zero p v a h = subst (λ n. IsVersion t s n q w) (omega arith) a.0
 version_at t s k (q ∷ ps) (w ∷ vs) (suc i) p v a h = subst (λ n. IsVersion t s n (get_or ps i p) (get_or vs i v)) (omega arith) (version_at t s (suc k) ps vs i p v a.1 (omega (arith, h)))
 
--- the fault of a policy behind others that have rows
+-- the fault of a policy after others that have rows
 pub first_fault : (t : Layout) (s : Settings) (ps : List Term) (i : ℕ) (p : Term) (vs : List Version) (f : Fault) → i < length ps → p ≡ get_or ps i p → AreVersions t s 0 (take i ps) vs → IsPolicyFault t s i p f → IsFirstPolicyFault t s ps f
 first_fault t s ps i p vs f h e a b = record {
   before = take i ps;

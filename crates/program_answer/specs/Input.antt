@@ -72,7 +72,7 @@ pub record Feeds (old new : Option (List ℕ)) (r : DocReader) (c : LineCount) :
 abbrev pub policies_of : Document → List Term
 policies_of d = map term_of d.policies.items
 
--- the fault of the policy behind k others; nothing is said of memory
+-- the fault of the policy after k others; nothing is said of memory
 abbrev pub TellsFault : Layout → Settings → ℕ → Term → AnswerError → Type 0
 TellsFault t s k p error.Memory = Unit {0}
 TellsFault t s k p (error.Fault f) = IsPolicyFault t s k p f

@@ -15,11 +15,11 @@ use Rattle.table_emitter.specs.Emission.{IsEmitted, IsEmitFault}
 use Rattle.report_text.specs.Fault.{Fault}
 use Rattle.report_text.specs.Fault.TheVariants as fault
 
--- the stamp of the policy behind k others
+-- the stamp of the policy after k others
 abbrev pub stamp_in : Settings → ℕ → ℕ
 stamp_in s k = stamp_at s.stamps.0 s.stamps.1 k
 
--- The policy behind k others with its rows: those of its diagram, which stand for it, are within the limits, and can be written as messages.
+-- The policy after k others with its rows: those of its diagram, which stand for it, are within the limits, and can be written as messages.
 pub record IsVersion (t : Layout) (s : Settings) (k : ℕ) (p : Term) (v : Version) : Type 0 where
   pub policy : term_of v.pol ≡ p
   pub diagram : Tree
@@ -29,7 +29,7 @@ pub record IsVersion (t : Layout) (s : Settings) (k : ℕ) (p : Term) (v : Versi
   pub limits : AreWithinLimits v.rows
   pub writable : AreWritable v.rows
 
--- the policies behind k others
+-- the policies after k others
 abbrev pub AreVersions : Layout → Settings → ℕ → List Term → List Version → Type 0
 AreVersions t s k [] [] = Unit {0}
 AreVersions t s k [] (v ∷ vs) = ⊥
@@ -42,7 +42,7 @@ pub record HasNoRows (t : Layout) (s : Settings) (k : ℕ) (p : Term) (f : EmitF
   pub compiled : CompiledOf p diagram
   pub fault : IsEmitFault diagram t (stamp_in s k) f
 
--- the fault of the policy behind k others, which is named by its number from 1
+-- the fault of the policy after k others, which is named by its number from 1
 abbrev pub IsPolicyFault : Layout → Settings → ℕ → Term → Fault → Type 0
 IsPolicyFault t s k p (fault.Compile i f) = (i ≡ suc k) × IsFaultOf p f
 IsPolicyFault t s k p (fault.Emit i f) = (i ≡ suc k) × HasNoRows t s k p f

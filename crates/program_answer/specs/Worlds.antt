@@ -1,20 +1,30 @@
 -- The world of a document's policies, and its report as an answer.
-use Rattle.std.specs.Prelude.{◌≡◌, ℕ, List, None, is_some}
+use Rattle.std.specs.Prelude.{◌≡◌, ℕ, ◌+◌, ◌-◌, List, Option, Some, None, is_some, if◌then◌else◌}
+use Rattle.document_text.specs.declared.document.Settings.{Settings}
 use Rattle.document_text.specs.Documents.{Doc}
 use Rattle.policy_rows.specs.declared.version.Version.{Version}
 use Rattle.report_text.specs.Reports.{IsWorldReport}
 use Rattle.world_core.specs.declared.event.Event.{Event}
+use Rattle.world_core.specs.declared.settings.Settings.{Settings as WorldSettings}
 use Rattle.world_core.specs.Worlds.{WorldValue, start}
 use Rattle.program_answer.specs.declared.answer.Answer.{Answer}
 use Rattle.program_answer.specs.Statuses.{report_status}
 
--- the world of these versions in the document's topology, before anything has happened, in which so many sessions may be lost without a halt
-abbrev pub start_with : Doc → List Version → ℕ → WorldValue
-start_with d versions rejoins = start d.layout versions (record { hops = d.settings.hops; capacity = d.settings.capacity; rejoins = rejoins; overlap = None })
+-- how many stamps go round, if drains overlap: all stamps of the document
+abbrev pub round_of : Settings → Option ℕ
+round_of s = if s.overlap then Some (s.stamps.1 - s.stamps.0 + 1) else None
 
--- the same, in which as many sessions may be lost as the document says
+-- what a document's settings say of its world
+abbrev pub world_settings : Settings → WorldSettings
+world_settings s = record { hops = s.hops; capacity = s.capacity; rejoins = s.rejoins; overlap = round_of s }
+
+-- the world of these versions in the document's topology, before anything has happened
 abbrev pub start_of : Doc → List Version → WorldValue
-start_of d versions = start_with d versions d.settings.rejoins
+start_of d versions = start d.layout versions (world_settings d.settings)
+
+-- the same for a drive: the first loss halts it, and no drains overlap
+abbrev pub start_of_drive : Doc → List Version → WorldValue
+start_of_drive d versions = start d.layout versions (record { hops = d.settings.hops; capacity = d.settings.capacity; rejoins = 0; overlap = None })
 
 -- the report of these events and of the world then, and the status by whether the updates stand still
 pub record IsWorldAnswer (w : WorldValue) (events : List Event) (a : Answer) : Type 0 where

@@ -1,6 +1,6 @@
 //! A loss and a return after each event of three updates.
-use crate::worlds::{does, row_count, run, world_of};
-use std::alloc::Global;
+use crate::worlds::{End, does, does_at, end_of, run, world_of};
+use std::alloc::{AllocError, Global};
 use std::test::Fail;
 use update_coordinator::Phase;
 use world_core::{ControllerEvent, Event, SwitchEvent, World};
@@ -24,88 +24,88 @@ fn between(behind: u32) -> Meanwhile {
     }
 }
 
-// The updates with a loss at a switch after some events, and a return.
-fn with_loss(alloc: Global, behind: u32, place: usize, meanwhile: Meanwhile) -> Option<World> {
-    let mut world = world_of(alloc, 1).ok()?;
-    let _before = run(alloc, &mut world, behind)?;
-    if !does(
-        alloc,
-        &mut world,
-        &Event::Controller(ControllerEvent::Lost(place)),
-    ) {
+// Loses the session with a switch, and lets it return. Then the updates go on to their end.
+fn lose_and_return(
+    alloc: Global,
+    world: &mut World,
+    place: usize,
+    meanwhile: Meanwhile,
+) -> Option<u32> {
+    if !does_at(alloc, world, ControllerEvent::Lost(place)) {
         return None;
     }
     match meanwhile {
         Meanwhile::Nothing => {}
         Meanwhile::Applies => {
+            let apply = Event::Switch(SwitchEvent::Apply(place, 0));
             for _ in 0..100 {
-                let _pending = does(
-                    alloc,
-                    &mut world,
-                    &Event::Switch(SwitchEvent::Apply(place, 0)),
-                );
+                let _pending = does(alloc, world, &apply);
             }
         }
         Meanwhile::GoesOn => {
-            let _others = run(alloc, &mut world, 10_000)?;
+            let _others = run(alloc, world, 10_000)?;
         }
     }
-    if !does(
-        alloc,
-        &mut world,
-        &Event::Controller(ControllerEvent::Rejoin(place)),
-    ) {
+    if !does_at(alloc, world, ControllerEvent::Rejoin(place)) {
         return None;
     }
-    let _rest = run(alloc, &mut world, 10_000)?;
-    Some(world)
+    run(alloc, world, 10_000)
+}
+
+// Where updates come to with a loss at a switch after some events.
+fn end_with_loss(alloc: Global, before: u32, place: usize) -> Result<Option<End>, AllocError> {
+    let mut world = world_of(alloc, 1)?;
+    let ends = run(alloc, &mut world, before).is_some()
+        && lose_and_return(alloc, &mut world, place, between(before)).is_some();
+    Ok(end_of(world, ends))
+}
+
+// Where they come to without one, and after how many events.
+fn end_without_loss(alloc: Global) -> Result<(Option<End>, u32), AllocError> {
+    let mut world = world_of(alloc, 0)?;
+    let count = run(alloc, &mut world, 10_000);
+    Ok((end_of(world, count.is_some()), count.unwrap_or(0)))
 }
 
 #[test]
 fn updates_end_wherever_a_session_was_lost(rt: HostRuntime) -> Result<(), Fail> {
     let alloc = rt.alloc();
-    let mut whole = world_of(alloc, 0)?;
-    let count = run(alloc, &mut whole, 10_000).ok_or("no memory")?;
-    assert_eq!(rt; whole.coordinator().phase(), Phase::Idle(3));
-    for behind in 0..=count {
-        let place = (behind % 2) as usize;
-        let world = with_loss(alloc, behind, place, between(behind)).ok_or("no return")?;
-        assert_eq!(rt; world.coordinator().phase(), Phase::Idle(3));
-        assert_eq!(rt; row_count(&world), row_count(&whole));
+    let (whole, count) = end_without_loss(alloc)?;
+    let whole = whole.ok_or("no end")?;
+    assert_eq!(rt; whole.phase, Phase::Idle(3));
+    for before in 0..=count {
+        let end = end_with_loss(alloc, before, (before % 2) as usize)?;
+        assert_eq!(rt; end, Some(whole));
     }
     Ok(())
 }
 
-#[test]
-fn the_loss_behind_a_thousand_halts(rt: HostRuntime) -> Result<(), Fail> {
-    let alloc = rt.alloc();
-    let mut world = world_of(alloc, 1000)?;
+// A thousand losses and returns, with some events in front of each.
+fn lose_often(alloc: Global, world: &mut World) -> bool {
     for _ in 0..1000 {
-        let _some = run(alloc, &mut world, 7).ok_or("no memory")?;
-        assert!(rt;
-            does(
-                alloc,
-                &mut world,
-                &Event::Controller(ControllerEvent::Lost(0))
-            )
-        );
-        assert!(rt;
-            does(
-                alloc,
-                &mut world,
-                &Event::Controller(ControllerEvent::Rejoin(0))
-            )
-        );
+        if run(alloc, world, 7).is_none()
+            || !does_at(alloc, world, ControllerEvent::Lost(0))
+            || !does_at(alloc, world, ControllerEvent::Rejoin(0))
+        {
+            return false;
+        }
     }
-    let _rest = run(alloc, &mut world, 10_000).ok_or("no memory")?;
-    assert_eq!(rt; world.coordinator().phase(), Phase::Idle(3));
-    assert!(rt;
-        does(
-            alloc,
-            &mut world,
-            &Event::Controller(ControllerEvent::Lost(1))
-        )
-    );
-    assert!(rt; world.coordinator().halt().is_some());
+    run(alloc, world, 10_000).is_some()
+}
+
+// Where updates come to with a thousand losses, and whether the next one halts.
+fn end_with_many(alloc: Global) -> Result<(Option<End>, bool), AllocError> {
+    let mut world = world_of(alloc, 1000)?;
+    let ends = lose_often(alloc, &mut world);
+    let halts = does_at(alloc, &mut world, ControllerEvent::Lost(1))
+        && world.coordinator().halt().is_some();
+    Ok((end_of(world, ends), halts))
+}
+
+#[test]
+fn the_loss_after_a_thousand_halts(rt: HostRuntime) -> Result<(), Fail> {
+    let (end, halts) = end_with_many(rt.alloc())?;
+    assert_eq!(rt; end.ok_or("no end")?.phase, Phase::Idle(3));
+    assert!(rt; halts);
     Ok(())
 }

@@ -3,6 +3,7 @@ ghost use Rattle.std.specs.Prelude.{◌≤◌};
 
 use document_text::Document;
 use std::alloc::{AllocError, Global};
+use update_coordinator::Phase;
 use workload_gen::{generate, versions};
 use world_core::{ControllerEvent, Event, Settings, SwitchEvent, World};
 
@@ -63,8 +64,31 @@ pub fn does(alloc: Global, world: &mut World, event: &Event) -> bool {
     world.enabled(event) && world.step(alloc, event).is_ok()
 }
 
-/// How many rows the switches have, all together.
-pub fn row_count(world: &World) -> usize {
+/// Whether an event of the controller could happen and was done.
+pub fn does_at(alloc: Global, world: &mut World, event: ControllerEvent) -> bool {
+    does(alloc, world, &Event::Controller(event))
+}
+
+/// Where updates have come to: their phase, and how many rows the switches have, all together.
+#[derive(Clone, Copy, Debug, PartialEq, Eq)]
+pub struct End {
+    pub phase: Phase,
+    pub rows: usize,
+}
+
+/// The end of a world, if it came there.
+pub fn end_of(world: World, ends: bool) -> Option<End> {
+    if !ends {
+        return None;
+    }
+    Some(End {
+        phase: world.coordinator().phase(),
+        rows: row_count(&world),
+    })
+}
+
+// How many rows the switches have.
+fn row_count(world: &World) -> usize {
     let mut all: usize = 0;
     for place in 0..world.switch_count() {
         all = all.saturating_add(world.table(place).rows().len());

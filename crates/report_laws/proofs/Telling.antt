@@ -89,7 +89,7 @@ side-same Switch Switch e = refl
 side-same Controller Switch e = absurd (false≢true ((bytes_eq-Decides (side_text Controller) (side_text Switch)).1 e))
 side-same Switch Controller e = absurd (false≢true ((bytes_eq-Decides (side_text Switch) (side_text Controller)).1 e))
 
--- a switch and what follows behind a blank
+-- a switch and what follows after a blank
 parts-same : (t : Layout) → IsTopology t → (j k : ℕ) (xs ys : List ℕ) → j < length t.switches → k < length t.switches → number_at t.switches j ++ (32 ∷ xs) ≡ number_at t.switches k ++ (32 ∷ ys) → (j ≡ k) × (xs ≡ ys)
 parts-same t topology j k xs ys l m e =
     let c = cut digit (number_at t.switches j) (number_at t.switches k) (32 ∷ xs) (32 ∷ ys) (number-digits t topology j l) (number-digits t topology k m) refl refl e in
@@ -215,4 +215,4 @@ lines-tell t es fs topology k l h =
 
 pub reports-tell : ReportsTell
 reports-tell t es fs text topology k l a b =
-    lines-same t topology es fs (state_text a.phase a.halt ++ a.is.fates) (state_text b.phase b.halt ++ b.is.fates) k l refl refl (sym a.is.whole ∙ b.is.whole)
+    lines-same t topology es fs (state_text a.stamps a.draining a.phase a.halt ++ a.is.fates) (state_text b.stamps b.draining b.phase b.halt ++ b.is.fates) k l refl refl (sym a.is.whole ∙ b.is.whole)

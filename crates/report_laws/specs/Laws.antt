@@ -17,6 +17,7 @@ use Rattle.world_core.specs.declared.event.PacketEvent.TheVariants as of_packet
 use Rattle.world_core.specs.declared.event.SwitchEvent.TheVariants as of_switch
 use Rattle.value_text.specs.Values.{line}
 use Rattle.report_text.specs.Events.{event_text, events_text}
+use Rattle.report_text.specs.Causes.{state_text}
 use Rattle.report_text.specs.Reports.{IsReportText}
 use Rattle.document_text.specs.declared.document.Event.{Event as Command}
 use Rattle.document_text.specs.declared.document.Event.TheVariants as command
@@ -53,11 +54,13 @@ LinesTell = (t : Layout) (es fs : List Event) → IsTopology t → AllByRecursio
 
 -- the text is a report with these events
 pub record IsReportOf (t : Layout) (events : List Event) (text : List ℕ) : Type 0 where
+  pub stamps : List ℕ
+  pub draining : List ℕ
   pub phase : Phase
   pub halt : Option Cause
   pub flights : List Flight
   pub arrivals : List Arrived
-  pub is : IsReportText t.switches events phase halt flights arrivals text
+  pub is : IsReportText t.switches events (state_text stamps draining phase halt) flights arrivals text
 
 -- So does a report.
 abbrev pub ReportsTell : Type 0

@@ -3,7 +3,7 @@ use crate::histories::{history, packet};
 use flight_queues::Flights;
 use nk_values::Tag;
 use openflow_wire::Octets;
-use report_text::{Standing, report_text};
+use report_text::{Standing, UpdateState, report_text};
 use session_core::SessionFault;
 use std::alloc::{AllocError, Global};
 use std::test::Fail;
@@ -55,8 +55,12 @@ fn report(
     let flights = Flights::new(alloc);
     let standing = Standing {
         switches: &switches,
-        phase,
-        halt,
+        updates: UpdateState {
+            phase,
+            stamps: &[],
+            draining: &[],
+            halt,
+        },
         flights: &flights,
         arrivals: &[],
     };

@@ -60,7 +60,7 @@ unknown_copy fs f lists past h = record {
       h.each k lines at ∙ ap (map open_line) (sym (copies_elsewhere fs f k (λ e. omega (arith, within, past, e))));
 }
 
--- a copy whose line comes behind those of its arrival
+-- a copy whose line comes after those of its arrival
 pub known_copy : (fs : List Flight) (f : Flight) (lists : List (Vec (String Global) Global)) (old new : Vec (String Global) Global) (l : String Global) →
     slice_get lists f.arrival ≡ Some old → new.items ≡ old.items ++ l ∷ [] → string_bytes l ≡ open_line f.history → HasCopies fs lists → HasCopies (fs ++ f ∷ []) (slice_set lists f.arrival new)
 known_copy fs f lists old new l at more is h = record {

@@ -8,11 +8,8 @@ use Rattle.nk_values.specs.Members.{IsIn}
 use Rattle.nk_values.specs.Trails.{Trail}
 use Rattle.topology_model.specs.declared.line.Site.{Site}
 use Rattle.packet_tracer.specs.declared.flight.Flight.{Flight}
-use Rattle.update_coordinator.specs.declared.cause.Cause.{Cause}
-use Rattle.update_coordinator.specs.declared.phase.Phase.{Phase}
 use Rattle.update_laws.specs.Traffic.{Arrived}
 use Rattle.world_core.specs.declared.event.Event.{Event}
-use Rattle.report_text.specs.Causes.{state_text}
 use Rattle.report_text.specs.Copies.{copies_of}
 use Rattle.report_text.specs.Events.{events_text}
 use Rattle.report_text.specs.Reports.{arrival_text, IsArrivalText, IsReportText}
@@ -77,8 +74,8 @@ one-each IsText one k (a ∷ rest) x y p q =
     p.4 ∙ (λ i. first i ++ more i) ∙ sym q.4
 
 -- The report of events and of what a world shows is one text.
-pub one-report : (switches : List Site) (events : List Event) (ph : Phase) (halt : Option Cause) (flights : List Flight) (arrivals : List Arrived) (x y : List ℕ) →
-    IsReportText switches events ph halt flights arrivals x → IsReportText switches events ph halt flights arrivals y → x ≡ y
-one-report switches events ph halt flights arrivals x y p q =
+pub one-report : (switches : List Site) (events : List Event) (state : List ℕ) (flights : List Flight) (arrivals : List Arrived) (x y : List ℕ) →
+    IsReportText switches events state flights arrivals x → IsReportText switches events state flights arrivals y → x ≡ y
+one-report switches events state flights arrivals x y p q =
     let fates : p.fates ≡ q.fates = one-each (IsArrivalText flights) (one-arrival flights) 0 arrivals p.fates q.fates p.each q.each in
-    p.whole ∙ ap (λ (fs : List ℕ). events_text switches events ++ (state_text ph halt ++ fs)) fates ∙ sym q.whole
+    p.whole ∙ ap (λ (fs : List ℕ). events_text switches events ++ (state ++ fs)) fates ∙ sym q.whole

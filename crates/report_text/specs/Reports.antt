@@ -1,18 +1,16 @@
 -- The texts of reports.
-use Rattle.std.specs.Prelude.{◌≡◌, ℕ, ◌+◌, List, ◌++◌, Option, codes}
+use Rattle.std.specs.Prelude.{◌≡◌, ℕ, ◌+◌, List, ◌++◌, codes}
 use Rattle.std.specs.Fmt.{decimal}
 use Rattle.std.specs.List.{flat_map}
 use Rattle.topology_model.specs.declared.line.Site.{Site}
 use Rattle.packet_tracer.specs.declared.flight.Flight.{Flight}
-use Rattle.update_coordinator.specs.declared.cause.Cause.{Cause}
-use Rattle.update_coordinator.specs.declared.phase.Phase.{Phase}
 use Rattle.update_laws.specs.Traffic.{Arrived}
 use Rattle.world_core.specs.declared.event.Event.{Event}
 use Rattle.world_core.specs.Worlds.{WorldValue}
 use Rattle.value_text.specs.Values.{line, place_text}
 use Rattle.value_text.specs.Traces.{AreLinesOf, AreTexts}
 use Rattle.report_text.specs.Events.{events_text}
-use Rattle.report_text.specs.Causes.{entry_text, state_text}
+use Rattle.report_text.specs.Causes.{control_text, entry_text}
 use Rattle.report_text.specs.Copies.{copies_of}
 
 -- the n-th arrival: where it came in, and the entry that it met
@@ -33,12 +31,12 @@ pub record IsArrivalText (flights : List Flight) (n : ℕ) (a : Arrived) (text :
   pub in_flight : AreLinesOf (codes "open ") (copies_of flights place) still
   pub fate : HasFate still n a text
 
--- The text of a report: the events, the phase and why updates stand still, and what became of each arrival.
-pub record IsReportText (switches : List Site) (events : List Event) (ph : Phase) (halt : Option Cause) (flights : List Flight) (arrivals : List Arrived) (text : List ℕ) : Type 0 where
+-- The text of a report: the events, how far the updates are, and what became of each arrival.
+pub record IsReportText (switches : List Site) (events : List Event) (state : List ℕ) (flights : List Flight) (arrivals : List Arrived) (text : List ℕ) : Type 0 where
   pub fates : List ℕ
   pub each : AreTexts (IsArrivalText flights) 0 arrivals fates
-  pub whole : text ≡ events_text switches events ++ (state_text ph halt ++ fates)
+  pub whole : text ≡ events_text switches events ++ (state ++ fates)
 
 -- that of a world and the events that led to it
 abbrev pub IsWorldReport : WorldValue → List Event → List ℕ → Type 0
-IsWorldReport w events text = IsReportText w.topology.switches events w.fleet.control.phase w.fleet.control.halt w.flights w.arrivals text
+IsWorldReport w events text = IsReportText w.topology.switches events (control_text w.fleet.control) w.flights w.arrivals text

@@ -1,33 +1,31 @@
 // The texts of reports.
 ghost use Rattle.std.specs.Prelude.{◌≡◌, ◌++◌, OnOk, IfOk, map, option_map, string_bytes};
+ghost use Rattle.report_text.specs.Causes.{state_text};
 ghost use Rattle.value_text.specs.Values.{line};
 ghost use Rattle.value_text.specs.Traces.{Adds, AreTexts};
 ghost use Rattle.report_text.specs.Reports.{arrival_text, HasFate, IsArrivalText, IsReportText, IsWorldReport};
 
-use crate::causes::{put_entry, put_state};
+use crate::causes::{UpdateState, put_entry, put_state};
 use crate::copies::open_lines;
 use crate::events::put_events;
 use flight_queues::Flights;
 use std::alloc::{AllocError, Global};
 use std::fmt::Write;
 use topology_model::Site;
-use update_coordinator::{Cause, Phase};
 use value_text::{Text, history_lines, put_lines, put_place, sort_lines};
 use world_core::{Arrival, Event, World};
 
-/// How a network stands: its switches, the phase of the updates and why they are halted, the copies in flight,
-/// and the packets that came in.
+/// How a network stands: its switches, how far the updates are, the copies in flight, and the packets that came in.
 #[derive(Clone, Copy)]
 pub struct Standing<'a> {
     pub switches: &'a [Site],
-    pub phase: Phase,
-    pub halt: Option<&'a Cause>,
+    pub updates: UpdateState<'a>,
     pub flights: &'a Flights,
     pub arrivals: &'a [Arrival],
 }
 
-/// The events that were done, in order, and how the network stands then: the phase, and the cause of a halt, if there is
-/// one. For each packet that came in, from 1 on, a line `done` follows for each finished history, and then a line `open` for
+/// The events that were done, in order, and how the network stands then: the phase, the stamps that drain, if any do, and
+/// the cause of a halt, if there is one. For each packet that came in, from 1 on, a line `done` follows for each finished history, and then a line `open` for
 /// each copy in flight. These lines are sorted by bytes, equal lines once. Events tell a switch by its number, and nothing
 /// if none is at their place. A copy of no packet that came in is left out.
 pub fn report_text(
@@ -35,11 +33,11 @@ pub fn report_text(
     standing: &Standing<'_>,
     events: &[Event],
 ) -> Result<Text, AllocError>
-    ensures { IfOk result (λ t. IsReportText standing.now.switches.now events.now standing.now.phase (option_map (λ c. c.now) standing.now.halt) standing.now.flights.now standing.now.arrivals.now t) }
+    ensures { IfOk result (λ t. IsReportText standing.now.switches.now events.now (state_text standing.now.updates.stamps.now standing.now.updates.draining.now standing.now.updates.phase (option_map (λ c. c.now) standing.now.updates.halt)) standing.now.flights.now standing.now.arrivals.now t) }
 {
     let mut out = String::new(alloc);
     put_events(&mut out, standing.switches, events)?;
-    put_state(alloc, &mut out, standing.phase, standing.halt)?;
+    put_state(alloc, &mut out, standing.updates)?;
     put_arrivals(alloc, &mut out, standing.arrivals, standing.flights)?;
     Ok(Text::new(out))
 }
@@ -51,8 +49,12 @@ pub fn world_report(alloc: Global, world: &World, events: &[Event]) -> Result<Te
     let coordinator = world.coordinator();
     let standing = Standing {
         switches: world.topology().switches(),
-        phase: coordinator.phase(),
-        halt: coordinator.halt(),
+        updates: UpdateState {
+            phase: coordinator.phase(),
+            stamps: coordinator.stamps(),
+            draining: coordinator.draining(),
+            halt: coordinator.halt(),
+        },
         flights: world.flights(),
         arrivals: world.arrivals(),
     };

@@ -66,7 +66,7 @@ barrier-not x f e = absurd (cc)
 own-number : (sw xid : ℕ) → move_in state.Greeted sw (to.FeaturesReply xid sw 0 1 1 1787 []) ≡ Up
 own-number sw xid = ap (λ (b : Bool). if b then Up else Failed (WrongSwitch sw sw)) ((Decides-eqb sw sw).1 refl)
 
--- nothing was said, and what is behind are errors
+-- nothing was said, and what is after are errors
 behind-full : (m : Message) (rest said behind : List Message) → said ≡ [] → m ∷ rest ≡ said ++ behind → AreErrors behind → IsFullError m
 behind-full m rest said behind w e all =
     all m (subst (λ (ms : List Message). IsIn ms m) (e ∙ ap (λ (ms : List Message). ms ++ behind) w) (inl refl))

@@ -15,7 +15,7 @@ use Rattle.world_journal.specs.Journals.{events_of, Kept, MetBy}
 
 -- ---- lists with one more at their end
 
--- either it is the one asked for, and the others stand before it, or it stands behind that one
+-- either it is the one asked for, and the others stand before it, or it stands after that one
 abbrev IsSplit : {X : Type 0} → List X → X → List X → X → List X → Type 0
 IsSplit {X} ys y before x rest = ((ys ≡ before) × (y ≡ x)) ⊎ ((more : List X) × (ys ≡ before ++ x ∷ more))
 
@@ -90,7 +90,7 @@ runs-last w (f ∷ es) e v r = let last = runs-last r.0 es e v r.2 in (last.0, (
 
 -- ---- the end of foreign bytes
 
--- The last of these ends met the conditions of an event, behind entries with these events.
+-- The last of these ends met the conditions of an event, after entries with these events.
 pub record IsKeptLast {E : Type 0} (n : ℕ) (named faults : E → ℕ) (received : E → Option (List ℕ)) (ends : List E) (before : List Event) (x : Event) : Type 0 where
   pub end : E
   pub front : List E

@@ -120,7 +120,7 @@ rose-fewer before n many now l r = omega (arith, l, r)
 
 -- ---- the loss that halts
 
--- it comes behind all those that do not
+-- it comes after all those that do not
 pub halts-last : LossesCount → LastLossHalts → (w : WorldValue) (before : List Event) (v x : WorldValue) (s : ℕ) → Runs w before v → Step v (event.Controller (of_controller.Lost s)) x → ¬ (x.fleet.control.halt ≡ None) → losses before ≡ w.fleet.control.rejoins
 halts-last counts last w before v x s runs lost halts =
     let none : v.fleet.control.rejoins ≡ 0 = last v s x lost halts in

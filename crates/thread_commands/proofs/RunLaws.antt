@@ -15,6 +15,7 @@ use Rattle.world_core.specs.declared.event.Event.TheVariants as event
 use Rattle.world_core.specs.declared.event.ControllerEvent.TheVariants as of_controller
 use Rattle.world_core.specs.Laws.{EveryRunIsGood, HaltsStay, LossesCount, LastLossHalts, losses}
 use Rattle.world_core.specs.Steps.{Runs}
+use Rattle.world_core.specs.declared.settings.Settings.{Settings}
 use Rattle.world_core.specs.Worlds.{WorldValue, start}
 use Rattle.world_journal.specs.declared.entry.Entry.{Entry}
 use Rattle.world_journal.specs.declared.line.Line.{Line}
@@ -27,12 +28,11 @@ use Rattle.program_answer.specs.declared.answer.AnswerError.TheVariants as error
 use Rattle.program_answer.specs.Answers.{Reads, Stops}
 use Rattle.program_answer.specs.Called.{Change, HasRisen, NetSeen, SourceSeen}
 use Rattle.program_answer.specs.Input.{IsAccepted, IsAcceptedAs, IsRefused}
-use Rattle.program_answer.specs.Worlds.{IsWorldAnswer, start_of}
+use Rattle.program_answer.specs.Worlds.{IsWorldAnswer, start_of, world_settings}
 use Rattle.program_answer.proofs.Stopping.{reads_more}
 use Rattle.fleet_workers.specs.Watching.{AreSightsOf, Post}
-use Rattle.watch_text.specs.Reads.{posts_text}
 use Rattle.thread_commands.specs.Run.{AreGathered, AreStreams, AreToldSince, HasNext, IsRunAnswer, IsRunBy, RunStops, TellsCut, HaltsLast, HasRisenBy, line_of, lines_of, many_broken}
-use Rattle.thread_commands.specs.Watch.{IsWatchAnswer}
+use Rattle.thread_commands.specs.Watch.{IsSeenAnswer, IsWatchAnswer}
 use Rattle.thread_commands.proofs.Gathering.{first-is}
 use Rattle.thread_commands.proofs.KeptEnds.{kept-last}
 use Rattle.thread_commands.proofs.Losing.{halts-last, losses-broken, rose-fewer}
@@ -103,8 +103,8 @@ lines_more [] l = refl
 lines_more (x ∷ ls) l = ap (λ (xs : List Line). line_of x ∷ xs) (lines_more ls l)
 
 -- the world that the call made is the document's
-pub starts_as : (d : Document) (versions : List Version) (w : WorldValue) (hops capacity rejoins : ℕ) → w ≡ start d.topology versions (record { hops = hops; capacity = capacity; rejoins = rejoins; overlap = None }) → hops ≡ d.settings.hops → capacity ≡ d.settings.capacity → rejoins ≡ d.settings.rejoins → w ≡ start_of (doc_of d) versions
-starts_as d versions w hops capacity rejoins a b c e = a ∙ (λ i. start d.topology versions (record { hops = b i; capacity = c i; rejoins = e i; overlap = None }))
+pub starts_as : (d : Document) (versions : List Version) (w : WorldValue) (settings : Settings) → w ≡ start d.topology versions settings → settings ≡ world_settings d.settings → w ≡ start_of (doc_of d) versions
+starts_as d versions w settings a b = a ∙ ap (λ (x : Settings). start d.topology versions x) b
 
 -- ---- of a source
 
@@ -115,16 +115,16 @@ run_answers s net d versions events w a read run h = record {
   read = reads_more _ _ s (λ xs accepted. record { document = d; versions = versions; accepted = accepted; run = record { events = events; world = w; run = run; ends = refl; text_is = h.report } }) read;
 }
 
-pub watch_answers : (s : SourceSeen) (net : NetSeen) (d : Doc) (versions : List Version) (events : List Event) (w : WorldValue) (posts : List Post) (report : Answer) (text : List ℕ)
-    → Reads (λ xs. IsAcceptedAs xs d versions) s → IsRunBy events w net d versions → IsWorldAnswer w events report → AreSightsOf (start_of d versions) events posts → text ≡ report.text ++ posts_text posts → IsWatchAnswer s net report.status text
-watch_answers s net d versions events w posts report text read run h seen is = record {
+pub watch_answers : (s : SourceSeen) (net : NetSeen) (d : Doc) (versions : List Version) (events : List Event) (w : WorldValue) (posts : List Post) (a : Answer)
+    → Reads (λ xs. IsAcceptedAs xs d versions) s → IsRunBy events w net d versions → IsSeenAnswer w events posts a → AreSightsOf (start_of d versions) events posts → IsWatchAnswer s net a.status a.text
+watch_answers s net d versions events w posts a read run h seen = record {
   halts = is_some w.fleet.control.halt;
-  status_is = h.status;
+  status_is = h.status ∙ h.is.status;
   read = reads_more _ _ s (λ xs accepted. record {
     document = d;
     versions = versions;
     accepted = accepted;
-    watch = record { events = events; world = w; run = run; ends = refl; report = report.text; report_is = h.report; posts = posts; seen = seen; text_is = is };
+    watch = record { events = events; world = w; run = run; ends = refl; report = h.report.text; report_is = h.is.report; posts = posts; seen = seen; text_is = h.text };
   }) read;
 }
 

@@ -38,7 +38,7 @@ lines_of d = map line_of d.packets
 
 -- ---- the ends that were given back
 
--- Behind the streams that a net told before, it told such ones since. What was not known then is not known now.
+-- After the streams that a net told before, it told such ones since. What was not known then is not known now.
 pub record ToldSince (before : Option (List (List ℕ))) (all : List (List ℕ)) (AreSuch : List (List ℕ) → Type 0) : Type 0 where
   pub earlier : List (List ℕ)
   pub since : List (List ℕ)
@@ -50,7 +50,7 @@ pub record ToldSince (before : Option (List (List ℕ))) (all : List (List ℕ))
 abbrev pub AreToldSince : Change (Option (List (List ℕ))) → (List (List ℕ) → Type 0) → Type 0
 AreToldSince gathered AreSuch = IfSome gathered.after (λ all. ToldSince gathered.before all AreSuch)
 
--- The first of these streams has behind k messages what `got` spells, or a fault at which these bytes are held.
+-- The first of these streams has after k messages what `got` spells, or a fault at which these bytes are held.
 abbrev pub HasNext : ℕ → List ℕ → List (List ℕ) → Type 0
 HasNext k got [] = ⊥
 HasNext k got (stream ∷ streams) = TellsAt stream k got
@@ -73,11 +73,11 @@ many_broken {E} faults ends = length (filter (λ (e : E). ltb 0 (faults e)) ends
 abbrev pub HasRisenBy : ℕ → Change ℕ → Type 0
 HasRisenBy n count = min (count.before + n) (2 ^ 64 - 1) ≤ count.after
 
--- A loss by which the updates come to stand still is behind as many others as the document lets return.
+-- A loss by which the updates come to stand still comes after as many others as the document lets return.
 abbrev pub HaltsLast : Doc → List Version → Type 0
 HaltsLast d versions = (before : List Event) (v x : WorldValue) (s : ℕ) → Runs (start_of d versions) before v → Step v (event.Controller (of_controller.Lost s)) x → x.fleet.control.halt ≢ None → losses before ≡ d.settings.rejoins
 
--- The events lead from the start of the document's policies to this world, and each packet that came in is handled by one policy. Each line came in once and no copy may take another hop, also if the updates stand still. If they do not, the last policy handles all packets and none before it drains. Each lost session cost a broken end: the net's count of these rose by as many. The updates stand still by a lost session only if as many as the document lets return were lost before it. Foreign bytes came next in the first stream that the net told in this call, behind as many messages as that side of the switch was told before in its session. They halt, so their end is kept last and given back first. A net tells no names of ends, so none is said.
+-- The events lead from the start of the document's policies to this world, and each packet that came in is handled by one policy. Each line came in once and no copy may take another hop, also if the updates stand still. If they do not, the last policy handles all packets and none before it drains. Each lost session cost a broken end: the net's count of these rose by as many. The updates stand still by a lost session only if as many as the document lets return were lost before it. Foreign bytes came next in the first stream that the net told in this call, after as many messages as that side of the switch was told before in its session. They halt, so their end is kept last and given back first. A net tells no names of ends, so none is said.
 pub record IsRunBy (events : List Event) (world : WorldValue) (net : NetSeen) (d : Doc) (versions : List Version) : Type 0 where
   pub runs : Runs (start_of d versions) events world
   pub good : AreGood world

@@ -8,19 +8,21 @@ ghost use Rattle.program_answer.specs.Sound.{IsSound};
 ghost use Rattle.program_answer.specs.Versions.{AreVersions};
 ghost use Rattle.program_answer.specs.Worlds.{IsWorldAnswer, start_of};
 ghost use Rattle.thread_commands.specs.Run.{IsRunBy, TellsCut, line_of};
+ghost use Rattle.thread_commands.specs.Watch.{IsSeenAnswer};
 
 use crate::kept::{events_of, take_back};
 use document_text::{Document, PacketLine};
 use fleet_workers::{Lookout, Onlooker, Post, make_pairs, run_world};
 use outside_net::{Net, NetFault, Spawner};
 use policy_rows::Version;
-use program_answer::{Answer, AnswerError, world_answer};
+use program_answer::{Answer, AnswerError, world_answer, world_settings};
 use std::alloc::{AllocError, Global};
 use std::sync::{Arc, Wait};
 use std::time::Clock;
 use value_text::Fault;
+use watch_text::watch_text;
 use worker_desk::Gate;
-use world_core::{Event, Settings, World, halts_stay, losses_count};
+use world_core::{Event, World, halts_stay, losses_count};
 use world_journal::{Line, RunFault};
 
 // What a run came to: its world, the events that led to it, and what was seen of it.
@@ -39,6 +41,18 @@ impl DocumentRun {
     {
         let answer = world_answer(alloc, &self.world, &self.events)?;
         Ok((answer, self.seen))
+    }
+
+    // The report of a run, and after it what was seen of it.
+    pub(crate) fn watched(self, alloc: Global) -> Result<Answer, AllocError>
+        ensures { IfOk result (IsSeenAnswer self.world self.events.items self.seen.items) }
+    {
+        let report = world_answer(alloc, &self.world, &self.events)?;
+        let text = watch_text(alloc, &report.text, self.world.coordinator(), &self.seen)?;
+        Ok(Answer {
+            status: report.status,
+            text,
+        })
     }
 }
 
@@ -78,13 +92,7 @@ where
         last: versions.len(),
         keeps: watched,
     };
-    let settings = Settings {
-        hops: u64::from(settings.hops),
-        capacity: settings.capacity as usize,
-        rejoins: settings.rejoins as usize,
-        overlap: None,
-    };
-    let world = World::start(alloc, versions, topology, settings)?;
+    let world = World::start(alloc, versions, topology, world_settings(settings))?;
     let ends = match make_pairs(alloc, net, count) {
         Ok(ends) => ends,
         Err(NetFault::Broken) => return Err(AnswerError::Fault(Fault::Net)),

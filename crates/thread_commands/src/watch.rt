@@ -13,7 +13,6 @@ use program_answer::{Answer, AnswerError, read_input};
 use std::alloc::Global;
 use std::sync::{Arc, Wait};
 use std::time::Clock;
-use watch_text::watch_text;
 use worker_desk::Gate;
 
 /// The report that `run_answer` gives, and then a line for each post that one more worker saw, which reads meanwhile how
@@ -49,10 +48,6 @@ where
         threads,
         gate,
     )?;
-    let (report, seen) = run.report(alloc)?;
-    let text = watch_text(alloc, &report.text, &seen)?;
-    Ok(Answer {
-        status: report.status,
-        text,
-    })
+    let answer = run.watched(alloc)?;
+    Ok(answer)
 }

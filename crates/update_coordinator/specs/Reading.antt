@@ -59,7 +59,7 @@ pub record IsAtEnd (place : ℕ) (c : Control) : Type 0 where
   pub here : slice_get c.sites place ≡ Some site
   pub left : drop site.next (batch_at c site) ≡ []
 
--- this flow mod is the next one of it, and this cursor stands behind it
+-- this flow mod is the next one of it, and this cursor stands after it
 pub record IsAtChange (place : ℕ) (m : FlowMod) (x : Cursor) (c : Control) : Type 0 where
   pub site : Site
   pub here : slice_get c.sites place ≡ Some site

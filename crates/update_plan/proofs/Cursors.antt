@@ -36,13 +36,13 @@ drop_past (x ∷ xs) (suc n) h = drop_past xs n (omega (arith, h))
 no_ports : (share : Share) (adds : Bool) (band : Band) (sw n : ℕ) → from_port share adds band sw (drop n []) ≡ []
 no_ports share adds band sw n = ap (λ ps. from_port share adds band sw ps) (drop_none n [] refl)
 
--- the front port, if it is of the switch, and those behind it
+-- the front port, if it is of the switch, and those after it
 front_port : (share : Share) (adds : Bool) (band : Band) (sw : ℕ) (b : Bool) (p : PortRows) (ps : List PortRows) →
     flat_map (λ q. share_of share adds band q) (cond b (p ∷ ps) ps) ≡ cond b (share_of share adds band p) [] ++ flat_map (λ q. share_of share adds band q) ps
 front_port share adds band sw true p ps = refl
 front_port share adds band sw false p ps = refl
 
--- ports from one on are that one and those behind it
+-- ports from one on are that one and those after it
 pub ports_from : (share : Share) (adds : Bool) (band : Band) (sw : ℕ) (ports : List PortRows) (n : ℕ) →
     from_port share adds band sw (drop n ports) ≡ share_at share adds band sw (slice_get ports n) ++ from_port share adds band sw (drop (n + 1) ports)
 ports_from share adds band sw [] zero = refl
@@ -114,7 +114,7 @@ none_at share adds band sw (Some p) h = skipped (p.sw == sw) (h p refl)
     skipped false e = refl
     skipped true e = absurd (cc)
 
--- behind the last port nothing is left
+-- after the last port nothing is left
 pub at_last : (share : Share) (adds : Bool) (band : Band) (sw : ℕ) (ports : List PortRows) (span : Span) (n k : ℕ) → IsSpan span sw ports → span.end ≤ n → from_place share adds band sw ports (record { port = n; row = k }) ≡ []
 at_last share adds band sw ports span n k h l =
     (λ i. drop k (none_at share adds band sw (slice_get ports n) (λ p e. behind_span span sw ports h n p l e) i) ++ from_port share adds band sw (drop (n + 1) ports))

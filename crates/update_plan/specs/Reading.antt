@@ -45,7 +45,7 @@ side share adds v sw = map (mod_of adds) (from_port share adds (band_of v) sw (p
 abbrev pub side_from : Share → Bool → Option Rows → ℕ → Place → List FlowMod
 side_from share adds v sw at = map (mod_of adds) (from_place share adds (band_of v) sw (ports_of v) at)
 
--- a batch: what comes in, and behind it what goes
+-- a batch: what comes in, and after it what goes
 abbrev pub changes : Share → Option Rows → Option Rows → ℕ → List FlowMod
 changes share new old sw = side share true new sw ++ side share false old sw
 

@@ -21,7 +21,7 @@ is-fine : Option TextFault → Bool
 is-fine None = true
 is-fine (Some f) = false
 
--- whether no line has a fault, behind those that declared this much
+-- whether no line has a fault, after those that declared this much
 walk : Layout → List TopoLine → Bool
 walk t [] = is-fine (fault_from t None)
 walk t (l ∷ ls) = is-fine (line_fault t l) && walk (with_line t l) ls

@@ -211,7 +211,7 @@ each-more P xs i v l here below k n small at = elim (ℕ_discrete k i) [
 pub each-all : (P : ℕ → ℕ → Type 0) (xs : List ℕ) (i : ℕ) → length xs ≤ i → ((k n : ℕ) → k < i → slice_get xs k ≡ Some n → P k n) → (k n : ℕ) → slice_get xs k ≡ Some n → P k n
 each-all P xs i l below k n at = below k n (omega (arith, l, get-within k xs n at)) at
 
--- and of each number of a longer list, where it holds of the one behind the others
+-- and of each number of a longer list, where it holds of the one after the others
 pub each-push : (P : ℕ → ℕ → Type 0) (xs : List ℕ) (v : ℕ) → P (length xs) v → ((k n : ℕ) → slice_get xs k ≡ Some n → P k n) → (k n : ℕ) → slice_get (xs ++ v ∷ []) k ≡ Some n → P k n
 each-push P [] v here below zero n at = subst (λ (m : ℕ). P 0 m) (some-is v n at) here
 each-push P [] v here below (suc k) n at = absurd (let none : None ≡ Some n = at in cc)

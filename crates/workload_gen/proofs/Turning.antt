@@ -83,7 +83,7 @@ same-rest w n k m e l d = elim (cases_lt m k) [
 pub count-none : (lines : List PacketLine) (w : WorldValue) (s : Sweep) → ((es : List Event) × AreEnabled w (tried lines w) es × IsSweep es s) → s.passed ≡ 0 → NoneIs w (tried lines w)
 count-none lines w s h e = none-can w (tried lines w) h.0 h.1 (let p = h.2.passed in omega (arith, p, e))
 
--- the event that a sweep finds behind one that counted
+-- the event that a sweep finds after one that counted
 pub drawn-found : (lines : List PacketLine) (w : WorldValue) (g : Lcg) (s t : Sweep) → ((es : List Event) × AreEnabled w (tried lines w) es × IsSweep es s) → ((es : List Event) × AreEnabled w (tried lines w) es × IsSweep es t) →
     (word : ℕ) → word ≡ (next_word g).0 → word < 2 ^ 64 - 1 → s.passed ≢ 0 → t.number ≡ word % s.passed → (e : Event) × (t.found ≡ Some e) × IsDrawn lines w g e
 drawn-found lines w g s t a b word is small some number =

@@ -1,5 +1,5 @@
 -- The document of a number: a line of switches, policies and packets drawn by words.
-use Rattle.std.specs.Prelude.{ℕ, zero, suc, ◌+◌, ◌-◌, ◌*◌, ◌%◌, List, [], ◌∷◌, ◌++◌, map, None}
+use Rattle.std.specs.Prelude.{ℕ, zero, suc, ◌+◌, ◌-◌, ◌*◌, ◌%◌, false, List, [], ◌∷◌, ◌++◌, map, None}
 use Rattle.rand_pcg.specs.Lcg.{Lcg, increment_of, started}
 use Rattle.rand_pcg.specs.Pcg.{multiplier_64}
 use Rattle.nk_values.specs.declared.packet.Packet.{Packet}
@@ -67,10 +67,10 @@ document_of n = record {
   layout = layout_of (topology_lines (switch_count n));
   policies = policies (switch_count n) (policy_count n) (seeded n);
   packets = packets (switch_count n) (packet_count n) (behind (policy_count n) (seeded n));
-  settings = record { hops = 64; capacity = 200000; stamps = (1, 4094); rejoins = 0 };
+  settings = record { hops = 64; capacity = 200000; stamps = (1, 4094); rejoins = 0; overlap = false };
   schedule = [];
 }
 
--- and the generator behind the words that were drawn for it: one for each policy and two for each packet
+-- and the generator after the words that were drawn for it: one for each policy and two for each packet
 abbrev pub generator : ℕ → Lcg
 generator n = behind (2 * packet_count n) (behind (policy_count n) (seeded n))

@@ -77,12 +77,12 @@ pub record IsDrawn (lines : List PacketLine) (w : WorldValue) (g : Lcg) (e : Eve
 
 -- ---- runs
 
--- the packets that are left behind an event
+-- the packets that are left after an event
 abbrev pub left_by : Event → List PacketLine → List PacketLine
 left_by (event.Packet (of_packet.Arrive pk tag)) lines = drop 1 lines
 left_by e lines = lines
 
--- and behind some
+-- and after some
 abbrev pub left_behind : List Event → List PacketLine → List PacketLine
 left_behind [] lines = lines
 left_behind (e ∷ es) lines = left_behind es (left_by e lines)

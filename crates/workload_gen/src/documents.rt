@@ -35,6 +35,7 @@ pub fn generate(alloc: Global, number: u64) -> Result<(Document, Lcg64Xsh32), Al
             capacity: 200_000,
             stamps: (1, 4094),
             rejoins: 0,
+            overlap: false,
         },
         schedule: Vec::new(alloc),
     };

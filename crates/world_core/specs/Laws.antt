@@ -60,7 +60,7 @@ losses (e ∷ es) = counted (is_loss e) (losses es)
 abbrev pub LossesCount : Type 0
 LossesCount = (w : WorldValue) (events : List Event) (v : WorldValue) → Runs w events v → v.fleet.control.halt ≡ None → losses events + v.fleet.control.rejoins ≡ w.fleet.control.rejoins
 
--- The loss that halts it comes behind all of those.
+-- The loss that halts it comes after all of those.
 abbrev pub LastLossHalts : Type 0
 LastLossHalts = (w : WorldValue) (place : ℕ) (v : WorldValue) → Step w (event.Controller (of_controller.Lost place)) v → v.fleet.control.halt ≢ None → w.fleet.control.rejoins ≡ 0
 

@@ -176,7 +176,7 @@ inside-send = declared_send inside.the_type (
 pub world-send : IsSend world.the_row
 world-send = view_send inside.the_row _ _ _ _ inside-send
 
--- ---- a run behind its lock
+-- ---- a run under its lock
 held-parts : (L E : RattleType) (a : RunName.Ghosts L.Denot) (b : Ledger.Ghosts L.Denot) (d : BoardName.Ghosts L.Denot) (c : Link.Ghosts E.Denot) → IsSend E → IsSend (held_inside.the_row L E a b d c)
 held-parts L E a b d c e = declared_send (held_inside.the_type L E a b d c) (world-send, (vec-send entry.the_row entries.the_send, (vec-send E e, (books.the_send L b, tt))))
 

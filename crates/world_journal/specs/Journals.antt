@@ -65,7 +65,7 @@ told s side events = length (filter (is_told s side) (since s events))
 abbrev pub told_before : ℕ → Side → List Entry → ℕ
 told_before s side journal = told s side (events_of journal)
 
--- What holds of the end that is kept for an event behind these entries: it is of the present session with that switch; at a lost session it had failed; at foreign bytes they came next in its stream, where that is known.
+-- What holds of the end that is kept for an event after these entries: it is of the present session with that switch; at a lost session it had failed; at foreign bytes they came next in its stream, where that is known.
 abbrev pub MetBy : {E : Type 0} → ℕ → (E → ℕ) → (E → ℕ) → (E → Option (List ℕ)) → List Entry → Event → E → Type 0
 MetBy n named faults received before (event.Controller (of_controller.Lost s)) end = (named end ≡ present_name n s before) × (0 < faults end)
 MetBy n named faults received before (event.Foreign s side got) end = (named end ≡ present_name n s before) × TellsWhereKnown (received end) (told_before s side before) got

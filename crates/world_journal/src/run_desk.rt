@@ -32,7 +32,7 @@ struct Bells {
     others: Condvar,
 }
 
-/// A run beside its pen behind their one lock, as its workers share them. Each call locks once, and what it answers under
+/// A run beside its pen under their one lock, as its workers share them. Each call locks once, and what it answers under
 /// the lock is stated of one function: for `give` that is `given_of`, and so on (`asks`, `asked_moves`). A worker that is
 /// told there is nothing to do waits, with the lock given up, until a step was made that may have changed this.
 #[derive(Drop)]

@@ -5,16 +5,19 @@ use Rattle.document_text.specs.Answers.{doc_of}
 use Rattle.outside_io.specs.Causes.{Rose}
 use Rattle.program_answer.specs.declared.answer.AnswerError.{AnswerError}
 use Rattle.program_answer.specs.Called.{change, net_of}
-use Rattle.program_answer.proofs.Starting.{versions-start}
+use Rattle.program_answer.proofs.Starting.{world-hops, world-rejoins, world-versions}
 use Rattle.thread_commands.specs.Run.{AreGathered, HasRisenBy, TellsCut, many_broken, lines_of, line_of}
 use Rattle.thread_commands.proofs.RunLaws.{ran_by, starts_as}
 use Rattle.thread_commands.proofs.document_run.run_document.Goals as goal
 
 pub start-requires-clause-versions : goal.start-requires-clause-versions
-start-requires-clause-versions g c = versions-start _ _ _ _ c.requires.sound.stamps c.requires.sound.policies c.requires.versions
+start-requires-clause-versions g c = world-versions _ _ _ _ _ c.world_settings.ensures c.requires.sound.stamps c.requires.sound.policies c.requires.versions
+
+pub start-requires-clause-hops : goal.start-requires-clause-hops
+start-requires-clause-hops g c = world-hops _ _ c.world_settings.ensures c.requires.sound.hops
 
 pub start-requires-clause-rejoins : goal.start-requires-clause-rejoins
-start-requires-clause-rejoins g c = c.requires.sound.rejoins
+start-requires-clause-rejoins g c = world-rejoins _ _ c.world_settings.ensures c.requires.sound.rejoins
 
 pub returns-in-Ok-run_world-clause-ran : goal.returns-in-Ok-run_world-clause-ran
 returns-in-Ok-run_world-clause-ran g c =
@@ -26,7 +29,7 @@ returns-in-Ok-run_world-clause-ran g c =
     let kept = record'.kept.items in
     let journal = record'.journal.items in
     let net = net_of N.faults N.broken N.gathered c.args.net.now c.take_back.new.net in
-    let is = starts_as d vs c.in_ok-world.world _ _ _ c.in_ok-world.ensures.world c.from.ensures refl refl in
+    let is = starts_as d vs c.in_ok-world.world _ c.in_ok-world.ensures.world c.world_settings.ensures in
     let lines : c.in_ok-lines.lines.items ≡ lines_of (doc_of d) = c.in_ok-lines.ensures ∙ ap (λ (ls : List PacketLine). map line_of ls) c.deref.ensures.value in
     let first_broken = c.run_world.ensures.net.1 ∙ c.make_pairs.ensures.broken in
     let first_gathered = c.run_world.ensures.net.2 ∙ c.make_pairs.ensures.gathered in

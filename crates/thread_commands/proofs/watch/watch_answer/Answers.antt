@@ -1,4 +1,4 @@
-use Rattle.std.proofs.Common.{◌≡◌, ◌∙◌, ◌++◌, rules, List, ap, sym, subst, refl}
+use Rattle.std.proofs.Common.{sym, subst, refl}
 use Rattle.std.proofs.lemmas.Result.{err_from_is_err_and}
 use Rattle.document_text.specs.Answers.{doc_of}
 use Rattle.program_answer.specs.declared.answer.AnswerError.{AnswerError}
@@ -6,9 +6,7 @@ use Rattle.program_answer.specs.Answers.{Stops}
 use Rattle.program_answer.specs.Called.{change, net_of, source_of}
 use Rattle.program_answer.specs.Input.{IsRefused}
 use Rattle.program_answer.specs.Worlds.{start_of}
-use Rattle.fleet_workers.specs.Watching.{Post}
 use Rattle.fleet_workers.proofs.Seeing.{sights_of}
-use Rattle.watch_text.specs.Reads.{posts_text}
 use Rattle.thread_commands.specs.Run.{RunStops, TellsCut}
 use Rattle.thread_commands.proofs.RunLaws.{cut_stops, input_stops, watch_answers}
 use Rattle.thread_commands.proofs.watch.watch_answer.Goals as goal
@@ -21,10 +19,7 @@ returns-clause-answer g c =
     let d = doc_of c.in_ok-input.input.document in
     let versions = c.in_ok-input.input.versions.items in
     let seen = sights_of (start_of d versions) run.events.items run.seen.items refl refl c.in_ok-run.ensures.seen in
-    let posts : c.in_ok-report.seen.items ≡ run.seen.items = c.in_ok-report.ensures.seen in
-    let told : c.in_ok-text.text ≡ c.in_ok-report.report.text ++ posts_text c.in_ok-report.seen.items = search rules in
-    let text : c.in_ok-text.text ≡ c.in_ok-report.report.text ++ posts_text run.seen.items = told ∙ ap (λ (ps : List Post). c.in_ok-report.report.text ++ posts_text ps) posts in
-    watch_answers (source_of S.left S.faults c.args.source.now c.read_input.new.source) (net_of N.faults N.broken N.gathered c.args.net.now c.run_document.new.net) d versions run.events.items run.world run.seen.items c.in_ok-report.report c.in_ok-text.text c.in_ok-input.ensures.reads c.in_ok-run.ensures.ran c.in_ok-report.ensures.report seen text
+    watch_answers (source_of S.left S.faults c.args.source.now c.read_input.new.source) (net_of N.faults N.broken N.gathered c.args.net.now c.run_document.new.net) d versions run.events.items run.world run.seen.items c.in_ok-answer.answer c.in_ok-input.ensures.reads c.in_ok-run.ensures.ran c.in_ok-answer.ensures seen
 
 pub returns-in_err-input-clause-stops : goal.returns-in_err-input-clause-stops
 returns-in_err-input-clause-stops g c =
@@ -42,20 +37,11 @@ returns-in_err-run-clause-stops g c =
     let p = err_from_is_err_and c.from_residual-in_err-run.result c.from_residual-in_err-run.ensures.1 in
     rw p.1 (cut_stops source pairs threads (doc_of c.in_ok-input.input.document) c.in_ok-input.input.versions.items p.0 c.in_ok-input.ensures.reads (subst (λ (e : AnswerError). TellsCut pairs threads e) (sym p.2) c.in_err-run.ensures.cut))
 
-pub returns-in_err-report-clause-stops : goal.returns-in_err-report-clause-stops
-returns-in_err-report-clause-stops g c =
+pub returns-in_err-answer-clause-stops : goal.returns-in_err-answer-clause-stops
+returns-in_err-answer-clause-stops g c =
     let S = g.S.Source in
     let source = source_of S.left S.faults c.args.source.now c.read_input.new.source in
     let pairs = change g.N.Net.faults c.args.net.now c.run_document.new.net in
     let threads = change g.T.Spawner.faults c.args.threads.now c.run_document.new.threads in
-    let p = err_from_is_err_and c.from_residual-in_err-report.result c.from_residual-in_err-report.ensures.1 in
-    rw p.1 (subst (λ (e : AnswerError). RunStops source pairs threads e) (sym p.2) c.in_ok-input.ensures.reads.faultless)
-
-pub returns-in_err-text-clause-stops : goal.returns-in_err-text-clause-stops
-returns-in_err-text-clause-stops g c =
-    let S = g.S.Source in
-    let source = source_of S.left S.faults c.args.source.now c.read_input.new.source in
-    let pairs = change g.N.Net.faults c.args.net.now c.run_document.new.net in
-    let threads = change g.T.Spawner.faults c.args.threads.now c.run_document.new.threads in
-    let p = err_from_is_err_and c.from_residual-in_err-text.result c.from_residual-in_err-text.ensures.1 in
+    let p = err_from_is_err_and c.from_residual-in_err-answer.result c.from_residual-in_err-answer.ensures.1 in
     rw p.1 (subst (λ (e : AnswerError). RunStops source pairs threads e) (sym p.2) c.in_ok-input.ensures.reads.faultless)

@@ -3,4 +3,4 @@ use Rattle.watch_text.specs.Reads.{posts_text}
 use Rattle.watch_text.proofs.reads.put_posts.Given as goal
 
 abbrev pub invariant-loop-post : goal.invariant-loop-post
-invariant-loop-post l = string_bytes l.out ≡ string_bytes l.initial.out ++ posts_text (take l.post-index l.posts)
+invariant-loop-post l = string_bytes l.out ≡ string_bytes l.initial.out ++ posts_text l.stamps (take l.post-index l.posts)
