@@ -5,6 +5,7 @@ use Rattle.world_core.specs.declared.event.Event.TheVariants as event
 use Rattle.world_core.specs.declared.event.ControllerEvent.TheVariants as of_controller
 use Rattle.world_core.specs.declared.event.PacketEvent.TheVariants as of_packet
 use Rattle.world_core.specs.Steps.{IsEnabled}
+use Rattle.world_core.specs.Worlds.{WorldValue}
 use Rattle.world_journal.specs.Arriving.{IsLast}
 use Rattle.world_journal.specs.Calls.{Made, Arrives, IsBarred, Returns}
 use Rattle.world_journal.specs.Journals.{events_of, name_of, session}
@@ -28,12 +29,12 @@ HopsOn w old new Step = (old.closed ≡ false) × ((k : ℕ) × Made w (event.Pa
 HopsOn w old new Nothing = (old.closed ≡ false) × ((k : ℕ) → ¬ IsEnabled old.held.world (event.Packet (of_packet.Hop k))) × (new ≡ old)
 HopsOn w old new Stop = (old.closed ≡ true) × (new ≡ old)
 
--- an update begins, or something is told of a drain
-abbrev pub IsUpdate : Event → Type 0
-IsUpdate (event.Controller of_controller.Begin) = Unit {0}
-IsUpdate (event.Controller (of_controller.Drained stamp)) = Unit {0}
-IsUpdate (event.Packet (of_packet.Stuck k)) = Unit {0}
-IsUpdate _ = ⊥
+-- In this world an update begins, or something is told of a drain: that a copy is stuck only if no update can begin.
+abbrev pub IsUpdate : WorldValue → Event → Type 0
+IsUpdate w (event.Controller of_controller.Begin) = Unit {0}
+IsUpdate w (event.Controller (of_controller.Drained stamp)) = Unit {0}
+IsUpdate w (event.Packet (of_packet.Stuck k)) = ¬ IsEnabled w (event.Controller of_controller.Begin)
+IsUpdate w _ = ⊥
 
 -- Switch s is to return: it is away, and not all updates are done.
 abbrev pub IsMissing : {E : Type 0} → ℕ → RunValue E → Type 0
@@ -51,9 +52,9 @@ NoneMissing n run = (s : ℕ) → s < n → ¬ IsMissing s run
 
 -- A switch is to return; or none is and such a step is made, or none can be made now; or the run was closed or is over.
 abbrev pub Updates : {E : Type 0} → ℕ → ℕ → List Line → RunValue E → RunValue E → Update → Type 0
-Updates n w lines old new update.Step = (¬ HasEnded lines old) × NoneMissing n old × ((e : Event) × IsUpdate e × Made w e old new)
+Updates n w lines old new update.Step = (¬ HasEnded lines old) × NoneMissing n old × ((e : Event) × IsUpdate old.held.world e × Made w e old new)
 Updates n w lines old new (update.Absent a) = (¬ HasEnded lines old) × IsAbsence n old a × (new ≡ old)
-Updates n w lines old new update.Nothing = (¬ HasEnded lines old) × NoneMissing n old × ((e : Event) → IsUpdate e → ¬ IsEnabled old.held.world e) × (new ≡ old)
+Updates n w lines old new update.Nothing = (¬ HasEnded lines old) × NoneMissing n old × ((e : Event) → IsUpdate old.held.world e → ¬ IsEnabled old.held.world e) × (new ≡ old)
 Updates n w lines old new update.Stop = HasEnded lines old × (new ≡ old)
 
 -- The switch of an absence returns over a pair; or it is not to return any more; or the run was closed.

@@ -152,9 +152,9 @@ fn first_stuck(world: &World) -> Option<usize>
 
 // What the caller may do now.
 fn next_update(world: &World) -> Option<Event>
-    ensures update { IfSome result IsUpdate }
+    ensures update { IfSome result (λ e. IsUpdate world.now e) }
     ensures some { IfSome result (λ e. IsEnabled world.now e) }
-    ensures none { IfNone result ((e : EventValue) → IsUpdate e → ¬ IsEnabled world.now e) }
+    ensures none { IfNone result ((e : EventValue) → IsUpdate world.now e → ¬ IsEnabled world.now e) }
 {
     if world.enabled(&Event::Controller(ControllerEvent::Begin)) {
         return Some(Event::Controller(ControllerEvent::Begin));
