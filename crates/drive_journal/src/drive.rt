@@ -13,11 +13,20 @@ use std::marker::Model;
 use update_coordinator::Coordinator;
 
 /// A journal with its coordinator, whether the drive was closed, and the answers that are still to be sent.
-#[derive(Drop)]
 pub struct Drive<L: DriveName, E: Link, Q: Receipt> {
     pub(crate) held: Steered<L, E, Q>,
     pub(crate) closed: bool,
     echoes: Vec<Option<Message>>,
+}
+
+impl<L: DriveName, E: Link, Q: Receipt> Drop for Drive<L, E, Q> {
+    fn drop(self) {
+        let Drive {
+            held: _held,
+            closed: _closed,
+            echoes: _echoes,
+        } = self;
+    }
 }
 
 impl<L: DriveName, E: Link, Q: Receipt> Model for Drive<L, E, Q> {

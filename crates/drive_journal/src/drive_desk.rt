@@ -20,12 +20,22 @@ use std::time::{Clock, Duration};
 /// up, until a phase begins. After a second it is to receive for a moment, so that it hears what its switch sends unasked.
 /// After a message that nobody asked for it is to receive once more before it waits, so a switch that sends much is heard
 /// without a pause.
-#[derive(Drop)]
 pub struct DriveDesk<R, L: DriveName, E: Link, Q: Receipt> {
     pub(crate) rt: R,
     pub(crate) alloc: Global,
     pub(crate) drive: Arc<Mutex<Option<Drive<L, E, Q>>>>,
     pub(crate) bell: Arc<Condvar>,
+}
+
+impl<R: Drop, L: DriveName, E: Link, Q: Receipt> Drop for DriveDesk<R, L, E, Q> {
+    fn drop(self) {
+        let DriveDesk {
+            rt: _rt,
+            alloc: _alloc,
+            drive: _drive,
+            bell: _bell,
+        } = self;
+    }
 }
 
 // How long a worker with nothing to do waits, in milliseconds.

@@ -16,9 +16,14 @@ use std::rc::Rc;
 /// The assignments of one copy, each field at most once, in field order. Clauses see the list of them.
 ///
 /// They are shared with those that are copied of them, since many leaves have the same copies.
-#[derive(Drop)]
 pub struct Assignments {
     lits: Rc<SmallVec<Lit, 4>>,
+}
+
+impl Drop for Assignments {
+    fn drop(self) {
+        let Assignments { lits: _lits } = self;
+    }
 }
 
 impl Model for Assignments {

@@ -11,11 +11,16 @@ use nk_values::Packet;
 use std::alloc::{AllocError, Global};
 
 /// A diagram whose tests are ordered by field and then by value, and that names at most 4,000 values.
-#[derive(Drop)]
 pub struct Fdd {
     root: Node,
     pub ghost few: { IsFew (tree root) },
     pub ghost ordered: { IsOrdered (tree root) } by { IsOrderedFrom-prop (tree root) 0 },
+}
+
+impl Drop for Fdd {
+    fn drop(self) {
+        let Fdd { root: _root } = self;
+    }
 }
 
 impl Fdd {
@@ -44,7 +49,8 @@ impl Fdd {
     pub fn into_root(self) -> Node
         ensures { tree result ≡ tree_of self }
     {
-        self.root
+        let Fdd { root } = self;
+        root
     }
 
     /// The same diagram again.

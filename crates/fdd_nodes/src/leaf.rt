@@ -15,9 +15,14 @@ use std::hash::{Hash, Hasher};
 use std::marker::Model;
 
 /// The copies of a leaf, each once, in rising order. Clauses see the list of them.
-#[derive(Drop)]
 pub struct Leaf {
     copies: Vec<Assignments>,
+}
+
+impl Drop for Leaf {
+    fn drop(self) {
+        let Leaf { copies: _copies } = self;
+    }
 }
 
 impl Model for Leaf {

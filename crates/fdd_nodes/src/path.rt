@@ -11,11 +11,20 @@ use std::marker::Model;
 
 /// A path of a diagram: the tests on it that hold, and those that don't, each in the order of the path, and the cell
 /// that those that hold fix. Clauses see the two lists.
-#[derive(Drop)]
 pub struct Path {
     trues: Vec<Lit>,
     falses: Vec<Lit>,
     cell: Cell,
+}
+
+impl Drop for Path {
+    fn drop(self) {
+        let Path {
+            trues: _trues,
+            falses: _falses,
+            cell: _cell,
+        } = self;
+    }
 }
 
 impl Model for Path {

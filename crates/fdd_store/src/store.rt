@@ -29,12 +29,22 @@ use std::rc::Rc;
 /// Diagrams that share their parts: each node and each leaf is kept once, and so is each result of an operation.
 ///
 /// All of them are ordered and reduced, so each of them is the only one that answers as it does.
-#[derive(Drop)]
 pub struct Store {
     shapes: IndexSet<Shape>,
     known: IndexMap<Call, Id>,
     entries: Vec<Entry>,
     copies: SharedCopies,
+}
+
+impl Drop for Store {
+    fn drop(self) {
+        let Store {
+            shapes: _shapes,
+            known: _known,
+            entries: _entries,
+            copies: _copies,
+        } = self;
+    }
 }
 
 impl Model for Store {

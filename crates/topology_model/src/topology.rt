@@ -19,13 +19,22 @@ use std::marker::Model;
 
 /// Switches with their ports, and links between ports. Each port lies in at most one link, and some
 /// port in none. Clauses see the switches in declared order, and the links in both directions.
-#[derive(Drop)]
 pub struct Topology {
     draft: Draft,
     // the ports without a link, in declared order
     edges: Vec<End>,
     // how many ports the switches before each one have
     firsts: Vec<usize>,
+}
+
+impl Drop for Topology {
+    fn drop(self) {
+        let Topology {
+            draft: _draft,
+            edges: _edges,
+            firsts: _firsts,
+        } = self;
+    }
 }
 
 impl Model for Topology {

@@ -16,7 +16,6 @@ use update_plan::{Cursor, Span};
 /// policies, and reads each flow mod off them when it is sent. Clauses see the phase, why it is halted, the rows of
 /// each policy, the switches, the replies of the batch, and how many sessions may still be lost without a halt. They
 /// see how many stamps there are if drains overlap, and of how many policies all rows are gone again.
-#[derive(Drop)]
 pub struct Coordinator {
     pub(crate) phase: Phase,
     pub(crate) halt: Option<Cause>,
@@ -35,6 +34,25 @@ pub struct Coordinator {
     pub(crate) overlap: Option<u16>,
     // Of how many policies, from the first on, all rows are gone again.
     pub(crate) swept: usize,
+}
+
+impl Drop for Coordinator {
+    fn drop(self) {
+        let Coordinator {
+            phase: _phase,
+            halt: _halt,
+            versions: _versions,
+            rounds: _rounds,
+            stamps: _stamps,
+            sites: _sites,
+            spans: _spans,
+            cursors: _cursors,
+            replies: _replies,
+            rejoins: _rejoins,
+            overlap: _overlap,
+            swept: _swept,
+        } = self;
+    }
 }
 
 impl Model for Coordinator {

@@ -10,12 +10,22 @@ use world_core::{Event, StepFault, World};
 
 /// A world, the journal that led to it from the start that `L` names, and the ends that were kept for sessions that
 /// were lost or met foreign bytes. As many steps are booked in the ledger as the journal has entries.
-#[derive(Drop)]
 pub struct Held<L: RunName, E: Link> {
     world: World,
     journal: Vec<Entry>,
     ends: Vec<E>,
     book: Book<L>,
+}
+
+impl<L: RunName, E: Link> Drop for Held<L, E> {
+    fn drop(self) {
+        let Held {
+            world: _world,
+            journal: _journal,
+            ends: _ends,
+            book: _book,
+        } = self;
+    }
 }
 
 impl<L: RunName, E: Link> Model for Held<L, E> {

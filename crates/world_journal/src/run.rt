@@ -30,7 +30,6 @@ pub enum RunFault {
 /// A journal with its world; which of the packets that `L` names have come in, each once; whether the run was closed;
 /// and the seats that were laid back. Of each switch it has the number of its present session, how many messages were
 /// told at either side in it, and the new ends that are laid out for its workers.
-#[derive(Drop)]
 pub struct Run<L: RunName, E: Link> {
     pub(crate) held: Held<L, E>,
     lines: Vec<Line>,
@@ -47,6 +46,28 @@ pub struct Run<L: RunName, E: Link> {
     pub(crate) back_told: Vec<u64>,
     pub(crate) to_ends: Vec<Option<E>>,
     pub(crate) back_ends: Vec<Option<E>>,
+}
+
+impl<L: RunName, E: Link> Drop for Run<L, E> {
+    fn drop(self) {
+        let Run {
+            held: _held,
+            lines: _lines,
+            arrived: _arrived,
+            left: _left,
+            closed: _closed,
+            laid: _laid,
+            back: _back,
+            all: _all,
+            to_waits: _to_waits,
+            back_waits: _back_waits,
+            sessions: _sessions,
+            to_told: _to_told,
+            back_told: _back_told,
+            to_ends: _to_ends,
+            back_ends: _back_ends,
+        } = self;
+    }
 }
 
 impl<L: RunName, E: Link> Model for Run<L, E> {

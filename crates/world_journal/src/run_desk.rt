@@ -35,12 +35,22 @@ struct Bells {
 /// A run beside its pen under their one lock, as its workers share them. Each call locks once, and what it answers under
 /// the lock is stated of one function: for `give` that is `given_of`, and so on (`asks`, `asked_moves`). A worker that is
 /// told there is nothing to do waits, with the lock given up, until a step was made that may have changed this.
-#[derive(Drop)]
 pub struct RunDesk<R, L: RunName, P: Poster, E: Link> {
     rt: R,
     alloc: Global,
     run: Arc<Mutex<Option<Watched<L, P, E>>>>,
     bells: Arc<Bells>,
+}
+
+impl<R: Drop, L: RunName, P: Poster, E: Link> Drop for RunDesk<R, L, P, E> {
+    fn drop(self) {
+        let RunDesk {
+            rt: _rt,
+            alloc: _alloc,
+            run: _run,
+            bells: _bells,
+        } = self;
+    }
 }
 
 impl<R: Wait + Drop, L: RunName, P: Poster, E: Link> Desk for RunDesk<R, L, P, E> {

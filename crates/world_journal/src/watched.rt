@@ -16,10 +16,18 @@ use std::marker::Model;
 
 /// A run beside the pen of its board. Each post says where the run stood after as many entries of its journal as it
 /// counts, and the newest counts all of them unless the run was closed.
-#[derive(Drop)]
 pub struct Watched<L: RunName, P: Poster, E: Link> {
     pub(crate) run: Run<L, E>,
     pub(crate) pen: P,
+}
+
+impl<L: RunName, P: Poster, E: Link> Drop for Watched<L, P, E> {
+    fn drop(self) {
+        let Watched {
+            run: _run,
+            pen: _pen,
+        } = self;
+    }
 }
 
 impl<L: RunName, P: Poster, E: Link> Model for Watched<L, P, E> {
