@@ -19,25 +19,36 @@ pub fn packet((sw, pt): (u64, u64), eth_dst: u64) -> Packet {
     Packet { sw, pt, header }
 }
 
-// A history through these ports, oldest first.
-pub fn history(alloc: Global, ports: &[(u64, u64)]) -> Result<History, AllocError> {
-    let mut history = History::new(packet((1, 1), 0));
-    for port in ports {
+// Goes on with these packets, oldest first.
+fn go_on(alloc: Global, history: &mut History, packets: &[Packet]) -> Result<(), AllocError> {
+    for packet in packets {
         history.double(alloc)?;
-        history.set_newest(packet(*port, 0));
+        history.set_newest(*packet);
     }
+    Ok(())
+}
+
+// A history from port 1 of switch 1 through these packets.
+pub fn history(alloc: Global, packets: &[Packet]) -> Result<History, AllocError> {
+    let mut history = History::new(packet((1, 1), 0));
+    go_on(alloc, &mut history, packets)?;
     Ok(history)
 }
 
-// Whether the text of a history is this one.
-fn tells(alloc: Global, history: &History, text: &str) -> Result<bool, AllocError> {
+// Whether the text of such a history is this one.
+fn tells(alloc: Global, packets: &[Packet], text: &str) -> Result<bool, AllocError> {
+    let history = history(alloc, packets)?;
+    has_text(alloc, &history, text)
+}
+
+fn has_text(alloc: Global, history: &History, text: &str) -> Result<bool, AllocError> {
     Ok(history_text(alloc, history)?.as_str() == text)
 }
 
 #[test]
 fn histories(rt: HostRuntime) -> Result<(), Fail> {
-    let history = history(rt.alloc(), &[(1, 2), (2, 1)])?;
-    assert!(rt; tells(rt.alloc(), &history, "1:1>1:2>2:1")?);
+    let packets = [packet((1, 2), 0), packet((2, 1), 0)];
+    assert!(rt; tells(rt.alloc(), &packets, "1:1>1:2>2:1")?);
     Ok(())
 }
 
@@ -52,11 +63,9 @@ fn changed() -> Packet {
 
 #[test]
 fn fields_that_changed(rt: HostRuntime) -> Result<(), Fail> {
-    let mut history = history(rt.alloc(), &[(1, 2), (2, 1)])?;
-    history.double(rt.alloc())?;
-    history.set_newest(changed());
+    let packets = [packet((1, 2), 0), packet((2, 1), 0), changed()];
     let text =
         "1:1>1:2>2:1>2:2{ethTyp=0x86dd,ethDst=12:34:56:78:9a:bc,ip4Dst=10.0.1.255,tcpDstPort=80}";
-    assert!(rt; tells(rt.alloc(), &history, text)?);
+    assert!(rt; tells(rt.alloc(), &packets, text)?);
     Ok(())
 }

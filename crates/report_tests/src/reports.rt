@@ -3,7 +3,7 @@ use crate::histories::{history, packet};
 use flight_queues::Flights;
 use nk_values::Tag;
 use openflow_wire::Octets;
-use report_text::{Standing, UpdateState, report_text};
+use report_text::{Standing, Text, UpdateState, report_text};
 use session_core::SessionFault;
 use std::alloc::{AllocError, Global};
 use std::test::Fail;
@@ -11,127 +11,187 @@ use topology_model::{Ports, Site};
 use update_coordinator::{Cause, Phase, Side};
 use world_core::{ControllerEvent, Event, PacketEvent, SwitchEvent};
 
-const EVENTS: &str =
-    "e begin\ne send 1\ne take 7\ne apply 1 2\ne reply 7\ne heard 1\ne arrive 1:2 vlan=none ethTyp=0x0800 ipProto=0 ethSrc=00:00:00:00:00:00 ethDst=00:00:00:00:00:05 ip4Src=0.0.0.0 ip4Dst=0.0.0.0 tcpSrcPort=0 tcpDstPort=0\ne hop 3\ne drained 1\ne lost 7\ne stuck 4\ne foreign 1 controller\ne foreign 7 switch\nphase idle 2\n";
+// Events of each kind at switches 1 and 7.
+const CONTROLLER: [ControllerEvent; 6] = [
+    ControllerEvent::Begin,
+    ControllerEvent::Send(0),
+    ControllerEvent::Heard(0),
+    ControllerEvent::Drained(1),
+    ControllerEvent::Lost(1),
+    ControllerEvent::Rejoin(1),
+];
 
-// Switches 1 and 7.
-fn switches(alloc: Global) -> Result<Vec<Site>, AllocError> {
-    let mut switches = Vec::new(alloc);
-    for sw in [1, 7] {
-        let ports = Ports::of(vec![in alloc; 1, 2]?);
-        switches.push(Site { sw, ports })?;
-    }
-    Ok(switches)
+const SWITCH: [SwitchEvent; 3] = [
+    SwitchEvent::Take(1),
+    SwitchEvent::Apply(0, 2),
+    SwitchEvent::Reply(1),
+];
+
+const EVENTS: &str =
+    "e begin\ne send 1\ne heard 1\ne drained 1\ne lost 7\ne rejoin 7\ne take 7\ne apply 1 2\ne reply 7\ne arrive 1:2 vlan=none ethTyp=0x0800 ipProto=0 ethSrc=00:00:00:00:00:00 ethDst=00:00:00:00:00:05 ip4Src=0.0.0.0 ip4Dst=0.0.0.0 tcpSrcPort=0 tcpDstPort=0\ne hop 3\ne stuck 4\ne foreign 1 controller\ne foreign 7 switch\nphase idle 2\n";
+
+// Puts a switch of two ports at the end.
+fn push_switch(alloc: Global, switches: &mut Vec<Site>, sw: u16) -> Result<(), AllocError> {
+    let ports = Ports::of(vec![in alloc; 1, 2]?);
+    switches.push(Site { sw, ports })?;
+    Ok(())
 }
 
-// Each kind of event.
-fn events(alloc: Global) -> Result<Vec<Event>, AllocError> {
+fn push_switches(alloc: Global, switches: &mut Vec<Site>) -> Result<(), AllocError> {
+    push_switch(alloc, switches, 1)?;
+    push_switch(alloc, switches, 7)
+}
+
+// Puts bytes from nobody at the end.
+fn push_foreign(
+    alloc: Global,
+    events: &mut Vec<Event>,
+    place: usize,
+    side: Side,
+) -> Result<(), AllocError> {
     let came = Octets::from_slice(alloc, &[1, 2])?;
-    Ok(vec![in alloc;
-        Event::Controller(ControllerEvent::Begin),
-        Event::Controller(ControllerEvent::Send(0)),
-        Event::Switch(SwitchEvent::Take(1)),
-        Event::Switch(SwitchEvent::Apply(0, 2)),
-        Event::Switch(SwitchEvent::Reply(1)),
-        Event::Controller(ControllerEvent::Heard(0)),
-        Event::Packet(PacketEvent::Arrive(packet((1, 2), 5), Tag::none())),
-        Event::Packet(PacketEvent::Hop(3)),
-        Event::Controller(ControllerEvent::Drained(1)),
-        Event::Controller(ControllerEvent::Lost(1)),
-        Event::Packet(PacketEvent::Stuck(4)),
-        Event::Foreign(0, Side::Controller, came.copy(alloc)?),
-        Event::Foreign(1, Side::Switch, came),
-    ]?)
+    events.push(Event::Foreign(place, side, came))?;
+    Ok(())
+}
+
+fn push_events(alloc: Global, events: &mut Vec<Event>) -> Result<(), AllocError> {
+    for event in CONTROLLER {
+        events.push(Event::Controller(event))?;
+    }
+    for event in SWITCH {
+        events.push(Event::Switch(event))?;
+    }
+    let arrival = PacketEvent::Arrive(packet((1, 2), 5), Tag::none());
+    for event in [arrival, PacketEvent::Hop(3), PacketEvent::Stuck(4)] {
+        events.push(Event::Packet(event))?;
+    }
+    push_foreign(alloc, events, 0, Side::Controller)?;
+    push_foreign(alloc, events, 1, Side::Switch)
+}
+
+// Whether it was told so.
+fn is(told: Result<Text, AllocError>, text: &str) -> Result<bool, AllocError> {
+    Ok(told?.as_str() == text)
 }
 
 // The report of these events where no packet came in.
-fn report(
+fn report_over(
     alloc: Global,
+    switches: &[Site],
+    flights: &Flights,
     (phase, halt): (Phase, Option<&Cause>),
     events: &[Event],
-    text: &str,
-) -> Result<bool, AllocError> {
-    let switches = switches(alloc)?;
-    let flights = Flights::new(alloc);
+) -> Result<Text, AllocError> {
     let standing = Standing {
-        switches: &switches,
+        switches,
         updates: UpdateState {
             phase,
             stamps: &[],
             draining: &[],
             halt,
         },
-        flights: &flights,
+        flights,
         arrivals: &[],
     };
-    Ok(report_text(alloc, &standing, events)?.as_str() == text)
+    report_text(alloc, &standing, events)
+}
+
+// Whether that report is this text.
+fn report(
+    alloc: Global,
+    state: (Phase, Option<&Cause>),
+    events: &[Event],
+    text: &str,
+) -> Result<bool, AllocError> {
+    let mut switches = Vec::new(alloc);
+    push_switches(alloc, &mut switches)?;
+    let flights = Flights::new(alloc);
+    is(report_over(alloc, &switches, &flights, state, events), text)
+}
+
+// Whether each kind of event is told.
+fn tells_events(alloc: Global) -> Result<bool, AllocError> {
+    let mut events = Vec::new(alloc);
+    push_events(alloc, &mut events)?;
+    report(alloc, (Phase::Idle(2), None), &events, EVENTS)
 }
 
 #[test]
 fn events_of_each_kind(rt: HostRuntime) -> Result<(), Fail> {
-    let events = events(rt.alloc())?;
-    assert!(rt; report(rt.alloc(), (Phase::Idle(2), None), &events, EVENTS)?);
+    assert!(rt; tells_events(rt.alloc())?);
     Ok(())
 }
 
 // Whether an update that is halted for this cause is told so.
-fn tells(alloc: Global, phase: Phase, cause: &Cause, text: &str) -> Result<bool, AllocError> {
-    report(alloc, (phase, Some(cause)), &[], text)
+fn tells(alloc: Global, phase: Phase, cause: Cause, text: &str) -> Result<bool, AllocError> {
+    report(alloc, (phase, Some(&cause)), &[], text)
 }
 
 #[test]
 fn lost_in_a_flip(rt: HostRuntime) -> Result<(), Fail> {
     let text = "phase flip 2 1\nhalted switch 7 lost\n";
-    assert!(rt; tells(rt.alloc(), Phase::Flip(2, 1), &Cause::Lost(7), text)?);
+    assert!(rt; tells(rt.alloc(), Phase::Flip(2, 1), Cause::Lost(7), text)?);
     Ok(())
+}
+
+// Whether a switch's session that failed is told so.
+fn tells_failed(
+    alloc: Global,
+    phase: Phase,
+    (sw, fault): (u16, SessionFault),
+    text: &str,
+) -> Result<bool, AllocError> {
+    tells(alloc, phase, Cause::Failed(sw, fault), text)
 }
 
 #[test]
 fn failed_sessions(rt: HostRuntime) -> Result<(), Fail> {
-    let full = Cause::Failed(1, SessionFault::SwitchError { form: 3, code: 0 });
+    let full = SessionFault::SwitchError { form: 3, code: 0 };
     let text = "phase install 2\nhalted switch 1 error 3 0\n";
-    assert!(rt; tells(rt.alloc(), Phase::Install(2), &full, text)?);
-    let old = Cause::Failed(1, SessionFault::Incompatible);
+    assert!(rt; tells_failed(rt.alloc(), Phase::Install(2), (1, full), text)?);
+    let old = SessionFault::Incompatible;
     let text = "phase opening\nhalted switch 1 incompatible\n";
-    assert!(rt; tells(rt.alloc(), Phase::Opening, &old, text)?);
-    let other = Cause::Failed(
-        2,
-        SessionFault::WrongSwitch {
-            expected: 2,
-            got: 3,
-        },
-    );
+    assert!(rt; tells_failed(rt.alloc(), Phase::Opening, (1, old), text)?);
+    let other = SessionFault::WrongSwitch {
+        expected: 2,
+        got: 3,
+    };
     let text = "phase opening\nhalted switch 2 identity 2 3\n";
-    assert!(rt; tells(rt.alloc(), Phase::Opening, &other, text)?);
+    assert!(rt; tells_failed(rt.alloc(), Phase::Opening, (2, other), text)?);
     Ok(())
 }
 
-// Bytes that came to a side of switch 7's channel, where these were due.
-fn foreign(alloc: Global, side: Side, expected: Option<Octets>) -> Result<Cause, AllocError> {
-    Ok(Cause::Foreign {
+// Whether bytes that came to a side of switch 7's channel are told so, where these were due.
+fn tells_foreign(
+    alloc: Global,
+    side: Side,
+    expected: Option<Octets>,
+    text: &str,
+) -> Result<bool, AllocError> {
+    let got = Octets::from_slice(alloc, &[0x01, 0x2f])?;
+    let cause = Cause::Foreign {
         sw: 7,
         side,
         expected,
-        got: Octets::from_slice(alloc, &[0x01, 0x2f])?,
-    })
+        got,
+    };
+    tells(alloc, Phase::Clean(3), cause, text)
 }
 
 #[test]
 fn foreign_bytes(rt: HostRuntime) -> Result<(), Fail> {
     let due = Octets::from_slice(rt.alloc(), &[0xab, 0x00])?;
-    let cause = foreign(rt.alloc(), Side::Controller, Some(due))?;
     let text = "phase clean 3\nhalted switch 7 foreign controller ab00 012f\n";
-    assert!(rt; tells(rt.alloc(), Phase::Clean(3), &cause, text)?);
-    let cause = foreign(rt.alloc(), Side::Switch, None)?;
+    assert!(rt; tells_foreign(rt.alloc(), Side::Controller, Some(due), text)?);
     let text = "phase clean 3\nhalted switch 7 foreign switch none 012f\n";
-    assert!(rt; tells(rt.alloc(), Phase::Clean(3), &cause, text)?);
+    assert!(rt; tells_foreign(rt.alloc(), Side::Switch, None, text)?);
     Ok(())
 }
 
 #[test]
 fn a_copy_that_goes_round(rt: HostRuntime) -> Result<(), Fail> {
-    let cause = Cause::Undrained(history(rt.alloc(), &[(1, 2), (2, 1)])?);
+    let past = history(rt.alloc(), &[packet((1, 2), 0), packet((2, 1), 0)])?;
     let text = "phase drain 2\nhalted undrained 1:1>1:2>2:1\n";
-    assert!(rt; tells(rt.alloc(), Phase::Drain(2), &cause, text)?);
+    assert!(rt; tells(rt.alloc(), Phase::Drain(2), Cause::Undrained(past), text)?);
     Ok(())
 }

@@ -4,7 +4,7 @@ use nk_values::{
     Action, Actions, Band, Pattern, PortKind, PortLists, PortRows, Row, RowList, Rows, UNTAGGED,
 };
 use policy_rows::Version;
-use report_text::rules_text;
+use report_text::{Text, rules_text};
 use std::alloc::{AllocError, Global};
 use std::process::Abort;
 use std::test::Fail;
@@ -13,30 +13,51 @@ use topology_model::{End, Ports, TopoError, TopoLine, Topology};
 const RULES: &str =
     "policy 1 stamp 1 band high\nswitch 1\n36000 in=1 vlan=none : vlan 1, output 2\n56000 in=2 vlan=1 : drop\nswitch 2\n56000 in=1 vlan=1 : strip, output 2\n36000 in=2 vlan=none : drop\npolicy 2 stamp 1 band low\nswitch 1\nswitch 2\n16000 in=1 vlan=none ethTyp=0x0800 ipProto=6 tcpDstPort=80 : output 2, set ethDst 00:00:00:00:00:05, set ip4Src 10.0.0.1, output 3\n";
 
-// Switches 1 and on with ports 1 and 2, and links.
-fn lines(alloc: Global, switches: u16, links: &[(End, End)]) -> Result<Vec<TopoLine>, AllocError> {
-    let mut lines = Vec::new(alloc);
-    for sw in 0..switches {
-        let ports = Ports::of(vec![in alloc; 1, 2]?);
-        lines.push(TopoLine::Switch {
-            sw: sw.saturating_add(1),
-            ports,
-        })?;
-    }
-    for (a, b) in links {
-        lines.push(TopoLine::Link { a: *a, b: *b })?;
-    }
-    Ok(lines)
+// Puts a switch with ports 1 and 2 at the end.
+fn push_switch(alloc: Global, lines: &mut Vec<TopoLine>, sw: u16) -> Result<(), AllocError> {
+    let ports = Ports::of(vec![in alloc; 1, 2]?);
+    lines.push(TopoLine::Switch { sw, ports })?;
+    Ok(())
 }
 
+// Switches from 1 on with ports 1 and 2.
+fn push_switches(
+    alloc: Global,
+    lines: &mut Vec<TopoLine>,
+    switches: u16,
+) -> Result<(), AllocError> {
+    for place in 0..switches {
+        push_switch(alloc, lines, place.saturating_add(1))?;
+    }
+    Ok(())
+}
+
+/// Switches from 1 on with ports 1 and 2, and no links.
 pub(crate) fn topology(
     rt: &impl Abort,
     alloc: Global,
     switches: u16,
 ) -> Result<Topology, TopoError> {
-    let lines = lines(alloc, switches, &[])?;
+    let mut lines = Vec::new(alloc);
+    push_switches(alloc, &mut lines, switches)?;
     assert!(rt; lines.iter().all(|line| line.is_in_range()));
     Topology::build(alloc, &lines)
+}
+
+// These actions.
+fn actions_of(alloc: Global, list: &[Action]) -> Result<Actions, AllocError> {
+    let mut actions = Actions::new(alloc);
+    for action in list {
+        actions.push(*action)?;
+    }
+    Ok(actions)
+}
+
+// A list of one row.
+fn one_row(alloc: Global, row: Row) -> Result<RowList, AllocError> {
+    let mut rows = RowList::new(alloc);
+    rows.push(row)?;
+    Ok(rows)
 }
 
 // One row for a port of a switch.
@@ -47,23 +68,19 @@ fn add_port(
     (pattern, priority): (Pattern, u16),
     list: &[Action],
 ) -> Result<(), AllocError> {
-    let mut actions = Actions::new(alloc);
-    for action in list {
-        actions.push(*action)?;
-    }
-    let mut rows = RowList::new(alloc);
-    rows.push(Row {
+    let actions = actions_of(alloc, list)?;
+    let row = Row {
         pattern,
         priority,
         actions,
-    })?;
+    };
+    let rows = one_row(alloc, row)?;
     ports.push(PortRows {
         sw,
         pt,
         kind: PortKind::Edge,
         rows,
-    })?;
-    Ok(())
+    })
 }
 
 fn version(band: Band, ports: PortLists) -> Version {
@@ -85,19 +102,17 @@ fn at(port: u16, vlan: u16) -> Pattern {
 }
 
 // Rows at two switches that put a stamp on and take it off.
-fn stamped(alloc: Global) -> Result<Version, AllocError> {
-    let mut ports = PortLists::new(alloc);
+fn add_stamped(alloc: Global, ports: &mut PortLists) -> Result<(), AllocError> {
     let sends = [Action::SetVlanVid(1), Action::Output(2)];
-    add_port(alloc, &mut ports, (1, 1), (at(1, UNTAGGED), 36000), &sends)?;
-    add_port(alloc, &mut ports, (1, 2), (at(2, 1), 56000), &[])?;
+    add_port(alloc, ports, (1, 1), (at(1, UNTAGGED), 36000), &sends)?;
+    add_port(alloc, ports, (1, 2), (at(2, 1), 56000), &[])?;
     let leaves = [Action::StripVlan, Action::Output(2)];
-    add_port(alloc, &mut ports, (2, 1), (at(1, 1), 56000), &leaves)?;
-    add_port(alloc, &mut ports, (2, 2), (at(2, UNTAGGED), 36000), &[])?;
-    Ok(version(Band::High, ports))
+    add_port(alloc, ports, (2, 1), (at(1, 1), 56000), &leaves)?;
+    add_port(alloc, ports, (2, 2), (at(2, UNTAGGED), 36000), &[])
 }
 
 // One row that asks for web requests and changes them.
-fn web(alloc: Global) -> Result<Version, AllocError> {
+fn add_web(alloc: Global, ports: &mut PortLists) -> Result<(), AllocError> {
     let sets = [
         Action::Output(2),
         Action::SetDlDst(5),
@@ -110,22 +125,45 @@ fn web(alloc: Global) -> Result<Version, AllocError> {
         tp_dst: Some(80),
         ..at(1, UNTAGGED)
     };
+    add_port(alloc, ports, (2, 1), (tcp, 16000), &sets)
+}
+
+fn stamped(alloc: Global) -> Result<Version, AllocError> {
     let mut ports = PortLists::new(alloc);
-    add_port(alloc, &mut ports, (2, 1), (tcp, 16000), &sets)?;
+    add_stamped(alloc, &mut ports)?;
+    Ok(version(Band::High, ports))
+}
+
+fn web(alloc: Global) -> Result<Version, AllocError> {
+    let mut ports = PortLists::new(alloc);
+    add_web(alloc, &mut ports)?;
     Ok(version(Band::Low, ports))
 }
 
-fn versions(alloc: Global) -> Result<Vec<Version>, AllocError> {
-    let mut versions = Vec::new(alloc);
+fn push_versions(alloc: Global, versions: &mut Vec<Version>) -> Result<(), AllocError> {
     versions.push(stamped(alloc)?)?;
     versions.push(web(alloc)?)?;
-    Ok(versions)
+    Ok(())
+}
+
+fn text_of(alloc: Global, two: &Topology) -> Result<Text, AllocError> {
+    let mut versions = Vec::new(alloc);
+    push_versions(alloc, &mut versions)?;
+    rules_text(alloc, &versions, two)
+}
+
+// Whether the rows of both policies have this text.
+fn tell(rt: &impl Abort, alloc: Global, text: &str) -> Result<bool, TopoError> {
+    let two = topology(rt, alloc, 2)?;
+    Ok(is(text_of(alloc, &two), text))
+}
+
+fn is(told: Result<Text, AllocError>, text: &str) -> bool {
+    told.is_ok_and(|told| told.as_str() == text)
 }
 
 #[test]
 fn rules(rt: HostRuntime) -> Result<(), Fail> {
-    let two = topology(&rt, rt.alloc(), 2)?;
-    let versions = versions(rt.alloc())?;
-    assert_eq!(rt; rules_text(rt.alloc(), &versions, &two)?.as_str(), RULES);
+    assert!(rt; tell(&rt, rt.alloc(), RULES)?);
     Ok(())
 }

@@ -5,8 +5,9 @@ use crate::rules::topology;
 use openflow_wire::Octets;
 use report_text::world_report;
 use std::alloc::{AllocError, Global};
+use std::process::Abort;
 use std::test::Fail;
-use topology_model::Topology;
+use topology_model::{TopoError, Topology};
 use update_coordinator::Side;
 use world_core::{ControllerEvent, Event, Settings, World};
 
@@ -36,75 +37,91 @@ fn step(alloc: Global, world: &mut World, events: &mut Vec<Event>, event: Event)
     world.enabled(&event) && world.step(alloc, &event).is_ok() && events.push(event).is_ok()
 }
 
+// The same for an event of the controller.
+fn does(alloc: Global, world: &mut World, events: &mut Vec<Event>, event: ControllerEvent) -> bool {
+    step(alloc, world, events, Event::Controller(event))
+}
+
+// Whether an event of the controller can happen.
+fn may(world: &World, event: ControllerEvent) -> bool {
+    world.enabled(&Event::Controller(event))
+}
+
+// Whether that is the report.
+fn tells(alloc: Global, world: &World, events: &[Event], text: &str) -> bool {
+    world_report(alloc, world, events).is_ok_and(|told| told.as_str() == text)
+}
+
+// Bytes come from outside, once.
+fn foreign(alloc: Global, world: &mut World, events: &mut Vec<Event>) -> bool {
+    let Ok(came) = Octets::from_slice(alloc, &[0x01, 0x2f]) else {
+        return false;
+    };
+    step(
+        alloc,
+        world,
+        events,
+        Event::Foreign(0, Side::Controller, came),
+    ) && events.first().is_some_and(|event| !world.enabled(event))
+        && tells(alloc, world, events, REPORT)
+}
+
+// Does all that can happen, and notes it.
+fn settle(alloc: Global, world: &mut World, events: &mut Vec<Event>) -> bool {
+    let Ok(settled) = world.settle(alloc) else {
+        return false;
+    };
+    for event in settled {
+        if events.push(event).is_err() {
+            return false;
+        }
+    }
+    true
+}
+
+// The switch is lost in its handshake and returns, and then lost once more.
+fn returns(alloc: Global, world: &mut World, events: &mut Vec<Event>) -> bool {
+    does(alloc, world, events, ControllerEvent::Heard(0))
+        && does(alloc, world, events, ControllerEvent::Send(0))
+        && !may(world, ControllerEvent::Rejoin(0))
+        && does(alloc, world, events, ControllerEvent::Lost(0))
+        && !may(world, ControllerEvent::Lost(0))
+        && !may(world, ControllerEvent::Send(0))
+        && does(alloc, world, events, ControllerEvent::Rejoin(0))
+        && settle(alloc, world, events)
+        && tells(alloc, world, events, RETURNED)
+        && does(alloc, world, events, ControllerEvent::Lost(0))
+        && world.coordinator().halt().is_some()
+}
+
+// What happens.
+#[derive(Clone, Copy)]
+enum Course {
+    Foreign,
+    Returns,
+}
+
+// Whether all goes as it must in a world of one switch, of which this number of sessions may be lost.
+fn goes(rt: &impl Abort, alloc: Global, rejoins: usize, course: Course) -> Result<bool, TopoError>
+    requires { rejoins ≤ 1000 }
+{
+    let one = topology(rt, alloc, 1)?;
+    let mut world = empty(alloc, one, rejoins)?;
+    let mut events = Vec::new(alloc);
+    Ok(match course {
+        Course::Foreign => foreign(alloc, &mut world, &mut events),
+        Course::Returns => returns(alloc, &mut world, &mut events),
+    })
+}
+
 #[test]
 fn foreign_bytes(rt: HostRuntime) -> Result<(), Fail> {
-    let one = topology(&rt, rt.alloc(), 1)?;
-    let mut world = empty(rt.alloc(), one, 0)?;
-    let came = Octets::from_slice(rt.alloc(), &[0x01, 0x2f])?;
-    let event = Event::Foreign(0, Side::Controller, came);
-    assert!(rt; world.enabled(&event));
-    assert!(rt; world.step(rt.alloc(), &event).is_ok());
-    assert!(rt; !world.enabled(&event));
-    let text = world_report(rt.alloc(), &world, &[event])?;
-    assert_eq!(rt; text.as_str(), REPORT);
+    assert!(rt; goes(&rt, rt.alloc(), 0, Course::Foreign)?);
     Ok(())
 }
 
 #[test]
 fn a_lost_switch_returns(rt: HostRuntime) -> Result<(), Fail> {
-    let one = topology(&rt, rt.alloc(), 1)?;
-    let mut world = empty(rt.alloc(), one, 1)?;
-    let mut events = Vec::new(rt.alloc());
-    assert!(rt;
-        step(
-            rt.alloc(),
-            &mut world,
-            &mut events,
-            Event::Controller(ControllerEvent::Heard(0))
-        )
-    );
-    assert!(rt;
-        step(
-            rt.alloc(),
-            &mut world,
-            &mut events,
-            Event::Controller(ControllerEvent::Send(0))
-        )
-    );
-    assert!(rt; !world.enabled(&Event::Controller(ControllerEvent::Rejoin(0))));
-    assert!(rt;
-        step(
-            rt.alloc(),
-            &mut world,
-            &mut events,
-            Event::Controller(ControllerEvent::Lost(0))
-        )
-    );
-    assert!(rt;
-        !world.enabled(&Event::Controller(ControllerEvent::Lost(0)))
-            && !world.enabled(&Event::Controller(ControllerEvent::Send(0)))
-    );
-    assert!(rt;
-        step(
-            rt.alloc(),
-            &mut world,
-            &mut events,
-            Event::Controller(ControllerEvent::Rejoin(0))
-        )
-    );
-    for event in world.settle(rt.alloc())? {
-        events.push(event)?;
-    }
-    let text = world_report(rt.alloc(), &world, &events)?;
-    assert_eq!(rt; text.as_str(), RETURNED);
-    assert!(rt;
-        step(
-            rt.alloc(),
-            &mut world,
-            &mut events,
-            Event::Controller(ControllerEvent::Lost(0))
-        )
-    );
-    assert!(rt; world.coordinator().halt().is_some());
+    assert!(rt; goes(&rt, rt.alloc(), 1, Course::Returns)?);
     Ok(())
 }
