@@ -1,17 +1,21 @@
 // One case: the words, the document, and what is to fail.
+use crate::calls::{Failing, Outcome, call, call_plain};
 use crate::expanding::push_expanded;
-use controller_program::{Status, nkctl_plain};
-use outside_io::{MemorySink, MemorySource};
+use crate::holding::Holding;
+use crate::shown::{shown, shown_run};
+use crate::trouble::trouble_of;
 use std::alloc::{AllocError, Global};
+use std::sync::{Arc, Wait};
+use std::thread::Threads;
+use std::time::Clock;
 
 /// A case, with its head line as it stands.
 #[derive(Drop)]
 pub struct Case {
     head: String,
     words: Vec<String>,
-    piece: usize,
-    reads: Vec<u64>,
-    writes: Vec<u64>,
+    has_threads: bool,
+    failing: Failing,
     document: String,
 }
 
@@ -21,29 +25,42 @@ impl Case {
         let mut case = Case {
             head: head.to_string(alloc)?,
             words: Vec::new(alloc),
-            piece: usize::MAX,
-            reads: Vec::new(alloc),
-            writes: Vec::new(alloc),
+            has_threads: true,
+            failing: Failing::nothing(alloc),
             document: String::new(alloc),
         };
-        let (words, rest) = head.split_once(",").unwrap_or((head, ""));
-        for word in words.split_ascii_whitespace() {
-            case.words.push(word.to_string(alloc)?)?;
-        }
-        for part in rest.split(",") {
-            case.take_part(part.trim())?;
-        }
+        case.take_head(alloc, head)?;
         Ok(case)
     }
 
+    // Takes the words of a head line, and what is to fail.
+    fn take_head(&mut self, alloc: Global, head: &str) -> Result<(), AllocError> {
+        let (words, rest) = head.split_once(",").unwrap_or((head, ""));
+        for word in words.split_ascii_whitespace() {
+            self.words.push(word.to_string(alloc)?)?;
+        }
+        for part in rest.split(",") {
+            self.take_part(alloc, part.trim())?;
+        }
+        Ok(())
+    }
+
     // Takes what is to fail.
-    fn take_part(&mut self, part: &str) -> Result<(), AllocError> {
+    fn take_part(&mut self, alloc: Global, part: &str) -> Result<(), AllocError> {
         if let Some(most) = part.strip_prefix("pieces of ") {
-            self.piece = most.parse::<usize>().unwrap_or(1);
+            self.failing.piece = most.parse::<usize>().unwrap_or(1);
         } else if let Some(number) = call_of(part, "read ") {
-            self.reads.push(number)?;
+            self.failing.reads.push(number)?;
         } else if let Some(number) = call_of(part, "write ") {
-            self.writes.push(number)?;
+            self.failing.writes.push(number)?;
+        } else if let Some(number) = call_of(part, "pair ") {
+            self.failing.pairs.push(number)?;
+        } else if let Some(number) = call_of(part, "thread ") {
+            self.failing.threads.push(number)?;
+        } else if part == "no threads" {
+            self.has_threads = false;
+        } else if let Some(trouble) = trouble_of(alloc, part)? {
+            self.failing.links.push(trouble)?;
         }
         Ok(())
     }
@@ -58,15 +75,35 @@ impl Case {
         push_expanded(alloc, &mut self.document, line)
     }
 
-    /// How the call ends, and what it writes.
-    pub fn run(&self, alloc: Global) -> Result<(Status, Vec<u8>), AllocError> {
-        let bytes = Vec::from_slice(alloc, self.document.as_bytes())?;
-        let reads = Vec::from_slice(alloc, &self.reads)?;
-        let writes = Vec::from_slice(alloc, &self.writes)?;
-        let mut source = MemorySource::new(bytes, self.piece, reads);
-        let mut sink = MemorySink::new(alloc, self.piece, writes);
-        let status = nkctl_plain(alloc, &self.words, &mut source, &mut sink);
-        Ok((status, Vec::from_slice(alloc, sink.bytes())?))
+    // Whether its command is one with threads, and the call may have some.
+    fn runs(&self) -> bool {
+        self.has_threads
+            && self
+                .words
+                .get(1)
+                .is_some_and(|word| word.as_str() == "run" || word.as_str() == "watch")
+    }
+
+    /// How the call ends, and what is to be printed of what it writes.
+    pub fn told<
+        R: Wait + Clock + Threads + AllocGlobal + Copy + Clone + Drop + Send + Sync + 'static,
+    >(self, rt: R) -> Result<String, AllocError> {
+        let alloc = rt.alloc();
+        let runs = self.runs();
+        let Case {
+            head: _head,
+            words,
+            has_threads: _has_threads,
+            failing,
+            document,
+        } = self;
+        if runs {
+            let gate = Arc::new(alloc, Holding::new(rt, None))?;
+            let outcome = call(rt, alloc, &words, &document, failing, gate)?;
+            return shown_run(alloc, &outcome);
+        }
+        let outcome = call_plain(alloc, &words, &document, failing)?;
+        shown(alloc, &outcome)
     }
 }
 

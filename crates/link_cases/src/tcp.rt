@@ -1,5 +1,5 @@
 //! Drives over TCP of this machine.
-use crate::call::drive;
+use crate::call::{call, drive_words};
 use crate::case::Case;
 use crate::fake::Fake;
 use crate::outcome::Outcome;
@@ -41,7 +41,8 @@ pub fn drive_over_tcp<
     let mut fakes = ThreadSpawner::new(alloc, rt);
     start_fakes(rt, alloc, case, first, &mut fakes)?;
     let mut reporter = LineReporter::new(rt);
-    let outcome = drive(rt, case, first, &mut net, &mut reporter)?;
+    let words = drive_words(alloc, first)?;
+    let outcome = call(rt, &words, &case.document, &mut net, &mut reporter)?;
     drop(net);
     drop(reporter);
     fakes.finish();

@@ -1,5 +1,5 @@
 //! Drives in memory.
-use crate::call::drive;
+use crate::call::{call, drive_words};
 use crate::case::Case;
 use crate::fake::Fake;
 use crate::outcome::Outcome;
@@ -20,7 +20,8 @@ pub fn drive_in_memory<
     start_fakes(alloc, case, first, &mut net, &mut fakes)?;
     let failing = [case.failing].to_vec(alloc)?;
     let mut reporter = MemoryReporter::new(case.after, failing);
-    let outcome = drive(rt, case, first, &mut net, &mut reporter)?;
+    let words = drive_words(alloc, first)?;
+    let outcome = call(rt, &words, &case.document, &mut net, &mut reporter)?;
     // A switch works until its link is closed: ends that nobody met are closed with their net.
     drop(net);
     fakes.finish();

@@ -17,6 +17,8 @@ pub struct Case {
     /// The switch that comes late over TCP, and the one that never comes.
     pub late: u16,
     pub absent: u16,
+    /// Whether it is a run over TCP, and no drive.
+    pub runs: bool,
     /// Whether the drive is over TCP, what the reporter writes then, and whether it leaves after that.
     pub tcp: bool,
     pub said: String,
@@ -40,6 +42,7 @@ impl Case {
             closed: 0,
             late: 0,
             absent: 0,
+            runs: false,
             tcp: false,
             said: String::new(alloc),
             leaves: false,
@@ -82,6 +85,7 @@ impl Case {
         match words {
             "short" => self.short = true,
             "over tcp" => self.tcp = true,
+            "runs" => self.runs = true,
             "reporter leaves" => self.leaves = true,
             _ => {
                 if let Some(line) = words.strip_prefix("reporter says ") {

@@ -16,7 +16,7 @@ pub struct Times {
 #[derive(Clone, Copy, Debug, PartialEq, Eq)]
 pub struct Hold {
     pub before: Kind,
-    pub behind: Times,
+    pub after: Times,
     pub until: Times,
 }
 
@@ -29,17 +29,17 @@ struct Seen {
     late: bool,
 }
 
-/// Holds a worker for at most 10,000,000 turns.
+/// Holds a worker for at most 10,000,000 turns, or nobody.
 #[derive(Drop)]
 pub struct Holding<R> {
     rt: R,
-    hold: Hold,
+    hold: Option<Hold>,
     seen: Mutex<Seen>,
 }
 
 impl<R: Wait> Holding<R> {
     /// Nobody was held.
-    pub fn new(rt: R, hold: Hold) -> Holding<R> {
+    pub fn new(rt: R, hold: Option<Hold>) -> Holding<R> {
         Holding {
             rt,
             hold,
@@ -59,10 +59,10 @@ impl<R: Wait> Holding<R> {
     }
 
     // Whether this is where the worker is to be held, for the first time.
-    fn begins(&self, worker: usize, place: Place) -> bool {
+    fn begins(&self, hold: Hold, worker: usize, place: Place) -> bool {
         let mut seen = self.seen.lock(&self.rt);
-        let here = worker == self.hold.behind.worker && place == Place::Before(self.hold.before);
-        if !here || seen.held || seen.own < self.hold.behind.times {
+        let here = worker == hold.after.worker && place == Place::Before(hold.before);
+        if !here || seen.held || seen.own < hold.after.times {
             return false;
         }
         seen.held = true;
@@ -70,10 +70,10 @@ impl<R: Wait> Holding<R> {
     }
 
     // Counts a step.
-    fn count(&self, worker: usize, place: Place) {
+    fn count(&self, hold: Hold, worker: usize, place: Place) {
         let mut seen = self.seen.lock(&self.rt);
-        let Hold { behind, until, .. } = self.hold;
-        if worker == behind.worker && place == Place::After(behind.kind) {
+        let Hold { after, until, .. } = hold;
+        if worker == after.worker && place == Place::After(after.kind) {
             seen.own = seen.own.saturating_add(1);
         }
         if worker == until.worker && place == Place::After(until.kind) {
@@ -86,12 +86,15 @@ impl<R: Wait + Drop> Onlooker for Holding<R> {}
 
 impl<R: Wait + Drop> Gate for Holding<R> {
     fn pass(&self, worker: usize, place: Place) {
-        self.count(worker, place);
-        if !self.begins(worker, place) {
+        let Some(hold) = self.hold else {
+            return;
+        };
+        self.count(hold, worker, place);
+        if !self.begins(hold, worker, place) {
             return;
         }
         for _ in 0..10_000_000u32 {
-            if self.seen.lock(&self.rt).other >= self.hold.until.times {
+            if self.seen.lock(&self.rt).other >= hold.until.times {
                 return;
             }
             thread::yield_now();

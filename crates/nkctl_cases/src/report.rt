@@ -2,18 +2,18 @@
 use report_text::Text;
 use std::alloc::{AllocError, Global};
 
-/// What a report tells of a packet that came in: the policies of which one handles it, its finished histories, and
-/// whether a copy is on its way.
+// What a report tells of a packet that came in: the policies of which one handles it, its finished histories, and
+// whether a copy is on its way.
 #[derive(Drop)]
-pub struct Told<'a> {
+struct Told<'a> {
     first: usize,
     second: usize,
     done: Vec<&'a str>,
     open: bool,
 }
 
-/// The packets of a report, in order.
-pub fn arrivals<'a>(alloc: Global, report: &'a str) -> Result<Vec<Told<'a>>, AllocError> {
+// The packets of a report, in order.
+fn arrivals<'a>(alloc: Global, report: &'a str) -> Result<Vec<Told<'a>>, AllocError> {
     let mut all: Vec<Told<'a>> = Vec::new(alloc);
     for line in report.lines() {
         if line.starts_with("arrival ") {
@@ -48,8 +48,8 @@ fn number(word: &str) -> usize {
 }
 
 impl Told<'_> {
-    /// Whether it is on its way, or has the histories of one policy of its entry; they are listed by policies, from 0.
-    pub fn is_of_one(&self, by_policy: &[Vec<Text>]) -> bool {
+    // Whether it is on its way, or has the histories of one policy of its entry; they are listed by policies, from 0.
+    fn is_of_one(&self, by_policy: &[Vec<Text>]) -> bool {
         self.open || self.is_of(by_policy, self.first) || self.is_of(by_policy, self.second)
     }
 
@@ -82,4 +82,27 @@ pub fn line_of<'a>(report: &'a str, word: &str) -> &'a str {
         .lines()
         .find(|line| line.starts_with(word))
         .unwrap_or("")
+}
+
+/// Whether each packet that came in, the k-th of them that of some line, has one policy.
+pub fn have_one_policy(
+    alloc: Global,
+    report: &str,
+    meanings: &[Vec<Vec<Text>>],
+    lines: &[usize],
+) -> Result<bool, AllocError> {
+    let told = arrivals(alloc, report)?;
+    Ok(
+        told.iter().enumerate().all(|(place, told)| {
+            let line = lines.get(place).copied().unwrap_or(0);
+            meanings
+                .get(line)
+                .is_some_and(|by_policy| told.is_of_one(by_policy))
+        }),
+    )
+}
+
+/// How many lines of a report begin with a word.
+pub fn count_of(report: &str, word: &str) -> usize {
+    report.lines().filter(|line| line.starts_with(word)).count()
 }

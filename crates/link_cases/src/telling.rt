@@ -2,9 +2,13 @@
 use crate::case::Case;
 use std::alloc::{AllocError, Global};
 
-/// The lines of a text that are the same in all drives of a case. With several switches those of each stand together.
+/// What is the same in all calls of a case. With several switches the lines of each stand together.
 pub fn tell(alloc: Global, case: &Case, text: &str) -> Result<String, AllocError> {
     let mut out = String::new(alloc);
+    if case.runs {
+        put_run(alloc, &mut out, text)?;
+        return Ok(out);
+    }
     if case.short {
         put_lines(&mut out, text, Part::Outcome)?;
         return Ok(out);
@@ -20,9 +24,21 @@ pub fn tell(alloc: Global, case: &Case, text: &str) -> Result<String, AllocError
     Ok(out)
 }
 
+// Puts the phase of a run at the end, and how many packets came in.
+fn put_run(alloc: Global, out: &mut String, text: &str) -> Result<(), AllocError> {
+    put_lines(out, text, Part::Phase)?;
+    let count = text
+        .lines()
+        .filter(|line| line.starts_with("arrival "))
+        .count();
+    out.push_str(&format!(in alloc; "{count} packets came in\n")?)
+}
+
 // Some lines of a text.
 #[derive(Clone, Copy)]
 enum Part {
+    // That of the phase.
+    Phase,
     // Those of no event.
     Outcome,
     // The events of this switch.
@@ -34,6 +50,7 @@ enum Part {
 // Whether a line is in it.
 fn is_in(part: Part, line: &str) -> bool {
     match part {
+        Part::Phase => line.starts_with("phase "),
         Part::Outcome => !line.starts_with("e "),
         Part::Switch(sw) => switch_of(line) == Some(sw),
         Part::Shared => switch_of(line).is_none(),

@@ -1,5 +1,4 @@
-//! The call of the program that drives.
-use crate::case::Case;
+//! Calls of the program.
 use crate::outcome::{Outcome, outcome_of};
 use controller_program::nkctl;
 use outside_io::{MemorySink, MemorySource};
@@ -10,27 +9,47 @@ use std::thread::Threads;
 use std::time::Clock;
 use worker_desk::OpenGate;
 
-/// Drives the switches of a case through its policies.
-pub fn drive<
+/// The words of a command.
+pub fn words(alloc: Global, command: &str) -> Result<Vec<String>, AllocError> {
+    let mut words = Vec::new(alloc);
+    words.push("nkctl".to_string(alloc)?)?;
+    words.push(command.to_string(alloc)?)?;
+    Ok(words)
+}
+
+/// The words of a drive from this port on.
+pub fn drive_words(alloc: Global, first: u16) -> Result<Vec<String>, AllocError> {
+    let mut words = words(alloc, "drive")?;
+    words.push(format!(in alloc; "{first}")?)?;
+    Ok(words)
+}
+
+/// A call with a document, over this net.
+pub fn call<
     R: Wait + Clock + Threads + AllocGlobal + Copy + Clone + Drop + Send + Sync + 'static,
     N: Net,
     Q: Reporter,
->(rt: R, case: &Case, first: u16, net: &mut N, reporter: &mut Q) -> Result<Outcome, AllocError>
+>(
+    rt: R,
+    words: &[String],
+    document: &str,
+    net: &mut N,
+    reporter: &mut Q,
+) -> Result<Outcome, AllocError>
 where
     N::End: 'static,
     Q::Receipt: Send + 'static,
 {
     let alloc = rt.alloc();
-    let words = words(alloc, first)?;
+    let bytes = document.as_bytes().to_vec(alloc)?;
+    let gate = Arc::new(alloc, OpenGate)?;
     let mut threads = ThreadSpawner::new(alloc, rt);
-    let bytes = case.document.as_bytes().to_vec(alloc)?;
     let mut source = MemorySource::new(bytes, usize::MAX, Vec::new(alloc));
     let mut sink = MemorySink::new(alloc, usize::MAX, Vec::new(alloc));
-    let gate = Arc::new(alloc, OpenGate)?;
     let status = nkctl(
         &rt,
         alloc,
-        &words,
+        words,
         &mut source,
         &mut sink,
         net,
@@ -39,13 +58,4 @@ where
         reporter,
     );
     outcome_of(alloc, status, &sink)
-}
-
-// The words of a drive from this port on.
-fn words(alloc: Global, first: u16) -> Result<Vec<String>, AllocError> {
-    let mut words = Vec::new(alloc);
-    words.push("nkctl".to_string(alloc)?)?;
-    words.push("drive".to_string(alloc)?)?;
-    words.push(format!(in alloc; "{first}")?)?;
-    Ok(words)
 }

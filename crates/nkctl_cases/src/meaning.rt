@@ -1,5 +1,5 @@
 // The histories of a packet through a network, by the definition.
-use document_text::PacketLine;
+use document_text::{PacketLine, read_document};
 use history_meaning::some_results;
 use netkat_parser::parse_policy;
 use nk_syntax::{Pol, Pols};
@@ -38,8 +38,8 @@ fn network(alloc: Global, wiring: Wiring, policy: &str) -> Result<Pol, AllocErro
     Ok(Pol::Seq(Pols { items: all }))
 }
 
-/// The complete histories that a policy gives a packet, as text, sorted, each once.
-pub fn histories(
+// The complete histories that a policy gives a packet, as text, sorted, each once.
+fn histories(
     alloc: Global,
     wiring: Wiring,
     policy: &str,
@@ -54,4 +54,33 @@ pub fn histories(
     texts.sort_by(|a, b| a.as_bytes().cmp(b.as_bytes()))?;
     texts.dedup_by(|a, b| a.as_bytes() == b.as_bytes());
     Ok(texts)
+}
+
+/// The histories of each packet of a document, by policies from 0.
+pub fn meanings(
+    alloc: Global,
+    document: &str,
+    wiring: Wiring,
+    policies: &[&str],
+) -> Result<Vec<Vec<Vec<Text>>>, AllocError> {
+    let document = read_document(alloc, document.as_bytes()).map_err(|_| AllocError)?;
+    let mut all = Vec::new(alloc);
+    for packet in &document.packets {
+        all.push(by_policy(alloc, wiring, policies, packet)?)?;
+    }
+    Ok(all)
+}
+
+// Those of one packet.
+fn by_policy(
+    alloc: Global,
+    wiring: Wiring,
+    policies: &[&str],
+    packet: &PacketLine,
+) -> Result<Vec<Vec<Text>>, AllocError> {
+    let mut all = Vec::new(alloc);
+    for policy in policies {
+        all.push(histories(alloc, wiring, policy, packet)?)?;
+    }
+    Ok(all)
 }
