@@ -16,8 +16,8 @@ pub struct Outcome {
     pub text: String,
 }
 
-/// How many bytes a read or a write moves at most, and what is to fail: reads, writes, pairs of ends and starts of threads
-/// by their numbers from 1, of which none has 0, and what is sent on links.
+/// How many bytes a read or a write moves at most, and what is to fail. Reads, writes, pairs of ends and starts of threads
+/// go by their numbers from 1, so that 0 is none. Messages on links go by what becomes of them.
 #[derive(Drop)]
 pub struct Failing {
     pub piece: usize,

@@ -13,9 +13,10 @@
 //!
 //! A document line `%100 TEXT` stands for 100 lines TEXT, in each of which `{}` is the line's number from 1 and `{+}` the
 //! next one; `~100 TEXT` for TEXT 100 times in one line, which is not ended. Of a long output the number of lines is
-//! printed, and the last one; after one that stops within a line stands `(cut)`. Of `run` and `watch` only what is the same
-//! in all runs is printed: the lines on the phase and on a halt or a fault, how many packets came in, how many sessions were
-//! lost if it is done, and of `watch` whether all events were seen. A line `## TITLE` is printed as it is.
+//! printed, and the last one; after one that stops within a line stands `(cut)`. A line `## TITLE` is printed as it is.
+//!
+//! Of `run` and `watch` only what is the same in all runs is printed: the lines on the phase and on a halt or a fault, and
+//! how many packets came in. If it is done, the number of lost sessions follows, and of `watch` that all events were seen.
 //!
 //! A line `:: TABLE` names a table of calls. Below it is printed that all is as it must be, or the first case that is not:
 //!
@@ -27,8 +28,8 @@
 //! - `reads`, `writes`: each read of a document in pieces of 16 bytes fails, and each write of a trace in such pieces;
 //! - `events`: a session is lost after each event of an update, and two packets come in after it.
 //!
-//! Where a run or an update of a table was cut off, each packet that came in and is on its way no more has to have the
-//! histories of one policy of its entry, as the definition of NetKAT gives them.
+//! If a run or an update of a table was cut off, each packet that came in, and is on its way no more, has to have the
+//! histories of one policy of its entry. The definition of NetKAT gives them.
 #![tactic(auto)]
 
 mod calls;
