@@ -1,95 +1,67 @@
-//! Reads policies from standard input, one a line, and prints each again, or the line and the column of its
-//! first fault with the fault's number and name.
+//! Reads cases of policies from standard input, one a line, and prints what is told of each.
 //!
-//! In a policy `\n`, `\r` and `\t` stand for LF, CR and a tab. A line that begins with `==` is a heading. What
-//! is printed is read and printed once more, and has to be the same. So has what is printed of a policy that
-//! comes byte by byte, and of one that is cut in two, at each place.
+//! A line that begins with `===` begins a part: policies that are read, paths of diagrams, or diagrams of policies. Each
+//! part's file says what its lines are. A line that begins with `==` is a heading.
 #![tactic(auto)]
 
-use netkat_parser::{ParseError, PolicyReader, parse_policy};
-use nk_syntax::Pol;
+mod diagrams;
+mod paths;
+mod policies;
+mod reading;
+mod told;
+
+use crate::diagrams::Diagrams;
 use std::alloc::{AllocError, Global};
 use std::io;
+
+// What the lines of a part are.
+#[derive(Clone, Copy)]
+enum Part {
+    Policies,
+    Paths,
+    Diagrams,
+}
+
+impl Part {
+    // The part that a heading begins.
+    fn named(heading: &str) -> Part {
+        match heading {
+            "=== Paths of diagrams" => Part::Paths,
+            "=== Diagrams of policies" => Part::Diagrams,
+            _ => Part::Policies,
+        }
+    }
+}
 
 fn main(rt: HostRuntime) -> io::Result<()> {
     let alloc = rt.alloc();
     let text = io::read_to_string(alloc, rt.stdin())?;
+    let mut diagrams = Diagrams::new(alloc);
+    let mut part = Part::Policies;
     for line in text.lines() {
-        if line.starts_with("==") {
+        if line.starts_with("===") {
+            part = Part::named(line);
+            println!(rt; "{line}")?;
+        } else if line.starts_with("==") {
+            diagrams.begin();
             println!(rt; "{line}")?;
         } else {
-            let policy = unescaped(alloc, line)?;
-            let answer = twice(alloc, &policy)?;
-            println!(rt; "{answer}")?;
-            if let Some(other) = cut_otherwise(alloc, &policy, &answer)? {
-                println!(rt; "{other}")?;
-            }
+            println!(rt; "{}", answer(alloc, &mut diagrams, part, line)?)?;
         }
     }
     Ok(())
 }
 
-// The policy with the bytes that `\n`, `\r` and `\t` stand for.
-fn unescaped(alloc: Global, line: &str) -> Result<String, AllocError> {
-    line.replace(alloc, "\\n", "\n")?
-        .replace(alloc, "\\r", "\r")?
-        .replace(alloc, "\\t", "\t")
-}
-
-// The answer to a policy, which is the same when what was printed is read again.
-fn twice(alloc: Global, policy: &str) -> Result<String, AllocError> {
-    let first = answer(alloc, policy)?;
-    if first
-        .as_bytes()
-        .first()
-        .is_some_and(|byte| byte.is_ascii_digit())
-    {
-        return Ok(first);
-    }
-    let second = answer(alloc, &first)?;
-    if first == second {
-        Ok(first)
-    } else {
-        format!(in alloc; "{first} is read as {second}")
-    }
-}
-
-// What is answered otherwise to the policy in pieces.
-fn cut_otherwise(alloc: Global, policy: &str, answer: &str) -> Result<Option<String>, AllocError> {
-    for cut in 0..=policy.len() {
-        let pieces = in_pieces(alloc, policy, cut)?;
-        if pieces.as_str() != answer {
-            return Ok(Some(format!(in alloc; "cut at {cut}: {pieces}")?));
-        }
-    }
-    Ok(None)
-}
-
-// The answer to a policy that is cut in two at a place, or that comes byte by byte where the place is its end.
-fn in_pieces(alloc: Global, policy: &str, cut: usize) -> Result<String, AllocError> {
-    let mut reader = PolicyReader::new(alloc);
-    let bytes = policy.as_bytes();
-    if cut < bytes.len() {
-        reader.feed(alloc, &bytes[..cut])?;
-        reader.feed(alloc, &bytes[cut..])?;
-    } else {
-        for i in 0..bytes.len() {
-            reader.feed(alloc, &bytes[i..i + 1])?;
-        }
-    }
-    told(alloc, reader.finish(alloc))
-}
-
-// The answer to a policy.
-fn answer(alloc: Global, policy: &str) -> Result<String, AllocError> {
-    told(alloc, parse_policy(alloc, policy.as_bytes()))
-}
-
-// A copy of the policy, printed, or the place of its fault, its number and its name.
-fn told(alloc: Global, read: Result<Pol, ParseError>) -> Result<String, AllocError> {
-    match read {
-        Ok(pol) => pol.copy(alloc)?.print(alloc),
-        Err(ParseError::Fault(it)) => format!(in alloc; "{}:{} {}", it.line, it.column, it.fault),
-        Err(ParseError::Memory) => Err(AllocError),
+// What is told of a line.
+fn answer(
+    alloc: Global,
+    diagrams: &mut Diagrams,
+    part: Part,
+    line: &str,
+) -> Result<String, AllocError> {
+    match part {
+        Part::Policies => reading::answer(alloc, line),
+        Part::Paths => String::from_str(alloc, paths::answer(alloc, line)?),
+        Part::Diagrams => diagrams.answer(alloc, line),
     }
 }

@@ -1,30 +1,14 @@
-//! Reads paths of diagrams from standard input, one a line, and prints whether a well-shaped packet is on each.
+//! Paths of diagrams, and whether a well-shaped packet is on each.
 //!
-//! A path is a sequence of tests: `f=n` for a test that holds, and `not f=n` for one that does not. A line that begins
-//! with `==` is a heading.
-#![tactic(auto)]
-
+//! A path is a sequence of tests: `f=n` for a test that holds, and `not f=n` for one that does not.
 use fdd_differ::path_packet;
 use fdd_nodes::{Path, is_few_on};
 use netkat_parser::{ParseError, parse_policy};
 use nk_syntax::{Pol, Pred};
 use std::alloc::{AllocError, Global};
-use std::io;
 
-fn main(rt: HostRuntime) -> io::Result<()> {
-    let alloc = rt.alloc();
-    let text = io::read_to_string(alloc, rt.stdin())?;
-    for line in text.lines() {
-        if line.starts_with("==") {
-            println!(rt; "{line}")?;
-        } else {
-            println!(rt; "{}", answer(alloc, line)?)?;
-        }
-    }
-    Ok(())
-}
-
-fn answer(alloc: Global, line: &str) -> Result<&'static str, AllocError> {
+/// What is told of a path.
+pub fn answer(alloc: Global, line: &str) -> Result<&'static str, AllocError> {
     let path = path_of(alloc, line)?;
     if !is_few_on(alloc, &path)? {
         return Ok("too many tests");

@@ -1,8 +1,7 @@
-//! Reads policies from standard input, one a line, and prints for each how many tests its diagram has and what it
-//! makes of each packet that was asked, or its first fault.
+//! Diagrams of policies: how many tests each has and what it makes of each packet that was asked, or its first fault.
 //!
-//! A line that begins with `==` is a heading, and drops the packets that were asked. A line that begins with `>` asks for
-//! one packet more: at port 1 of switch 1, of type 2054, with zeros elsewhere, but for the assignments in the line.
+//! A heading drops the packets that were asked. A line that begins with `>` asks for one packet more: at port 1 of switch 1,
+//! of type 2054, with zeros elsewhere, but for the assignments in the line.
 //!
 //! - `steps N` stands for the star of the sum of `ethDst=i; ethDst:=i+1` for i from 1 to N.
 //! - `steps N in TEST` has `TEST;` before each of these.
@@ -14,40 +13,41 @@
 //! The diagrams of rectangles share their parts: their tests are not counted, since each path has its own. What is made of a
 //! packet is told as a policy: the assignments that make each of its packets, `skip` for the packet itself and `drop` for
 //! none. If they are more than nine, the line says how many. A packet that is made twice is told twice.
-#![tactic(auto)]
-
-mod policies;
-mod told;
-
 use crate::policies::{packet_of, rectangle, rectangle_tests, star_of_rectangle, steps};
 use crate::told::{Tests, answer};
 use fdd_compile::Compiler;
 use nk_values::Packet;
 use std::alloc::{AllocError, Global};
-use std::io;
 
-fn main(rt: HostRuntime) -> io::Result<()> {
-    let text = io::read_to_string(rt.alloc(), rt.stdin())?;
-    let mut compiler = Compiler::new(rt.alloc());
-    tell(&rt, &mut compiler, &text)
+/// The packets that were asked since the last heading, and one compiler for all policies.
+#[derive(Drop)]
+pub struct Diagrams {
+    compiler: Compiler,
+    asked: Vec<Packet>,
 }
 
-// Tells the lines of a text, with one compiler for all policies.
-fn tell<R: Print + AllocGlobal>(rt: &R, compiler: &mut Compiler, text: &str) -> io::Result<()> {
-    let alloc = rt.alloc();
-    let mut asked = Vec::new(alloc);
-    for line in text.lines() {
-        if line.starts_with("==") {
-            asked.clear();
-            println!(rt; "{line}")?;
-        } else if let Some(packet) = line.strip_prefix(">") {
-            asked.push(packet_of(alloc, packet)?)?;
-            println!(rt; "{line}")?;
-        } else {
-            println!(rt; "{}", of_line(alloc, compiler, line, &asked)?)?;
+impl Diagrams {
+    /// Before the first line.
+    pub fn new(alloc: Global) -> Diagrams {
+        Diagrams {
+            compiler: Compiler::new(alloc),
+            asked: Vec::new(alloc),
         }
     }
-    Ok(())
+
+    /// Drops the packets that were asked.
+    pub fn begin(&mut self) {
+        self.asked.clear();
+    }
+
+    /// What is told of a line: the line itself if it asks for a packet.
+    pub fn answer(&mut self, alloc: Global, line: &str) -> Result<String, AllocError> {
+        if let Some(packet) = line.strip_prefix(">") {
+            self.asked.push(packet_of(alloc, packet)?)?;
+            return String::from_str(alloc, line);
+        }
+        of_line(alloc, &mut self.compiler, line, &self.asked)
+    }
 }
 
 fn of_line(
