@@ -1,5 +1,5 @@
 // Operands in a row, as far as they were read.
-ghost use Rattle.std.specs.Prelude.{◌≡◌, ◌<◌, ◌++◌, ℕ, Bool, List, [], ◌∷◌, map, OnOk, vec_len, vec_capacity};
+ghost use Rattle.std.specs.Prelude.{◌≡◌, ◌<◌, ◌++◌, ℕ, Bool, List, [], ◌∷◌, map, IsTrue, OnOk, vec_len, vec_capacity};
 ghost use Rattle.nk_syntax.specs.Terms.{Guard, Term, Filter};
 ghost use Rattle.nk_syntax.specs.Views.{term_of, guard_of};
 ghost use Rattle.netkat_parser.specs.Grammar.{sum_of, seq_of};
@@ -35,6 +35,16 @@ impl Operands {
         match self {
             Operands::Policies(_) => Operands::Policies(Vec::new(alloc)),
             Operands::Predicates(_) => Operands::Predicates(Vec::new(alloc)),
+        }
+    }
+
+    // Whether there are none.
+    fn is_empty(&self) -> bool
+        ensures { IsTrue result → (i : Bool) (ps : List Term) → AreOperands i self.now ps → ps ≡ [] }
+    {
+        match self {
+            Operands::Policies(pols) => pols.is_empty(),
+            Operands::Predicates(preds) => preds.is_empty(),
         }
     }
 
@@ -199,6 +209,10 @@ impl Chain {
         ensures { (i : Bool) (ss qs : List Term) (p : Term) → AreChain i self.old ss qs → IsOperand i pol p
             → AreChain i self.new (ss ++ seq_of (qs ++ p ∷ []) ∷ []) [] }
     {
+        if self.factors.is_empty() {
+            self.summands.push(pol);
+            return;
+        }
         self.factors.push(pol);
         let none = self.factors.none(alloc);
         let factors = mem::replace(&mut self.factors, none);

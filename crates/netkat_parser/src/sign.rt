@@ -30,15 +30,17 @@ pub enum Sign {
     Strange,
 }
 
-/// The first sign of a text that begins with no blank.
-pub fn first_sign(text: &[u8]) -> Sign
+/// The first sign of a text that begins with no blank. It has `len` bytes.
+pub fn first_sign(text: &[u8], len: usize) -> Sign
+    requires len { len ≡ sign_len text.now }
+    requires within { len ≤ length text.now }
     ensures { result ≡ sign text.now }
 {
     let Some(first) = text.first() else {
         return Sign::End;
     };
     if first.is_ascii_alphabetic() {
-        word(&text[..name_len(text)])
+        word(&text[..len])
     } else if is_becomes(text) {
         Sign::Becomes
     } else {

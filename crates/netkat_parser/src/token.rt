@@ -34,7 +34,7 @@ pub fn sign_at(text: &[u8], end: bool) -> Option<(Sign, usize)>
     if !end && is_cut(text, len) {
         return None;
     }
-    Some((first_sign(text), len))
+    Some((first_sign(text, len), len))
 }
 
 // Whether what follows the text may change its first sign, which has `len` bytes.
