@@ -1,5 +1,5 @@
 // Reading goes on from sign to sign.
-ghost use Rattle.std.specs.Prelude.{◌≡◌, ◌<◌, ◌≢◌, true, false, [], ◌∷◌, length, reverse, OnOk, vec_len, vec_capacity};
+ghost use Rattle.std.specs.Prelude.{◌≡◌, ◌<◌, ◌≢◌, Bool, true, false, [], ◌∷◌, length, reverse, OnOk, vec_len, vec_capacity};
 ghost use Rattle.netkat_parser.specs.declared.sign.Sign.TheVariants as to_sign;
 ghost use Rattle.netkat_parser.specs.declared.stage.Stage.TheVariants as stage;
 ghost use Rattle.netkat_parser.specs.declared.reading.Level.TheVariants as level;
@@ -88,14 +88,26 @@ impl Reading {
     fn take(&mut self, alloc: Global, sign: Sign) -> Result<bool, Halt>
         ensures { Moves (view_of self.old) sign (view_of self.new) result }
     {
-        match mem::replace(&mut self.stage, Stage::Operand) {
+        match &self.stage {
             Stage::Operand => self.operand(alloc, sign),
-            Stage::Relation(field) => self.relation(field, sign),
-            Stage::Number(field, operator) => {
-                self.stage = Stage::Number(field, operator);
-                Err(Halt::Fault(stray(self.depth(), sign)))
+            Stage::Relation(field) => {
+                let field = *field;
+                self.stage = Stage::Operand;
+                self.relation(field, sign)
             }
+            Stage::Number(_, _) => Err(Halt::Fault(stray(self.depth(), sign))),
+            Stage::Behind(_, _) => self.after(alloc, sign),
+        }
+    }
+
+    // The sign after an operand, which is taken out of the stage.
+    fn after(&mut self, alloc: Global, sign: Sign) -> Result<bool, Halt>
+        requires { (pol : Pol) × (atom : Bool) × (self.old.stage ≡ stage.Behind pol atom) }
+        ensures { Moves (view_of self.old) sign (view_of self.new) result }
+    {
+        match mem::replace(&mut self.stage, Stage::Operand) {
             Stage::Behind(pol, atom) => self.behind(alloc, pol, atom, sign),
+            _ => unreachable!(),
         }
     }
 

@@ -1,4 +1,3 @@
-use Rattle.std.proofs.Common.{sym, ◌∙◌}
 use Rattle.netkat_parser.specs.Views.{view_of}
 use Rattle.netkat_parser.proofs.Moving.{stops-number}
 use Rattle.netkat_parser.proofs.reading.Reading.take.Goals as goal
@@ -6,4 +5,4 @@ use Rattle.netkat_parser.proofs.reading.Reading.take.Goals as goal
 pub returns-in-Number : goal.returns-in-Number
 returns-in-Number c =
     rw (c.stray.ensures, c.depth.ensures)
-    (stops-number (view_of c.args.self.now) c.in-Number.field c.in-Number.operator c.args.sign (sym c.replace.ensures.value ∙ c.in-Number.is))
+    (stops-number (view_of c.args.self.now) c.in-Number.field-0 _ c.args.sign c.in-Number.is)
