@@ -19,4 +19,4 @@ pub use lines::{history_lines, line_of, put_lines, sort_lines};
 pub use rules::{put_row, rules_text};
 pub use text::Text;
 pub use traces::trace_text;
-pub use values::{put_fields, put_hex_byte, put_place};
+pub use values::{put_fields, put_hex_byte, put_number, put_place};
