@@ -40,11 +40,11 @@ pub struct Span {
 impl Span {
     ghost use Rattle.update_plan.specs.Reading.{IsSpan, joined};
 
-    /// That of a switch among these ports.
+    /// That of a switch among these ports. If it has none, the span is empty, and joined with another one it is that one.
     pub fn new(ports: &[PortRows], sw: u16) -> Span
         ensures { IsSpan result sw ports.now }
     {
-        let mut first = ports.len();
+        let mut first = usize::MAX;
         let mut end = 0;
         for (place, port) in ports.iter().enumerate() {
             if port.sw == sw {
