@@ -9,7 +9,7 @@ use Rattle.document_text.specs.declared.document.PacketLine.{PacketLine}
 use Rattle.workload_laws.specs.Workload.{numbers, hop, hops_at, workload}
 use Rattle.workload_gen.specs.Documents.{packet, packets, policies, number_by}
 use Rattle.workload_gen.specs.Words.{behind}
-use Rattle.workload_gen.proofs.Sweeping.{append-none}
+use Rattle.workload_gen.proofs.Enabled.{append-none}
 
 -- ---- numbers in a row
 

@@ -16,7 +16,6 @@ use Rattle.policy_rows.specs.declared.version.Version.{Version}
 use Rattle.policy_rows.specs.Means.{standing}
 use Rattle.packet_tracer.specs.declared.flight.Flight.{Flight}
 use Rattle.rand_pcg.specs.Lcg.{Lcg}
-use Rattle.update_coordinator.specs.declared.phase.Phase.{Phase}
 use Rattle.update_coordinator.specs.declared.phase.Phase.TheVariants as phase
 use Rattle.update_coordinator.specs.Calls.{drain_refusal, leaving}
 use Rattle.update_coordinator.specs.Controls.{Site as Seen}
@@ -43,7 +42,7 @@ use Rattle.workload_gen.specs.Words.{next_word, behind}
 use Rattle.workload_laws.specs.Workload.{workload}
 use Rattle.workload_gen.proofs.Lines.{AreGuests, packets-guests, few-switches}
 use Rattle.workload_gen.proofs.Nearing.{AreNear, IsLine, hop-near, arrive-near}
-use Rattle.workload_gen.proofs.Sweeping.{append-none, due-at}
+use Rattle.workload_gen.proofs.Enabled.{append-none, due-at}
 use Rattle.workload_gen.proofs.Unhalted.{IsFree, IsDrivable, AreMute, free-step, no-error}
 
 -- ---- what is drawn was tried

@@ -13,7 +13,7 @@ use Rattle.topology_model.specs.Lines.{IsLineInRange, layout_of, line_fault, fau
 use Rattle.workload_laws.specs.Workload.{numbers}
 use Rattle.workload_laws.proofs.Workloads.{in_map, in_numbers}
 use Rattle.workload_gen.specs.Documents.{switch_line, link_line, topology_lines}
-use Rattle.workload_gen.proofs.Sweeping.{append-none}
+use Rattle.workload_gen.proofs.Enabled.{append-none}
 
 -- ---- line by line
 

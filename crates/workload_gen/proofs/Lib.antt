@@ -1,7 +1,9 @@
 mod Building
 mod Recounting
 mod Faultless
-mod Sweeping
+mod Enabled
+mod Counted
+mod Found
 mod Turning
 mod Results
 mod Nearing

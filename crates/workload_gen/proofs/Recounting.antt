@@ -1,8 +1,6 @@
 -- An event of a switch changes nothing at the others.
-use Rattle.std.proofs.Common.{◌≡◌, ◌≢◌, ℕ, zero, suc, ◌+◌, ◌-◌, ◌^◌, ◌<◌, ◌≤◌, ◌⊎◌, inl, inr, min, List, [], ◌∷◌, ◌++◌, length, take, refl, sym, ◌∙◌, ap, subst, Option, None, Some, slice_get, slice_set, arith}
+use Rattle.std.proofs.Common.{◌≡◌, ◌≢◌, ℕ, zero, suc, ◌+◌, ◌<◌, ◌≤◌, inl, inr, List, [], ◌∷◌, ◌++◌, length, refl, sym, ◌∙◌, ap, subst, Option, None, Some, slice_get, slice_set, arith}
 use native.Mathlib.Decide.{ℕ_discrete}
-use Rattle.std.proofs.lemmas.List.{length-append}
-use Rattle.std.proofs.lemmas.Option.{slice_get_past}
 use Rattle.topology_model.specs.Layouts.{Layout}
 use Rattle.update_coordinator.specs.Controls.{Control, batch_at}
 use Rattle.update_coordinator.specs.Sending.{MaySend}
@@ -18,11 +16,8 @@ use Rattle.world_core.specs.declared.event.SwitchEvent.TheVariants as of_switch
 use Rattle.world_core.specs.Ends.{HasSession}
 use Rattle.world_core.specs.Steps.{IsEnabled, Stands, Step}
 use Rattle.world_core.specs.Worlds.{WorldValue}
-use Rattle.workload_gen.specs.declared.sweep.Sweep.{Sweep}
 use Rattle.workload_gen.specs.Counts.{AreCounts, IsCount}
 use Rattle.workload_gen.specs.Draws.{AreEnabled, applies_from, pending_at, tried_at}
-use Rattle.workload_gen.specs.Sweeps.{IsSweep, Passes}
-use Rattle.workload_gen.proofs.Sweeping.{get-left}
 
 -- ---- one switch
 
@@ -84,7 +79,7 @@ tried-moved s w v a =
       ),
     )
 
-kept-count : (s n : ℕ) (w v : WorldValue) → SameAt s w v → IsCount w s n → IsCount v s n
+kept-count : (s n : ℕ) (w v : WorldValue) → SameAt s w v → IsCount w (tried_at w s) n → IsCount v (tried_at v s) n
 kept-count s n w v a c = record {
   events = c.events;
   enabled = subst (λ (o : Option End). AreEnabled v (event.Controller (of_controller.Heard s) ∷ event.Switch (of_switch.Reply s) ∷ (applies_from s 0 (pending_at o) ++ event.Switch (of_switch.Take s) ∷ event.Controller (of_controller.Send s) ∷ [])) c.events) (sym a.end_)
@@ -102,16 +97,16 @@ same-counts w v counts t f c = record {
 }
 
 -- all were counted anew
-pub new-counts : (w v : WorldValue) (counts new : List ℕ) → v.topology ≡ w.topology → length new ≡ length counts → ((k n : ℕ) → slice_get new k ≡ Some n → IsCount v k n) → AreCounts w counts → AreCounts v new
+pub new-counts : (w v : WorldValue) (counts new : List ℕ) → v.topology ≡ w.topology → length new ≡ length counts → ((k n : ℕ) → slice_get new k ≡ Some n → IsCount v (tried_at v k) n) → AreCounts w counts → AreCounts v new
 new-counts w v counts new t l h c = record { all = l ∙ c.all ∙ ap (λ (x : Layout). length x.switches) (sym t); each = h }
 
 -- one was
-pub one-count : (w v : WorldValue) (p : ℕ) (counts new : List ℕ) → v.topology ≡ w.topology → ((s : ℕ) → s ≢ p → SameAt s w v) → length new ≡ length counts → ((n : ℕ) → slice_get new p ≡ Some n → IsCount v p n) →
+pub one-count : (w v : WorldValue) (p : ℕ) (counts new : List ℕ) → v.topology ≡ w.topology → ((s : ℕ) → s ≢ p → SameAt s w v) → length new ≡ length counts → ((n : ℕ) → slice_get new p ≡ Some n → IsCount v (tried_at v p) n) →
     ((k : ℕ) → k ≢ p → slice_get new k ≡ slice_get counts k) → AreCounts w counts → AreCounts v new
 one-count w v p counts new t same l here others c = record {
   all = l ∙ c.all ∙ ap (λ (x : Layout). length x.switches) (sym t);
   each = λ k n e. elim (ℕ_discrete k p) [
-    | yes d ↦ subst (λ (j : ℕ). IsCount v j n) (sym d) (here n (ap (λ (j : ℕ). slice_get new j) (sym d) ∙ e))
+    | yes d ↦ subst (λ (j : ℕ). IsCount v (tried_at v j) n) (sym d) (here n (ap (λ (j : ℕ). slice_get new j) (sym d) ∙ e))
     | no d ↦ kept-count k n w v (same k d) (c.each k n (sym (others k d) ∙ e))
   ];
 }
@@ -158,44 +153,17 @@ step-topology w (event.Controller (of_controller.Rejoin s)) v h = ap (λ (x : Wo
 step-topology w (event.Packet (of_packet.Stuck k)) v h = ap (λ (x : WorldValue). x.topology) h.now
 step-topology w (event.Foreign s side got) v h = ap (λ (x : WorldValue). x.topology) h.now
 
--- ---- sweeps by counts
-
--- a switch is passed by its count where none of its events is the one with the number
-pub passes-counted : (w : WorldValue) (p count : ℕ) (s t : Sweep) → IsCount w p count → (s.number < s.passed) ⊎ (s.passed + count ≤ s.number) → t.number ≡ s.number → t.passed ≡ min (s.passed + count) (2 ^ 64 - 1) → t.found ≡ s.found → Passes w (tried_at w p) s t
-passes-counted w p count s t c d a b f es i = (
-  c.events,
-  c.enabled,
-  record {
-    small = let small = i.small in omega (arith, small, a);
-    passed = let passed = i.passed in let k = c.count in omega (arith, n, passed, b, k);
-    found = f ∙ i.found ∙ (elim d [ inl l ↦ before l | inr l ↦ beyond l ]) ∙ ap (λ (j : ℕ). slice_get (es ++ c.events) j) (sym a);
-  },
-)
-  where
-    n : length (es ++ c.events) ≡ length es + length c.events
-    n = length-append es c.events
-
-    before : s.number < s.passed → slice_get es s.number ≡ slice_get (es ++ c.events) s.number
-    before l = let passed = i.passed in sym (get-left es c.events s.number (omega (arith, l, passed)))
-
-    beyond : s.passed + count ≤ s.number → slice_get es s.number ≡ slice_get (es ++ c.events) s.number
-    beyond l =
-        let passed = i.passed in let small = i.small in let k = c.count in
-        slice_get_past es s.number (omega (arith, l, passed, small)) ∙ sym (slice_get_past (es ++ c.events) s.number (omega (arith, l, passed, small, n, k)))
-
--- what a sweep of one switch has passed
-pub count-is : (w : WorldValue) (p : ℕ) (s t : Sweep) → IsSweep [] s → Passes w (tried_at w p) s t → IsCount w p t.passed
-count-is w p s t i h = let x = h [] i in record { events = x.0; enabled = x.1; count = x.2.passed }
+-- ---- lists of counts
 
 pub no-counts : (w : WorldValue) → length w.topology.switches ≤ 0 → AreCounts w []
 no-counts w l = record { all = omega (arith, l); each = λ k n e. absurd (cc) }
 
--- a slice that was written back
-pub written-back : {X : Type 0} (n : ℕ) (xs ys : List X) → n ≡ length xs → take n (xs ++ ys) ≡ xs
-written-back zero [] ys e = refl
-written-back (suc n) [] ys e = absurd (omega (arith, e))
-written-back zero (x ∷ xs) ys e = absurd (omega (arith, e))
-written-back (suc n) (x ∷ xs) ys e = ap (λ zs. x ∷ zs) (written-back n xs ys (omega (arith, e)))
+-- what holds of a number that was put at a place, and what stands at the others
+pub set-here : (P : ℕ → Type 0) (xs : List ℕ) (i v : ℕ) → i < length xs → P v → (n : ℕ) → slice_get (slice_set xs i v) i ≡ Some n → P n
+set-here P xs i v l p n e = let old = get-some i xs l in subst P (some-is v n (sym (put-set i xs old.0 v old.1).at ∙ e)) p
+
+pub set-others : (xs : List ℕ) (i v k : ℕ) → i < length xs → k ≢ i → slice_get (slice_set xs i v) k ≡ slice_get xs k
+set-others xs i v k l d = let old = get-some i xs l in (put-set i xs old.0 v old.1).others k d
 
 -- what holds of each number of a list before a place holds of one more, once it holds there
 pub each-more : (P : ℕ → ℕ → Type 0) (xs : List ℕ) (i v : ℕ) → i < length xs → P i v → ((k n : ℕ) → k < i → slice_get xs k ≡ Some n → P k n) → (k n : ℕ) → k < i + 1 → slice_get (slice_set xs i v) k ≡ Some n → P k n

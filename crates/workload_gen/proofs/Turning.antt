@@ -10,11 +10,10 @@ use Rattle.world_core.specs.declared.event.Event.{Event}
 use Rattle.world_core.specs.Steps.{IsEnabled, Runs, Step}
 use Rattle.world_core.specs.Settling.{NoneIs}
 use Rattle.world_core.specs.Worlds.{WorldValue}
-use Rattle.workload_gen.specs.declared.sweep.Sweep.{Sweep}
-use Rattle.workload_gen.specs.Draws.{AreEnabled, Drawn, Draws, IsDrawn, left_by, left_behind, tried}
-use Rattle.workload_gen.specs.Sweeps.{IsSweep}
+use Rattle.workload_gen.specs.Draws.{Drawn, Draws, IsDrawn, left_by, left_behind, tried}
+use Rattle.workload_gen.specs.Counts.{Finds, IsCount}
 use Rattle.workload_gen.specs.Words.{next_word, behind}
-use Rattle.workload_gen.proofs.Sweeping.{enabled-can, enabled-same, none-can}
+use Rattle.workload_gen.proofs.Enabled.{enabled-can, none-can}
 
 -- ---- runs
 
@@ -80,18 +79,17 @@ same-rest w n k m e l d = elim (cases_lt m k) [
       (ap (λ (i : ℕ). w % i) same, mod-lt w {m = k} (omega (arith, d, same)))
 ]
 
-pub count-none : (lines : List PacketLine) (w : WorldValue) (s : Sweep) → ((es : List Event) × AreEnabled w (tried lines w) es × IsSweep es s) → s.passed ≡ 0 → NoneIs w (tried lines w)
-count-none lines w s h e = none-can w (tried lines w) h.0 h.1 (let p = h.2.passed in omega (arith, p, e))
+pub count-none : (w : WorldValue) (cs : List Event) (n : ℕ) → IsCount w cs n → n ≡ 0 → NoneIs w cs
+count-none w cs n c e = none-can w cs c.events c.enabled (let k = c.count in omega (arith, k, e))
 
--- the event that a sweep finds after one that counted
-pub drawn-found : (lines : List PacketLine) (w : WorldValue) (g : Lcg) (s t : Sweep) → ((es : List Event) × AreEnabled w (tried lines w) es × IsSweep es s) → ((es : List Event) × AreEnabled w (tried lines w) es × IsSweep es t) →
-    (word : ℕ) → word ≡ (next_word g).0 → word < 2 ^ 64 - 1 → s.passed ≢ 0 → t.number ≡ word % s.passed → (e : Event) × (t.found ≡ Some e) × IsDrawn lines w g e
-drawn-found lines w g s t a b word is small some number =
-    let same : a.0 ≡ b.0 = enabled-same w (tried lines w) a.0 b.0 a.1 b.1 in
-    let r = same-rest word s.passed (length a.0) (2 ^ 64 - 1) a.2.passed small some in
-    let at : t.number ≡ (next_word g).0 % length b.0 = number ∙ r.0 ∙ (λ i. is i % length (same i)) in
-    let found = get-some t.number b.0 (let below = r.1 in let l = ap (λ (es : List Event). length es) same in let q = number ∙ r.0 in omega (arith, below, l, q)) in
-    (found.0, b.2.found ∙ found.1, record { events = b.0; enabled = b.1; drawn = ap (λ (i : ℕ). slice_get b.0 i) (sym at) ∙ found.1 })
+-- the event that is found once all were counted
+pub drawn-found : (lines : List PacketLine) (w : WorldValue) (g : Lcg) (n : ℕ) (o : Option Event) → IsCount w (tried lines w) n → (word : ℕ) → word ≡ (next_word g).0 → word < 2 ^ 64 - 1 → n ≢ 0 → Finds w (tried lines w) (word % n) o →
+    (e : Event) × (o ≡ Some e) × IsDrawn lines w g e
+drawn-found lines w g n o c word is small some finds =
+    let r = same-rest word n (length c.events) (2 ^ 64 - 1) c.count small some in
+    let at : word % n ≡ (next_word g).0 % length c.events = r.0 ∙ ap (λ (i : ℕ). i % length c.events) is in
+    let found = get-some (word % n) c.events (let below = r.1 in let q = r.0 in omega (arith, below, q)) in
+    (found.0, finds c.events c.enabled ∙ found.1, record { events = c.events; enabled = c.enabled; drawn = ap (λ (i : ℕ). slice_get c.events i) (sym at) ∙ found.1 })
 
 pub if-none : (P : Type 0) (o : Option Event) (e : Event) → o ≡ Some e → IfNone o P
 if-none P None e q = absurd (cc)

@@ -4,4 +4,3 @@ pub mod Draws
 pub mod Versions
 pub mod Laws
 pub mod Counts
-pub mod Sweeps

@@ -1,86 +1,88 @@
-// How many events can happen at each switch, kept from turn to turn.
-ghost use Rattle.std.specs.Prelude.{◌≡◌, ◌≢◌, ℕ, IfOk, Some, length, slice_get};
-ghost use Rattle.world_core.specs.Steps.{Step};
+// How many events can happen.
+ghost use Rattle.std.specs.Prelude.{◌≡◌, ◌↔◌, IsTrue, length, slice_get};
+ghost use Rattle.std.specs.Int.{from_bool};
+ghost use Rattle.world_core.specs.declared.event.ControllerEvent.TheVariants as of_controller;
 ghost use Rattle.world_core.specs.declared.event.Event.TheVariants as event;
-ghost use Rattle.world_core.specs.Worlds.{WorldValue};
-ghost use Rattle.workload_gen.specs.Counts.{AreCounts, IsCount};
+ghost use Rattle.world_core.specs.Settling.{hops_from};
+ghost use Rattle.world_core.specs.Steps.{IsEnabled};
+ghost use Rattle.workload_gen.specs.Counts.{IsCount};
+ghost use Rattle.workload_gen.specs.Draws.{arrival, due, pending_at, report, tried_at, tried_last};
 
-use crate::sweep::count_at;
-use std::alloc::{AllocError, Global};
-use world_core::{ControllerEvent, Event, PacketEvent, SwitchEvent, World};
+use document_text::PacketLine;
+use world_core::World;
 
-/// The counts of all switches.
-pub(crate) fn count_all(alloc: Global, world: &World) -> Result<Vec<u64>, AllocError>
-    ensures { IfOk result (λ v. AreCounts world.now v.items) }
+/// How many events can happen at a switch. The count stops at the greatest number of 64 bits.
+pub(crate) fn count_at(world: &World, place: usize) -> u64
+    ensures { IsCount world.now (tried_at world.now place) result }
 {
-    let mut counts = Vec::new(alloc);
-    for place in 0..world.topology().switches().len() {
-        counts.push(count_at(world, place))?;
-    }
-    Ok(counts)
+    let hears = u64::from(world.may_be_heard(place));
+    let replies = u64::from(world.may_reply(place));
+    let takes = u64::from(world.may_take(place));
+    let sends = u64::from(world.may_send(place));
+    pending_at(world, place).saturating_add(hears + replies + takes + sends)
 }
 
-/// Counts anew after an event that has led to this world.
-pub(crate) fn recount(counts: &mut [u64], world: &World, event: &Event)
-    ensures { (w : WorldValue) → AreCounts w counts.old → Step w event.now world.now → AreCounts world.now counts.new }
+/// How many flow mods are pending at a switch.
+pub(crate) fn pending_at(world: &World, place: usize) -> u64
+    ensures { result ≡ pending_at (slice_get world.now.fleet.ends place) }
 {
-    match event {
-        Event::Controller(control) => recount_control(counts, world, *control),
-        Event::Switch(act) => recount_switch(counts, world, *act),
-        Event::Packet(flow) => recount_packet(counts, world, flow),
-        Event::Foreign(_, _, _) => recount_all(counts, world),
+    if place >= world.switch_count() {
+        return 0;
     }
+    world.switch(place).pending() as u64
 }
 
-// Counts anew where an event of the controller has led to this world.
-fn recount_control(counts: &mut [u64], world: &World, control: ControllerEvent)
-    ensures { (w : WorldValue) → AreCounts w counts.old → Step w (event.Controller control) world.now → AreCounts world.now counts.new }
+/// How many copies in flight may take another hop.
+pub(crate) fn count_hops(world: &World) -> u64
+    ensures { IsCount world.now (hops_from 0 (length world.now.flights)) result }
 {
-    match control {
-        ControllerEvent::Send(place) => recount_at(counts, world, place),
-        _ => recount_all(counts, world),
+    let mut count = 0;
+    for place in 0..world.flights().len() {
+        count += u64::from(world.may_hop(place));
     }
+    count
 }
 
-// Counts anew where an event of a switch has led to this world.
-fn recount_switch(counts: &mut [u64], world: &World, act: SwitchEvent)
-    ensures { (w : WorldValue) → AreCounts w counts.old → Step w (event.Switch act) world.now → AreCounts world.now counts.new }
+/// How many there are of these three: the next packet can come in, an update can begin, a drain can be reported.
+pub(crate) fn count_last(world: &World, packets: &[PacketLine]) -> u64
+    ensures { IsCount world.now (tried_last packets.now world.now) result }
 {
-    match act {
-        SwitchEvent::Take(place) => recount_at(counts, world, place),
-        SwitchEvent::Apply(place, _) => recount_at(counts, world, place),
-        SwitchEvent::Reply(place) => recount_at(counts, world, place),
-    }
+    let arrives = u64::from(arrives(world, packets));
+    let begins = u64::from(begins(world));
+    let drains = u64::from(drains(world));
+    arrives + begins + drains
 }
 
-// Counts anew where an event of a packet has led to this world: no switch changes, unless updates are halted.
-fn recount_packet(counts: &mut [u64], world: &World, flow: &PacketEvent)
-    ensures { (w : WorldValue) → AreCounts w counts.old → Step w (event.Packet flow.now) world.now → AreCounts world.now counts.new }
+/// Whether the first of these packets can come in.
+pub(crate) fn arrives(world: &World, packets: &[PacketLine]) -> bool
+    ensures { IsCount world.now (arrival packets.now) (from_bool result) }
 {
-    match flow {
-        PacketEvent::Arrive(_, _) => {}
-        PacketEvent::Hop(_) => {}
-        PacketEvent::Stuck(_) => recount_all(counts, world),
-    }
-}
-
-// Counts anew at one switch.
-fn recount_at(counts: &mut [u64], world: &World, place: usize)
-    ensures length { length counts.new ≡ length counts.old }
-    ensures here { (n : ℕ) → slice_get counts.new place ≡ Some n → IsCount world.now place n }
-    ensures others { (k : ℕ) → k ≢ place → slice_get counts.new k ≡ slice_get counts.old k }
-{
-    if place < counts.len() {
-        counts[place] = count_at(world, place);
+    match packets.first() {
+        Some(line) => world.may_arrive(&line.packet, line.tag),
+        None => false,
     }
 }
 
-// Counts anew at all switches.
-fn recount_all(counts: &mut [u64], world: &World)
-    ensures length { length counts.new ≡ length counts.old }
-    ensures each { (place n : ℕ) → slice_get counts.new place ≡ Some n → IsCount world.now place n }
+/// Whether an update can begin.
+pub(crate) fn begins(world: &World) -> bool
+    ensures { IsTrue result ↔ IsEnabled world.now (event.Controller of_controller.Begin) }
 {
-    for place in 0..counts.len() {
-        counts[place] = count_at(world, place);
+    world.coordinator().may_begin()
+}
+
+/// Whether the report that is waited for can come.
+pub(crate) fn drains(world: &World) -> bool
+    ensures { IsCount world.now (report (due world.now.fleet.control)) (from_bool result) }
+{
+    match due(world) {
+        Some(stamp) => world.may_be_drained(stamp),
+        None => false,
     }
+}
+
+/// The stamp of which the report is waited for.
+pub(crate) fn due(world: &World) -> Option<u16>
+    ensures { result ≡ due world.now.fleet.control }
+{
+    world.coordinator().leaving()
 }

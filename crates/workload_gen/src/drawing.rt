@@ -7,8 +7,9 @@ ghost use Rattle.workload_gen.specs.Counts.{AreCounts};
 ghost use Rattle.workload_gen.specs.Draws.{Drawn, Draws, IsDrawn, left_by, tried};
 ghost use Rattle.workload_gen.specs.Words.{behind, next_word};
 
-use crate::counting::{count_all, recount};
-use crate::sweep::sweep_events;
+use crate::counting::{count_hops, count_last};
+use crate::finding::event_by;
+use crate::tally::Tally;
 use crate::words::next_word;
 use document_text::PacketLine;
 use rand_pcg::Lcg64Xsh32;
@@ -33,14 +34,14 @@ pub fn draw(
     ensures err { IfErr result (λ e. (events : List EventValue) × Drawn packets.now rng.old world.old events world.new) }
 {
     let mut events = Vec::new(alloc);
-    let mut counts = count_all(alloc, world)?;
+    let mut tally = Tally::new(alloc, world)?;
     let mut left = packets;
     for _ in 0..u64::MAX {
-        let Some(event) = next_event(world, &counts, left, rng) else {
+        let Some(event) = next_event(world, &tally, left, rng) else {
             return Ok(events);
         };
         left = left_by(&event, left);
-        do_next(alloc, world, &mut counts, event, &mut events)?;
+        do_next(alloc, world, &mut tally, event, &mut events)?;
     }
     Err(AllocError)
 }
@@ -48,20 +49,22 @@ pub fn draw(
 // The event that the next word draws, if one can happen.
 fn next_event(
     world: &World,
-    counts: &[u64],
+    tally: &Tally,
     packets: &[PacketLine],
     rng: &mut Lcg64Xsh32,
 ) -> Option<Event>
-    requires { AreCounts world.now counts.now }
+    requires { AreCounts world.now tally.now }
     ensures none { IfNone result (NoneIs world.now (tried packets.now world.now) × (rng.new ≡ rng.old)) }
     ensures some { IfSome result (λ e. IsDrawn packets.now world.now rng.old e × (rng.new ≡ (next_word rng.old).1)) }
 {
-    let count = sweep_events(world, counts, packets, 0).passed;
+    let hops = count_hops(world);
+    let others = hops.saturating_add(count_last(world, packets));
+    let count = tally.total().saturating_add(others);
     if count == 0 {
         return None;
     }
     let word = next_word(rng);
-    sweep_events(world, counts, packets, u64::from(word) % count).found
+    event_by(world, tally, packets, hops, u64::from(word) % count)
 }
 
 // The packets that are left after an event.
@@ -81,20 +84,20 @@ fn left_by<'a>(event: &Event, packets: &'a [PacketLine]) -> &'a [PacketLine]
 fn do_next(
     alloc: Global,
     world: &mut World,
-    counts: &mut [u64],
+    tally: &mut Tally,
     event: Event,
     events: &mut Vec<Event>,
 ) -> Result<(), AllocError>
     requires can { IsEnabled world.old event }
-    requires counts { AreCounts world.old counts.old }
+    requires counts { AreCounts world.old tally.old }
     ensures ok { OnOk result ((events.new.items ≡ events.old.items ++ event ∷ []) × Step world.old event world.new) }
-    ensures counts { OnOk result (AreCounts world.new counts.new) }
+    ensures counts { OnOk result (AreCounts world.new tally.new) }
     ensures err { OnErr result (world.new ≡ world.old) }
 {
     events.reserve(1)?;
     match world.step(alloc, &event) {
         Ok(()) => {
-            recount(counts, world, &event);
+            tally.recount(world, &event);
             events.push_reserved(event);
             Ok(())
         }

@@ -6,9 +6,10 @@ mod counting;
 mod documents;
 mod drawing;
 mod driving;
+mod finding;
 mod laws;
 mod policies;
-mod sweep;
+mod tally;
 mod words;
 
 pub use compiling::versions;

@@ -1,6 +1,4 @@
-use Rattle.std.proofs.Common.{ℕ, List, length, drop, subst, sym, arith}
-use Rattle.workload_gen.specs.Counts.{AreCounts}
-use Rattle.workload_gen.proofs.Recounting.{written-back}
+use Rattle.std.proofs.Common.{subst, sym}
 use Rattle.world_core.specs.Worlds.{WorldValue}
 use Rattle.workload_gen.specs.Draws.{Drawn}
 use Rattle.workload_gen.proofs.Turning.{any-err, drawn-can, drawn-runs, so-far-more}
@@ -21,6 +19,5 @@ pub loop-preserved : goal.loop-preserved
 loop-preserved c = record {
   so_far = so-far-more c.args.packets.now c.args.rng.now c.args.world.now c.loop.events.items c.loop.left.now c.loop.rng c.loop.world c.in-Some.event c.do_next.new.events.items c.left_by-left.result.now c.next_event.new.rng c.do_next.new.world
       c.loop.invariant.so_far c.in-Some.ensures.some.0 c.in_ok-do_next.ensures.ok.1 c.in_ok-do_next.ensures.ok.0 c.left_by-left.ensures c.in-Some.ensures.some.1;
-  counts = subst (λ (ns : List ℕ). AreCounts c.do_next.new.world ns)
-      (sym (written-back c.loop.counts.len c.do_next.new.counts (drop (length c.do_next.new.counts) c.loop.counts.items) (let a = c.do_next.auto.counts in let b = c.deref_mut.ensures.len in let d = c.loop.counts.ok.0 in omega (arith, a, b, d)))) c.in_ok-do_next.ensures.counts;
+  counts = c.in_ok-do_next.ensures.counts;
 }

@@ -1,16 +1,42 @@
-use Rattle.std.proofs.Common.{◌%◌, refl, ◌∙◌, ap, ℕ, arith}
+use Rattle.std.proofs.Common.{◌%◌, refl, subst, ℕ, arith}
+use Rattle.workload_gen.specs.Counts.{Finds, IsCount}
+use Rattle.workload_gen.specs.Draws.{tried}
+use Rattle.workload_gen.proofs.Counted.{count-tried, total-counts}
 use Rattle.workload_gen.proofs.Turning.{count-none, drawn-found, if-none, if-some}
 use Rattle.workload_gen.proofs.drawing.next_event.Goals as goal
 
 pub returns-then-count-eq0-clause-none : goal.returns-then-count-eq0-clause-none
-returns-then-count-eq0-clause-none c = (count-none c.args.packets.now c.args.world.now c.sweep_events-count.result c.sweep_events-count.ensures.passed c.if-count-eq0.true, refl)
+returns-then-count-eq0-clause-none c =
+    let w = c.args.world.now in
+    let lines = c.args.packets.now in
+    let n = c.saturating_add-count.result in
+    let counted : IsCount w (tried lines w) n =
+    count-tried w lines c.total.result c.count_hops-hops.result c.count_last.result c.saturating_add-others.result n
+    (total-counts w c.args.tally.now c.total.result c.requires c.total.ensures) c.count_hops-hops.ensures c.count_last.ensures c.saturating_add-others.ensures c.saturating_add-count.ensures in
+    (count-none w (tried lines w) n counted c.if-count-eq0.true, refl)
 
 pub returns-clause-none : goal.returns-clause-none
 returns-clause-none c =
-    let f = drawn-found c.args.packets.now c.args.world.now c.args.rng.now c.sweep_events-count.result c.sweep_events.result c.sweep_events-count.ensures.passed c.sweep_events.ensures.passed c.next_word-word.result c.next_word-word.ensures.word (omega (arith, c.next_word-word.type_inv)) c.if-count-eq0.false (c.sweep_events.ensures.number ∙ ap (λ (n : ℕ). n % c.sweep_events-count.result.passed) c.from.ensures) in
-    if-none _ c.sweep_events.result.found f.0 f.1
+    let w = c.args.world.now in
+    let lines = c.args.packets.now in
+    let n = c.saturating_add-count.result in
+    let word = c.next_word-word.result in
+    let counted : IsCount w (tried lines w) n =
+    count-tried w lines c.total.result c.count_hops-hops.result c.count_last.result c.saturating_add-others.result n
+    (total-counts w c.args.tally.now c.total.result c.requires c.total.ensures) c.count_hops-hops.ensures c.count_last.ensures c.saturating_add-others.ensures c.saturating_add-count.ensures in
+    let finds : Finds w (tried lines w) (word % n) c.event_by.result = subst (λ (k : ℕ). Finds w (tried lines w) (k % n) c.event_by.result) c.from.ensures c.event_by.ensures in
+    let f = drawn-found lines w c.args.rng.now n c.event_by.result counted word c.next_word-word.ensures.word (omega (arith, c.next_word-word.type_inv)) c.if-count-eq0.false finds in
+    if-none _ c.event_by.result f.0 f.1
 
 pub returns-clause-some : goal.returns-clause-some
 returns-clause-some c =
-    let f = drawn-found c.args.packets.now c.args.world.now c.args.rng.now c.sweep_events-count.result c.sweep_events.result c.sweep_events-count.ensures.passed c.sweep_events.ensures.passed c.next_word-word.result c.next_word-word.ensures.word (omega (arith, c.next_word-word.type_inv)) c.if-count-eq0.false (c.sweep_events.ensures.number ∙ ap (λ (n : ℕ). n % c.sweep_events-count.result.passed) c.from.ensures) in
-    if-some _ c.sweep_events.result.found f.0 f.1 (f.2, c.next_word-word.ensures.behind)
+    let w = c.args.world.now in
+    let lines = c.args.packets.now in
+    let n = c.saturating_add-count.result in
+    let word = c.next_word-word.result in
+    let counted : IsCount w (tried lines w) n =
+    count-tried w lines c.total.result c.count_hops-hops.result c.count_last.result c.saturating_add-others.result n
+    (total-counts w c.args.tally.now c.total.result c.requires c.total.ensures) c.count_hops-hops.ensures c.count_last.ensures c.saturating_add-others.ensures c.saturating_add-count.ensures in
+    let finds : Finds w (tried lines w) (word % n) c.event_by.result = subst (λ (k : ℕ). Finds w (tried lines w) (k % n) c.event_by.result) c.from.ensures c.event_by.ensures in
+    let f = drawn-found lines w c.args.rng.now n c.event_by.result counted word c.next_word-word.ensures.word (omega (arith, c.next_word-word.type_inv)) c.if-count-eq0.false finds in
+    if-some _ c.event_by.result f.0 f.1 (f.2, c.next_word-word.ensures.behind)

@@ -1,9 +1,0 @@
-use Rattle.std.proofs.Common.{◌≡◌, ℕ, length, slice_get, Some}
-use Rattle.workload_gen.specs.Counts.{IsCount}
-use Rattle.workload_gen.proofs.counting.count_all.Given as goal
-
-abbrev pub invariant-loop-place : goal.invariant-loop-place
-invariant-loop-place l = record {
-  all : length l.counts.items ≡ l.place;
-  each : (k n : ℕ) → slice_get l.counts.items k ≡ Some n → IsCount l.world k n;
-}

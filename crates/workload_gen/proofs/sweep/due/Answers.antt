@@ -1,8 +1,0 @@
-use Rattle.std.proofs.Common.{◌≡◌, Option, ℕ, subst}
-use Rattle.update_coordinator.specs.Controls.{Control}
-use Rattle.workload_gen.specs.Draws.{due}
-use Rattle.workload_gen.proofs.Sweeping.{told-due}
-use Rattle.workload_gen.proofs.sweep.due.Goals as goal
-
-pub returns : goal.returns
-returns c = subst (λ (d : Control). c.leaving.result ≡ due d) c.coordinator.ensures (told-due c.coordinator.result.now c.leaving.result c.leaving.ensures.some c.leaving.ensures.only)
