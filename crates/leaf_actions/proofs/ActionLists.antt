@@ -16,7 +16,6 @@ use Rattle.nk_values.specs.Ranges.{IsLiteralOf}
 use Rattle.nk_values.specs.Tags.{IsVlanId}
 use Rattle.nk_values.proofs.PacketLaws.{get-with_same, get-with_other, field_cases}
 use Rattle.fdd_nodes.specs.Cells.{open_cell}
-use Rattle.fdd_nodes.specs.Paths.{Way, cell_on}
 use Rattle.fdd_nodes.specs.Trees.{apply}
 use Rattle.leaf_actions.specs.declared.made.ActionsFault.{ActionsFault}
 use Rattle.leaf_actions.specs.declared.route.Route.{Route}
@@ -32,28 +31,28 @@ use Rattle.policy_rows.specs.Means.{port_tag}
 use Rattle.leaf_actions.proofs.Acted.{IsOut, acted_listed}
 use Rattle.leaf_actions.proofs.Allowed.{one_settable}
 use Rattle.leaf_actions.proofs.Chained.{chain_of, climbs_of}
-use Rattle.leaf_actions.proofs.Fixed.{fixed_agrees, fill_own}
+use Rattle.leaf_actions.proofs.Fixed.{fill_own}
 use Rattle.leaf_actions.proofs.Routed.{IsRouteOf, listed_known, listing_rises, sent_route, sent_listed}
 
 -- copies in order that climb, and their actions
-pub record Ready (w : Way) (v : PortView) (cs : List (List Lit)) (as' : List Action) : Type 0 where
+pub record Ready (x : Packet) (v : PortView) (cs : List (List Lit)) (as' : List Action) : Type 0 where
   pub routes : List Route
-  pub listing : IsListing v (cell_on w) cs routes
-  pub climbs : Climbs (cell_on w) (cell_on w) routes
-  pub actions : as' ≡ listed v (cell_on w) (cell_on w) v.kind routes
+  pub listing : IsListing v x cs routes
+  pub climbs : Climbs x x routes
+  pub actions : as' ≡ listed v x x v.kind routes
 
 -- the same under the names that the code gives
-pub ready : (w : Way) (v : PortView) (cs ds : List (List Lit)) (x : Packet) (rs ns ms : List Route) (as' : List Action) → x ≡ cell_on w → ds ≡ cs → ns ≡ rs → ms ≡ rs →
-    IsListing v x ds rs → Climbs x x ns → as' ≡ listed v x x v.kind ms → Ready w v cs as'
-ready w v cs ds x rs ns ms as' ex ed en em l c a = record {
+pub ready : (v : PortView) (cs ds : List (List Lit)) (x : Packet) (rs ns ms : List Route) (as' : List Action) → ds ≡ cs → ns ≡ rs → ms ≡ rs →
+    IsListing v x ds rs → Climbs x x ns → as' ≡ listed v x x v.kind ms → Ready x v cs as'
+ready v cs ds x rs ns ms as' ed en em l c a = record {
   routes = rs;
-  listing = subst (λ (y : Packet). IsListing v y cs rs) ex (subst (λ (es : List (List Lit)). IsListing v x es rs) ed l);
-  climbs = subst (λ (y : Packet). Climbs y y rs) ex (subst (λ (ys : List Route). Climbs x x ys) en c);
-  actions = subst (λ (y : Packet). as' ≡ listed v y y v.kind rs) ex (subst (λ (ys : List Route). as' ≡ listed v x x v.kind ys) em a);
+  listing = subst (λ (es : List (List Lit)). IsListing v x es rs) ed l;
+  climbs = subst (λ (ys : List Route). Climbs x x ys) en c;
+  actions = subst (λ (ys : List Route). as' ≡ listed v x x v.kind ys) em a;
 }
 
-pub action_list : (w : Way) (v : PortView) (cs : List (List Lit)) (as' : List Action) → Ready w v cs as' → IsActionList w v cs as'
-action_list w v cs as' r = record { routes = r.routes; listing = r.listing; chain = chain_of (cell_on w) (cell_on w) r.routes r.climbs; actions = r.actions }
+pub action_list : (x : Packet) (v : PortView) (cs : List (List Lit)) (as' : List Action) → Ready x v cs as' → IsActionList x v cs as'
+action_list x v cs as' r = record { routes = r.routes; listing = r.listing; chain = chain_of x x r.routes r.climbs; actions = r.actions }
 
 -- the port with a number has that number
 pub port_found : (ps : List SwitchPort) (n : ℕ) (s : SwitchPort) → port_in ps n ≡ Some s → s.pt ≡ n
@@ -83,16 +82,15 @@ is_out v x cs r k =
       | inr l ↦ let low = l.low in let high = l.value.high in inr (omega (arith, low, e), omega (arith, high, e))
     ]
 
-pub acts_as : (w : Way) (v : PortView) (cs : List (List Lit)) (as' : List Action) → AreSettable cs → IsVlanId v.stamp → Ready w v cs as' → ActsAs w v cs as'
-acts_as w v cs as' t s ready = record {
-  same = λ p h d.
-      let a = fixed_agrees w p h in
-      let known = acted_listed v (cell_on w) (cell_on w) p v.kind ready.routes s a refl refl (λ r i. let k = listed_known v (cell_on w) cs ready.routes ready.listing r i in (is_out v (cell_on w) cs r k, one_settable cs r.copy t k.copy)) ready.climbs in
+pub acts_as : (x : Packet) (v : PortView) (cs : List (List Lit)) (as' : List Action) → AreSettable cs → IsVlanId v.stamp → Ready x v cs as' → ActsAs x v cs as'
+acts_as x v cs as' t s ready = record {
+  same = λ p a d.
+      let known = acted_listed v x x p v.kind ready.routes s a refl refl (λ r i. let k = listed_known v x cs ready.routes ready.listing r i in (is_out v x cs r k, one_settable cs r.copy t k.copy)) ready.climbs in
       let now : acted as' (arriving v p) ≡ map (sent_route v p) ready.routes =
       ap (λ (l : List Action). acted l (arriving v p)) ready.actions ∙
-      ap (λ (q : Packet). acted (listed v (cell_on w) (cell_on w) v.kind ready.routes) (record { port = v.pt; header = q.header; tag = port_tag v.kind v.stamp })) (sym (fill_own (cell_on w) p a)) ∙
+      ap (λ (q : Packet). acted (listed v x x v.kind ready.routes) (record { port = v.pt; header = q.header; tag = port_tag v.kind v.stamp })) (sym (fill_own x p a)) ∙
       known in
-      subst (λ (xs : List Sent). IsPermutation (sendings v cs p) xs) (sym now) (sent_listed v (cell_on w) p cs ready.routes d ready.listing.all);
+      subst (λ (xs : List Sent). IsPermutation (sendings v cs p) xs) (sym now) (sent_listed v x p cs ready.routes d ready.listing.all);
 }
 
 -- where the copies do not climb some two are apart

@@ -5,7 +5,6 @@ use Rattle.nk_values.specs.declared.field.Field.{Field}
 use Rattle.nk_values.specs.declared.lit.Lit.{Lit}
 use Rattle.nk_values.specs.declared.packet.Packet.{Packet}
 use Rattle.nk_values.specs.Members.{IsIn}
-use Rattle.fdd_nodes.specs.Paths.{cell_on}
 use Rattle.leaf_actions.specs.declared.made.ActionsFault.{ActionsFault}
 use Rattle.leaf_actions.specs.declared.route.Route.{Route}
 use Rattle.leaf_actions.specs.Changes.{changes, Includes, first_of_fields, goes_beyond, first_beyond}
@@ -52,8 +51,7 @@ pub exact : ChainsHaveNoFirstPair
 exact v x cs rs l = (chain_none x rs, λ e. chain_of x x rs (climbs_of x rs (listing_rises v x cs rs l) e))
 
 pub exclude : ListsExcludeFaults
-exclude w v cs as' u list fault =
-    let x = cell_on w in
+exclude x v cs as' u list fault =
     let all = routes_of v x cs in
     let among : (r : Route) → IsIn fault.routes r → IsIn list.routes r = λ r i. in_permuted all list.routes r list.listing.all (in_original all fault.routes r fault.listing.all i) in
     let chain : IsChain x fault.routes = record { ordered = λ a b i j. list.chain.ordered a b (among a i) (among b j) } in

@@ -16,7 +16,6 @@ use Rattle.nk_values.specs.Packets.{get}
 use Rattle.nk_values.specs.Ranges.{IsValue}
 use Rattle.nk_values.specs.Tags.{IsVlanId}
 use Rattle.fdd_nodes.specs.Cells.{IsOpen, IsValid}
-use Rattle.fdd_nodes.specs.Paths.{Way, cell_on}
 use Rattle.fdd_nodes.specs.Trees.{apply}
 use Rattle.leaf_actions.specs.declared.route.Route.{Route}
 use Rattle.leaf_actions.specs.declared.view.PortView.{PortView}
@@ -27,7 +26,7 @@ use Rattle.leaf_actions.proofs.Acted.{IsOut}
 use Rattle.leaf_actions.proofs.ActionLists.{Ready, is_out}
 use Rattle.leaf_actions.proofs.ChainLaws.{chain_none}
 use Rattle.leaf_actions.proofs.Chained.{Keeps, keeps_of, climbs_of}
-use Rattle.leaf_actions.proofs.Fixed.{valid_apply, fixed_valid}
+use Rattle.leaf_actions.proofs.Fixed.{valid_apply}
 use Rattle.leaf_actions.proofs.Routed.{listed_known, listing_rises}
 
 abbrev Fit : List Action → Type 0
@@ -95,17 +94,17 @@ listed_fit v x y k (r ∷ rs) s valid out c =
     (both_fit (retagged v.stamp k r.kind) (Output (port_number v r.port) ∷ listed v x z r.kind rs) (retagged_fit v.stamp k r.kind s)
     (number_fits v r (out r (inl refl)), listed_fit v x z r.kind rs s valid (λ t i. out t (inr i)) c.1))
 
-pub actions_fit : (w : Way) (v : PortView) (cs : List (List Lit)) (as' : List Action) → IsVlanId v.stamp → Ready w v cs as' → AllByRecursion FitsAction as'
-actions_fit w v cs as' s ready =
+pub actions_fit : (x : Packet) (v : PortView) (cs : List (List Lit)) (as' : List Action) → IsVlanId v.stamp → IsValid x → Ready x v cs as' → AllByRecursion FitsAction as'
+actions_fit x v cs as' s valid ready =
     subst (λ (l : List Action). Fit l) (sym ready.actions)
-    (listed_fit v (cell_on w) (cell_on w) v.kind ready.routes s (fixed_valid w) (λ r i. is_out v (cell_on w) cs r (listed_known v (cell_on w) cs ready.routes ready.listing r i)) ready.climbs)
+    (listed_fit v x x v.kind ready.routes s valid (λ r i. is_out v x cs r (listed_known v x cs ready.routes ready.listing r i)) ready.climbs)
 
 -- whatever lists the copies can be written
-pub list_fits : (w : Way) (v : PortView) (cs : List (List Lit)) (as' : List Action) → IsVlanId v.stamp → IsActionList w v cs as' → AllByRecursion FitsAction as'
-list_fits w v cs as' s list =
-    actions_fit w v cs as' s (record {
+pub list_fits : (x : Packet) (v : PortView) (cs : List (List Lit)) (as' : List Action) → IsVlanId v.stamp → IsValid x → IsActionList x v cs as' → AllByRecursion FitsAction as'
+list_fits x v cs as' s valid list =
+    actions_fit x v cs as' s valid (record {
       routes = list.routes;
       listing = list.listing;
-      climbs = climbs_of (cell_on w) list.routes (listing_rises v (cell_on w) cs list.routes list.listing) (chain_none (cell_on w) list.routes list.chain);
+      climbs = climbs_of x list.routes (listing_rises v x cs list.routes list.listing) (chain_none x list.routes list.chain);
       actions = list.actions;
     })

@@ -1,5 +1,7 @@
 pub mod Acted
 pub mod Allowed
+pub mod Alone
+pub mod Assigned
 pub mod ChainLaws
 pub mod Chained
 pub mod Fits

@@ -15,7 +15,6 @@ use Rattle.nk_values.specs.contracts.lit.LitOrd.TheImpl.Laws.{matches_eq-law}
 use Rattle.nk_values.specs.Ranks.{lit_cmp}
 use Rattle.nk_values.proofs.LitLaws.{lit_eq-Decides}
 use Rattle.fdd_nodes.specs.Copies.{copy_cmp}
-use Rattle.fdd_nodes.specs.Paths.{cell_on}
 use Rattle.leaf_actions.specs.declared.route.Route.{Route}
 use Rattle.leaf_actions.specs.declared.view.PortView.{PortView}
 use Rattle.leaf_actions.specs.declared.view.SwitchPort.{SwitchPort}
@@ -145,5 +144,5 @@ one_listing v x cs rs ss h k =
 
 -- so copies have one list of actions at most
 pub one_list : ListsAreOne
-one_list w v cs as' bs h k =
-    h.actions ∙ ap (λ (rs : List Route). listed v (cell_on w) (cell_on w) v.kind rs) (one_listing v (cell_on w) cs h.routes k.routes h.listing k.listing) ∙ sym k.actions
+one_list x v cs as' bs h k =
+    h.actions ∙ ap (λ (rs : List Route). listed v x x v.kind rs) (one_listing v x cs h.routes k.routes h.listing k.listing) ∙ sym k.actions

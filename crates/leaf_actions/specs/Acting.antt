@@ -7,7 +7,7 @@ use Rattle.nk_values.specs.declared.packet.Packet.{Packet}
 use Rattle.nk_values.specs.declared.lit.Lit.{Lit}
 use Rattle.nk_values.specs.declared.sent.Sent.{Sent}
 use Rattle.nk_values.specs.Acts.{acted}
-use Rattle.fdd_nodes.specs.Paths.{Way, IsOnPath}
+use Rattle.fdd_nodes.specs.Cells.{Agrees}
 use Rattle.fdd_nodes.specs.Trees.{outcomes}
 use Rattle.policy_rows.specs.Means.{port_tag}
 use Rattle.leaf_actions.specs.declared.view.PortView.{PortView}
@@ -26,7 +26,7 @@ sent_at v q = sent_by_port v q (port_in v.ports q.pt)
 abbrev pub sendings : PortView → List (List Lit) → Packet → List Sent
 sendings v cs p = flat_map (sent_at v) (outcomes cs p)
 
--- Of each packet of the path at the view's port, with the tag of that port, the actions send the copies, each once, in some
+-- Of each packet of the cell x at the view's port, with the tag of that port, the actions send the copies, each once, in some
 -- order.
-pub record ActsAs (w : Way) (v : PortView) (cs : List (List Lit)) (as' : List Action) : Type 0 where
-  pub same : (p : Packet) → IsOnPath w p → p.pt ≡ v.pt → IsPermutation (sendings v cs p) (acted as' (arriving v p))
+pub record ActsAs (x : Packet) (v : PortView) (cs : List (List Lit)) (as' : List Action) : Type 0 where
+  pub same : (p : Packet) → Agrees x p → p.pt ≡ v.pt → IsPermutation (sendings v cs p) (acted as' (arriving v p))

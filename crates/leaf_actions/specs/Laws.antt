@@ -3,7 +3,6 @@ use Rattle.std.specs.Prelude.{◌≡◌, ◌↔◌, List, None}
 use Rattle.nk_values.specs.declared.action.Action.{Action}
 use Rattle.nk_values.specs.declared.lit.Lit.{Lit}
 use Rattle.nk_values.specs.declared.packet.Packet.{Packet}
-use Rattle.fdd_nodes.specs.Paths.{Way}
 use Rattle.leaf_actions.specs.declared.made.ActionsFault.{ActionsFault}
 use Rattle.leaf_actions.specs.declared.route.Route.{Route}
 use Rattle.leaf_actions.specs.declared.view.PortView.{PortView}
@@ -16,8 +15,8 @@ ChainsHaveNoFirstPair = (v : PortView) (x : Packet) (cs : List (List Lit)) (rs :
 
 -- copies with a list of actions have no first pair that is apart
 abbrev pub ListsExcludeFaults : Type 0
-ListsExcludeFaults = (w : Way) (v : PortView) (cs : List (List Lit)) (as' : List Action) (u : ActionsFault) → IsActionList w v cs as' → ¬ IsUnordered w v cs u
+ListsExcludeFaults = (x : Packet) (v : PortView) (cs : List (List Lit)) (as' : List Action) (u : ActionsFault) → IsActionList x v cs as' → ¬ IsUnordered x v cs u
 
 -- copies have one list of actions at most
 abbrev pub ListsAreOne : Type 0
-ListsAreOne = (w : Way) (v : PortView) (cs : List (List Lit)) (as' bs : List Action) → IsActionList w v cs as' → IsActionList w v cs bs → as' ≡ bs
+ListsAreOne = (x : Packet) (v : PortView) (cs : List (List Lit)) (as' bs : List Action) → IsActionList x v cs as' → IsActionList x v cs bs → as' ≡ bs

@@ -10,7 +10,6 @@ use Rattle.nk_values.specs.declared.rows.PortKind.{PortKind}
 use Rattle.nk_values.specs.declared.rows.PortKind.TheVariants.{Edge, Linked}
 use Rattle.nk_values.specs.Members.{IsIn}
 use Rattle.nk_values.specs.Packets.{get}
-use Rattle.fdd_nodes.specs.Paths.{Way, cell_on}
 use Rattle.fdd_nodes.specs.Trees.{apply}
 use Rattle.leaf_actions.specs.declared.made.ActionsFault.{ActionsFault}
 use Rattle.leaf_actions.specs.declared.made.ActionsError.{ActionsError}
@@ -84,20 +83,20 @@ abbrev pub listed : PortView → Packet → Packet → PortKind → List Route �
 listed v x y k [] = []
 listed v x y k (r ∷ rs) = changed y (apply r.copy x) settable ++ (retagged v.stamp k r.kind ++ Output (port_number v r.port) ∷ listed v x (apply r.copy x) r.kind rs)
 
--- the actions of a leaf: its copies form a chain, and are listed in order
-pub record IsActionList (w : Way) (v : PortView) (cs : List (List Lit)) (as' : List Action) : Type 0 where
+-- the actions of a leaf in the cell x: its copies form a chain, and are listed in order
+pub record IsActionList (x : Packet) (v : PortView) (cs : List (List Lit)) (as' : List Action) : Type 0 where
   pub routes : List Route
-  pub listing : IsListing v (cell_on w) cs routes
-  pub chain : IsChain (cell_on w) routes
-  pub actions : as' ≡ listed v (cell_on w) (cell_on w) v.kind routes
+  pub listing : IsListing v x cs routes
+  pub chain : IsChain x routes
+  pub actions : as' ≡ listed v x x v.kind routes
 
 -- the first copies that are apart
-pub record IsUnordered (w : Way) (v : PortView) (cs : List (List Lit)) (u : ActionsFault) : Type 0 where
+pub record IsUnordered (x : Packet) (v : PortView) (cs : List (List Lit)) (u : ActionsFault) : Type 0 where
   pub routes : List Route
-  pub listing : IsListing v (cell_on w) cs routes
-  pub first : first_apart (cell_on w) routes ≡ Some u
+  pub listing : IsListing v x cs routes
+  pub first : first_apart x routes ≡ Some u
 
 -- nothing is said of memory
-abbrev pub Bars : Way → PortView → List (List Lit) → ActionsError → Type 0
-Bars w v cs error.Memory = Unit {0}
-Bars w v cs (error.Fault u) = IsUnordered w v cs u
+abbrev pub Bars : Packet → PortView → List (List Lit) → ActionsError → Type 0
+Bars x v cs error.Memory = Unit {0}
+Bars x v cs (error.Fault u) = IsUnordered x v cs u

@@ -8,14 +8,15 @@ ghost use Rattle.fdd_nodes.specs.Cells.{IsValid};
 ghost use Rattle.leaf_actions.specs.Acting.{ActsAs};
 ghost use Rattle.leaf_actions.specs.Chains.{keeps_fields, keeps, Climbs};
 ghost use Rattle.leaf_actions.specs.Listing.{setting, change, changed, retagged, port_number, listed, IsActionList, Bars};
+ghost use Rattle.leaf_actions.specs.Routes.{routes_of};
 ghost use Rattle.leaf_actions.specs.Settable.{AreSettable, settable};
 
 use crate::fields::SETTABLE;
-use crate::order::{climbs, listing};
+use crate::order::{climbs, listing, out_of};
 use crate::pairs::first_apart;
 use crate::route::Route;
 use crate::view::PortView;
-use fdd_nodes::{Cell, Leaf, Path};
+use fdd_nodes::{Assignments, Cell, Leaf};
 use nk_values::{Action, Actions, Field, IN_PORT, Packet, PortKind};
 use std::alloc::{AllocError, Global};
 
@@ -48,24 +49,29 @@ impl From<AllocError> for ActionsError {
     }
 }
 
-/// The actions that make the copies of a leaf, for the packets of a path at a port (OpenFlow 1.0.0, 5.2.4). Copies to ports
-/// that are not declared are left out. The others are listed by the number of header fields that they set and the path does
-/// not fix, then by port and assignments. The error carries the first two copies that no order makes both.
+/// The actions that make the copies of a leaf, for the packets of a cell at a port (OpenFlow 1.0.0, 5.2.4). Copies to ports
+/// that are not declared are left out. The others are listed by the number of header fields that they set and the cell does
+/// not fix, then by port and assignments. The error carries the first two copies that no order makes both. The cells that
+/// paths fix are valid.
 pub fn actions(
     alloc: Global,
-    path: &Path,
+    cell: &Cell,
     leaf: &Leaf,
     view: &PortView,
 ) -> Result<Actions, ActionsError>
+    requires valid { IsValid cell.now }
     requires settable { AreSettable leaf.now }
     requires stamp { IsVlanId view.now.stamp }
-    ensures list { IfOk result (IsActionList path.now view.now leaf.now) }
-    ensures acts { IfOk result (ActsAs path.now view.now leaf.now) }
+    ensures list { IfOk result (IsActionList cell.now view.now leaf.now) }
+    ensures acts { IfOk result (ActsAs cell.now view.now leaf.now) }
     ensures fits { IfOk result (AllByRecursion FitsAction) }
-    ensures barred { IfErr result (Bars path.now view.now leaf.now) }
+    ensures barred { IfErr result (Bars cell.now view.now leaf.now) }
 {
-    let cell = path.cell();
-    let routes = listing(alloc, cell, leaf.copies(), view)?;
+    let copies = leaf.copies();
+    if let [copy] = copies {
+        return Ok(listed_alone(alloc, cell, copy, view)?);
+    }
+    let routes = listing(alloc, cell, copies, view)?;
     if climbs(cell, &routes) {
         return Ok(listed(alloc, cell, &routes, view)?);
     }
@@ -73,6 +79,27 @@ pub fn actions(
         Some(fault) => Err(ActionsError::Fault(fault)),
         None => unreachable!(),
     }
+}
+
+// The actions of a copy that is alone.
+fn listed_alone(
+    alloc: Global,
+    cell: &Cell,
+    copy: &Assignments,
+    view: &PortView,
+) -> Result<Actions, AllocError>
+    requires { IsValid cell.now }
+    ensures { IfOk result (λ as'. as' ≡ listed view.now cell.now cell.now view.now.kind (routes_of view.now cell.now (copy.now ∷ []))) }
+{
+    let Some(port) = view.port(out_of(view, copy)) else {
+        return Ok(Actions::new(alloc));
+    };
+    let mut actions = Actions::of(Vec::with_capacity(alloc, 2)?);
+    let known = cell.generic();
+    push_changes(&mut actions, known, &copy.apply(known))?;
+    push_tag(&mut actions, view.stamp, view.kind, port.kind)?;
+    actions.push(Action::Output(port_number(view, port.pt)))?;
+    Ok(actions)
 }
 
 // The actions of copies in order.

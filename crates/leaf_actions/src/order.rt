@@ -47,11 +47,13 @@ fn routes_of(
 }
 
 // The port at which a copy stands.
-fn out_of(view: &PortView, copy: &Assignments) -> u64
+pub(crate) fn out_of(view: &PortView, copy: &Assignments) -> u64
     ensures { result ≡ out_of view.now copy.now }
 {
-    let at_port = Cell::open().generic().with(Field::Pt, u64::from(view.pt));
-    copy.apply(&at_port).pt
+    match copy.get(Field::Pt) {
+        Some(n) => n,
+        None => u64::from(view.pt),
+    }
 }
 
 // Whether each copy changes all that the one before it changes, beginning with what a cell fixes.

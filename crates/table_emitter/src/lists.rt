@@ -1,24 +1,21 @@
 // The rows of a port.
-ghost use Rattle.std.specs.Prelude.{◌≡◌, ◌+◌, ◌-◌, ◌<◌, ◌≤◌, [], ◌∷◌, ◌++◌, length, map, OnOk, OnErr, IfOk, IfErr};
+ghost use Rattle.std.specs.Prelude.{◌≡◌, ◌+◌, ◌-◌, ◌<◌, ◌≤◌, [], ◌∷◌, ◌++◌, length, OnOk, IfOk, IfErr};
 ghost use Rattle.nk_values.specs.Tags.{IsVlanId};
 ghost use Rattle.fdd_nodes.specs.Cells.{IsValid};
-ghost use Rattle.fdd_nodes.specs.Paths.{Way, no_tests, with_true, with_false};
-ghost use Rattle.nk_values.specs.declared.lit.Lit.{Lit};
-ghost use Rattle.fdd_nodes.specs.Trees.{tree};
+ghost use Rattle.fdd_nodes.specs.Paths.{no_tests};
+ghost use Rattle.fdd_nodes.specs.Trees.{Leaf as TreeLeaf, tree};
 ghost use Rattle.leaf_actions.specs.Settable.{AreSettable};
 ghost use Rattle.table_emitter.specs.Emission.{CanBeMade};
-ghost use Rattle.table_emitter.specs.Entries.{entry_of, leaf_entries, entries, AreActionsOf, AreRows, Adds};
-ghost use Rattle.table_emitter.specs.Faults.{Bars, BarsLeaf, BarsRow};
-ghost use Rattle.table_emitter.specs.Kinds.{kinds_of};
-ghost use Rattle.table_emitter.specs.Patterns.{cells_of, pattern_of};
+ghost use Rattle.table_emitter.specs.Entries.{entries, AreActionsOf, AreRows, AddsFrom};
+ghost use Rattle.table_emitter.specs.Faults.{Bars, BarsFrom, BarsLeaf, BarsRow};
 
 use crate::fault::EmitError;
 use crate::kinds::Kinds;
-use crate::patterns::{cells_of, pattern_of};
+use crate::patterns::{RowCells, cells_of, pattern_of};
 use crate::sizes::are_small;
-use fdd_nodes::{Leaf, Node, Path};
+use fdd_nodes::{Cell, Leaf, Node};
 use leaf_actions::{ActionsError, PortView, actions};
-use nk_values::{Actions, EmitFault, FieldSet, Lit, MOST_PORT_ROWS, Pattern, Row, RowList};
+use nk_values::{Actions, EmitFault, FieldSet, MOST_PORT_ROWS, Pattern, Row, RowList};
 use std::alloc::{AllocError, Global};
 
 // The rows of a port: those of all paths of a diagram, with priorities from `top` down.
@@ -34,133 +31,60 @@ pub(crate) fn list_port(
     ensures rows { IfOk result (AreRows view.now top (entries no_tests (tree part.now))) }
     ensures bars { IfErr result (Bars view.now 0 (entries no_tests (tree part.now))) }
 {
-    let mut lister = Lister {
-        path: Path::new(alloc),
-        rows: RowList::new(alloc),
-    };
-    lister.walk(alloc, part, Kinds::open(), view, top)?;
-    Ok(lister.rows)
+    let mut rows = RowList::new(alloc);
+    walk(
+        alloc,
+        part,
+        &Cell::open(),
+        Kinds::open(),
+        view,
+        top,
+        &mut rows,
+    )?;
+    Ok(rows)
 }
 
-// A path of a diagram, and the rows of the paths before it.
-#[derive(Drop)]
-struct Lister {
-    path: Path,
-    rows: RowList,
-}
-
-impl Lister {
-    // Adds the rows of the paths that go on from the path. A part that no well-shaped packet reaches has none.
-    #[cycle(walk)]
-    fn walk(
-        &mut self,
-        alloc: Global,
-        node: &Node,
-        kinds: Kinds,
-        view: &PortView,
-        top: u16,
-    ) -> Result<(), EmitError>
-        requires made { CanBeMade (tree node.now) }
-        requires stamp { IsVlanId view.now.stamp }
-        requires top { 16000 ≤ top }
-        requires kinds { kinds ≡ kinds_of self.old.path }
-        requires few { length self.old.rows ≤ 16000 }
-        ensures path { OnOk result (self.new.path ≡ self.old.path) }
-        ensures rows { OnOk result (Adds view.now top (entries self.old.path (tree node.now)) self.old.rows self.new.rows) }
-        ensures bars { IfErr result (Bars view.now (length self.old.rows) (entries self.old.path (tree node.now))) }
-    {
-        if kinds.is_void() {
-            return Ok(());
-        }
+// Adds the rows of a part, on each path that fixes this cell and says these kinds. A branch that no well-shaped packet
+// takes is left out, since it has none.
+fn walk(
+    alloc: Global,
+    part: &Node,
+    cell: &Cell,
+    kinds: Kinds,
+    view: &PortView,
+    top: u16,
+    rows: &mut RowList,
+) -> Result<(), EmitError>
+    requires made { CanBeMade (tree part.now) }
+    requires valid { IsValid cell.now }
+    requires stamp { IsVlanId view.now.stamp }
+    requires top { 16000 ≤ top }
+    requires few { length rows.old ≤ 16000 }
+    ensures few { OnOk result (length rows.new ≤ 16000) }
+    ensures rows { OnOk result (AddsFrom view.now top cell.now kinds (tree part.now) rows.old rows.new) }
+    ensures bars { IfErr result (BarsFrom view.now (length rows.old) cell.now kinds (tree part.now)) }
+{
+    let mut node = part;
+    let mut known = kinds;
+    loop {
         match node {
-            Node::Leaf(leaf) => {
-                list_leaf(alloc, &self.path, leaf, kinds, view, top, &mut self.rows)
-            }
+            Node::Leaf(leaf) => return list_leaf(alloc, cell, leaf, known, view, top, rows),
             Node::Test(l, t, e) => {
-                self.walk_true(alloc, l, t, kinds.after_true(l), view, top)?;
-                self.walk_false(alloc, l, e, kinds.after_false(l), view, top)?;
-                Ok(())
+                let within = known.after_true(l);
+                if !within.is_void() {
+                    walk(alloc, t, &cell.with(l), within, view, top, rows)?;
+                }
+                known = known.after_false(l);
+                node = e;
             }
         }
     }
-
-    // Adds the rows of the paths that go on where a test holds, if some well-shaped packet takes one of them.
-    #[cycle(walk)]
-    fn walk_true(
-        &mut self,
-        alloc: Global,
-        l: &Lit,
-        node: &Node,
-        kinds: Kinds,
-        view: &PortView,
-        top: u16,
-    ) -> Result<(), EmitError>
-        requires made { CanBeMade (tree node.now) }
-        requires stamp { IsVlanId view.now.stamp }
-        requires top { 16000 ≤ top }
-        requires kinds { kinds ≡ kinds_of (with_true self.old.path l.now) }
-        requires few { length self.old.rows ≤ 16000 }
-        ensures path { OnOk result (self.new.path ≡ self.old.path) }
-        ensures rows { OnOk result (Adds view.now top (entries (with_true self.old.path l.now) (tree node.now)) self.old.rows self.new.rows) }
-        ensures bars { IfErr result (Bars view.now (length self.old.rows) (entries (with_true self.old.path l.now) (tree node.now))) }
-    {
-        if kinds.is_void() {
-            return Ok(());
-        }
-        self.path.push_true(l)?;
-        self.walk(alloc, node, kinds, view, top)?;
-        back_over_true(&mut self.path);
-        Ok(())
-    }
-
-    // The same of the paths that go on where the test doesn't hold.
-    #[cycle(walk)]
-    fn walk_false(
-        &mut self,
-        alloc: Global,
-        l: &Lit,
-        node: &Node,
-        kinds: Kinds,
-        view: &PortView,
-        top: u16,
-    ) -> Result<(), EmitError>
-        requires made { CanBeMade (tree node.now) }
-        requires stamp { IsVlanId view.now.stamp }
-        requires top { 16000 ≤ top }
-        requires kinds { kinds ≡ kinds_of (with_false self.old.path l.now) }
-        requires few { length self.old.rows ≤ 16000 }
-        ensures path { OnOk result (self.new.path ≡ self.old.path) }
-        ensures rows { OnOk result (Adds view.now top (entries (with_false self.old.path l.now) (tree node.now)) self.old.rows self.new.rows) }
-        ensures bars { IfErr result (Bars view.now (length self.old.rows) (entries (with_false self.old.path l.now) (tree node.now))) }
-    {
-        if kinds.is_void() {
-            return Ok(());
-        }
-        self.path.push_false(l)?;
-        self.walk(alloc, node, kinds, view, top)?;
-        back_over_false(&mut self.path);
-        Ok(())
-    }
 }
 
-// Goes back over the last test that holds.
-fn back_over_true(path: &mut Path)
-    ensures { (w : Way) (l : Lit) → path.old ≡ with_true w l → path.new ≡ w }
-{
-    let _last = path.pop_true();
-}
-
-// Goes back over the last test that doesn't hold.
-fn back_over_false(path: &mut Path)
-    ensures { (w : Way) (l : Lit) → path.old ≡ with_false w l → path.new ≡ w }
-{
-    let _last = path.pop_false();
-}
-
-// Adds the rows of one path.
+// Adds the rows of a leaf, on each such path.
 fn list_leaf(
     alloc: Global,
-    path: &Path,
+    cell: &Cell,
     leaf: &Leaf,
     kinds: Kinds,
     view: &PortView,
@@ -168,38 +92,43 @@ fn list_leaf(
     rows: &mut RowList,
 ) -> Result<(), EmitError>
     requires made { AreSettable leaf.now }
+    requires valid { IsValid cell.now }
     requires stamp { IsVlanId view.now.stamp }
     requires top { 16000 ≤ top }
-    requires kinds { kinds ≡ kinds_of path.now }
     requires few { length rows.old ≤ 16000 }
-    ensures rows { OnOk result (Adds view.now top (leaf_entries path.now leaf.now) rows.old rows.new) }
-    ensures bars { IfErr result (Bars view.now (length rows.old) (leaf_entries path.now leaf.now)) }
+    ensures few { OnOk result (length rows.new ≤ 16000) }
+    ensures rows { OnOk result (AddsFrom view.now top cell.now kinds (TreeLeaf leaf.now) rows.old rows.new) }
+    ensures bars { IfErr result (BarsFrom view.now (length rows.old) cell.now kinds (TreeLeaf leaf.now)) }
 {
-    let mut cells = cells_of(alloc, kinds, path.cell())?;
-    let Some(last) = cells.pop() else {
-        return Ok(());
-    };
-    let made = row_actions(alloc, path, leaf, view)?;
-    for cell in &cells {
-        let copied = made.copy(alloc)?;
-        push_row(pattern_of(view, cell), copied, view, top, rows)?;
+    match cells_of(kinds, cell) {
+        RowCells::None => Ok(()),
+        RowCells::One(only) => {
+            let made = row_actions(alloc, cell, leaf, view)?;
+            push_row(pattern_of(view, &only), made, view, top, rows)
+        }
+        RowCells::Both(tcp, udp) => {
+            let made = row_actions(alloc, cell, leaf, view)?;
+            let copied = made.copy(alloc)?;
+            push_row(pattern_of(view, &tcp), copied, view, top, rows)?;
+            push_row(pattern_of(view, &udp), made, view, top, rows)
+        }
     }
-    push_row(pattern_of(view, &last), made, view, top, rows)
 }
 
-// The actions of the rows of a path.
+// The actions of the rows of a leaf.
 fn row_actions(
     alloc: Global,
-    path: &Path,
+    cell: &Cell,
     leaf: &Leaf,
     view: &PortView,
 ) -> Result<Actions, EmitError>
+    requires valid { IsValid cell.now }
     requires made { AreSettable leaf.now }
     requires stamp { IsVlanId view.now.stamp }
-    ensures actions { IfOk result (AreActionsOf view.now path.now leaf.now) }
-    ensures bars { IfErr result (BarsLeaf view.now path.now leaf.now) }
+    ensures actions { IfOk result (AreActionsOf view.now cell.now leaf.now) }
+    ensures bars { IfErr result (BarsLeaf view.now cell.now leaf.now) }
 {
-    let made = match actions(alloc, path, leaf, view) {
+    let made = match actions(alloc, cell, leaf, view) {
         Ok(made) => made,
         Err(ActionsError::Memory) => return Err(EmitError::Memory),
         Err(ActionsError::Fault(pair)) => {

@@ -72,7 +72,7 @@ fn made(
     if !are_settable(&leaf) || view.stamp < 1 || view.stamp > GREATEST_VLAN_ID {
         return Err(ActionsError::Memory);
     }
-    actions(alloc, &path, &leaf, &view)
+    actions(alloc, path.cell(), &leaf, &view)
 }
 
 // Whether these are the actions.

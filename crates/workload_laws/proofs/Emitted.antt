@@ -83,13 +83,13 @@ few_on s o p d site (n ∷ ns) b f g = let one = few_at s o p d site n f g in le
 ports_of : (o : ℕ) (w : Way) (v : PortView) (cs : List (List Lit)) (rs : List Route) → Exits o cs → IsListing v (cell_on w) cs rs → RoutePorts rs
 ports_of o w v cs rs x l r i m k = (x m (among_lists cs r.copy m (listed_known v (cell_on w) cs rs l r i).copy k)).field
 
-not_barred : (o : ℕ) (w : Way) (v : PortView) (cs : List (List Lit)) (a b : FieldSet) → Exits o cs → ¬ IsBarred v w cs a b
+not_barred : (o : ℕ) (w : Way) (v : PortView) (cs : List (List Lit)) (a b : FieldSet) → Exits o cs → ¬ IsBarred v (cell_on w) cs a b
 not_barred o w v cs a b x h =
     let none = none_apart (cell_on w) h.first.routes (ports_of o w v cs h.first.routes x h.first.listing) in
     let k : Some h.pair ≡ None = sym h.first.first ∙ none in
     cc
 
-not_long : (o : ℕ) (w : Way) (v : PortView) (cs : List (List Lit)) → o ≤ 3000 → AreCopies cs → Exits o cs → ¬ IsLong v w cs
+not_long : (o : ℕ) (w : Way) (v : PortView) (cs : List (List Lit)) → o ≤ 3000 → AreCopies cs → Exits o cs → ¬ IsLong v (cell_on w) cs
 not_long o w v cs b r x h =
     let rs = h.list.routes in
     let small = small_list v (cell_on w) (cell_on w) v.kind rs (ports_of o w v cs rs x h.list.listing) (λ f k. refl) in
