@@ -87,10 +87,10 @@ walk_on v top x y j k i m d a t' t e' e l old mid new ea et ee ey ei em h few ad
     subst (λ (n : Kinds). IsWalked v top x j n d e' old new) (sym em) (subst (λ (u : Tree). IsWalked v top x j (after_false k l) d u old new) (sym ee) b)
 
 -- the same where the branch in which the test holds is left out
-pub walk_over : (v : PortView) (top : ℕ) (x : Packet) (j k i m : Kinds) (d a t e' e : Tree) (l : Lit) (old mid : List Row) → a ≡ Node l t e → e' ≡ e → i ≡ after_true k l → is_void i ≡ true → m ≡ after_false k l →
+pub walk_over : (v : PortView) (top : ℕ) (x : Packet) (j k m : Kinds) (d a t e' e : Tree) (l : Lit) (old mid : List Row) → a ≡ Node l t e → e' ≡ e → is_void (after_true k l) ≡ true → m ≡ after_false k l →
     IsWalked v top x j k d a old mid → IsWalked v top x j m d e' old mid
-walk_over v top x j k i m d a t e' e l old mid ea ee ei void em h =
-    walk_on v top x (put l x) j k (after_true k l) m d a t t e' e l old mid mid ea refl ee refl refl em h h.few (void_adds v top (put l x) (after_true k l) t mid (ap is_void (sym ei) ∙ void) h.few)
+walk_over v top x j k m d a t e' e l old mid ea ee void em h =
+    walk_on v top x (put l x) j k (after_true k l) m d a t t e' e l old mid mid ea refl ee refl refl em h h.few (void_adds v top (put l x) (after_true k l) t mid void h.few)
 
 -- a fault in that branch
 pub true_bars : (v : PortView) (top : ℕ) (x y : Packet) (j k i : Kinds) (d a t' t e : Tree) (l : Lit) (old mid : List Row) (z : EmitError) → a ≡ Node l t e → t' ≡ t → y ≡ put l x → i ≡ after_true k l →
