@@ -7,6 +7,7 @@ pub mod Chained
 pub mod Fits
 pub mod Fixed
 pub mod ActionLists
+pub mod Moved
 pub mod Routed
 pub mod SentLaws
 pub mod Unique

@@ -3,6 +3,7 @@ pub mod Chains
 pub mod Changes
 pub mod Laws
 pub mod Listing
+pub mod Moves
 pub mod Orders
 pub mod Routes
 pub mod Settable

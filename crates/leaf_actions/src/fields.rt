@@ -2,6 +2,7 @@
 ghost use Rattle.std.specs.Prelude.{◌≡◌, ◌<◌, ◌^◌, length};
 ghost use Rattle.leaf_actions.specs.Changes.{changes, fixes, count_of, change_count, goes_beyond, first_of_fields, first_beyond};
 
+use crate::moves::moves;
 use fdd_nodes::{Assignments, Cell};
 use nk_values::Field;
 
@@ -33,6 +34,9 @@ fn fixes(cell: &Cell, later: &Cell, f: Field) -> bool
 pub(crate) fn change_count(cell: &Cell, copy: &Assignments) -> u64
     ensures { result ≡ change_count cell.now copy.now }
 {
+    if moves(copy.lits()) {
+        return 0;
+    }
     count_in(cell, &cell.after(copy), &SETTABLE)
 }
 

@@ -4,6 +4,7 @@
 mod fields;
 mod laws;
 mod made;
+mod moves;
 mod order;
 mod pairs;
 mod route;

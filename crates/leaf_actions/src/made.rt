@@ -12,6 +12,7 @@ ghost use Rattle.leaf_actions.specs.Routes.{routes_of};
 ghost use Rattle.leaf_actions.specs.Settable.{AreSettable, settable};
 
 use crate::fields::SETTABLE;
+use crate::moves::{all_move, moved};
 use crate::order::{climbs, listing, out_of};
 use crate::pairs::first_apart;
 use crate::route::Route;
@@ -72,6 +73,9 @@ pub fn actions(
         return Ok(listed_alone(alloc, cell, copy, view)?);
     }
     let routes = listing(alloc, cell, copies, view)?;
+    if all_move(copies) {
+        return Ok(moved(alloc, &routes, view)?);
+    }
     if climbs(cell, &routes) {
         return Ok(listed(alloc, cell, &routes, view)?);
     }
@@ -180,7 +184,7 @@ fn setting(f: Field, n: u64) -> Action
 }
 
 // Adds what turns the tag of one kind of port into that of another.
-fn push_tag(
+pub(crate) fn push_tag(
     actions: &mut Actions,
     stamp: u16,
     from: PortKind,
@@ -196,7 +200,7 @@ fn push_tag(
 }
 
 // The number by which a port is sent to.
-fn port_number(view: &PortView, port: u16) -> u16
+pub(crate) fn port_number(view: &PortView, port: u16) -> u16
     ensures { result ≡ port_number view.now port }
 {
     if port == view.pt { IN_PORT } else { port }
