@@ -1,12 +1,12 @@
 pub mod Acted
 pub mod Allowed
-pub mod Alone
 pub mod Assigned
 pub mod ChainLaws
 pub mod Chained
 pub mod Fits
 pub mod Fixed
 pub mod ActionLists
+pub mod LoneCopies
 pub mod Moved
 pub mod Routed
 pub mod SentLaws

@@ -1,6 +1,7 @@
 //! The actions of a leaf of a diagram (OpenFlow 1.0.0, 5.2.4), at a port of a switch.
 #![tactic(auto)]
 
+mod alone;
 mod fields;
 mod laws;
 mod made;

@@ -8,16 +8,16 @@ ghost use Rattle.fdd_nodes.specs.Cells.{IsValid};
 ghost use Rattle.leaf_actions.specs.Acting.{ActsAs};
 ghost use Rattle.leaf_actions.specs.Chains.{keeps_fields, keeps, Climbs};
 ghost use Rattle.leaf_actions.specs.Listing.{setting, change, changed, retagged, port_number, listed, IsActionList, Bars};
-ghost use Rattle.leaf_actions.specs.Routes.{routes_of};
 ghost use Rattle.leaf_actions.specs.Settable.{AreSettable, settable};
 
+use crate::alone::listed_alone;
 use crate::fields::SETTABLE;
 use crate::moves::{all_move, moved};
-use crate::order::{climbs, listing, out_of};
+use crate::order::{climbs, listing};
 use crate::pairs::first_apart;
 use crate::route::Route;
 use crate::view::PortView;
-use fdd_nodes::{Assignments, Cell, Leaf};
+use fdd_nodes::{Cell, Leaf};
 use nk_values::{Action, Actions, Field, IN_PORT, Packet, PortKind};
 use std::alloc::{AllocError, Global};
 
@@ -85,27 +85,6 @@ pub fn actions(
     }
 }
 
-// The actions of a copy that is alone.
-fn listed_alone(
-    alloc: Global,
-    cell: &Cell,
-    copy: &Assignments,
-    view: &PortView,
-) -> Result<Actions, AllocError>
-    requires { IsValid cell.now }
-    ensures { IfOk result (λ as'. as' ≡ listed view.now cell.now cell.now view.now.kind (routes_of view.now cell.now (copy.now ∷ []))) }
-{
-    let Some(port) = view.port(out_of(view, copy)) else {
-        return Ok(Actions::new(alloc));
-    };
-    let mut actions = Actions::of(Vec::with_capacity(alloc, 2)?);
-    let known = cell.generic();
-    push_changes(&mut actions, known, &copy.apply(known))?;
-    push_tag(&mut actions, view.stamp, view.kind, port.kind)?;
-    actions.push(Action::Output(port_number(view, port.pt)))?;
-    Ok(actions)
-}
-
 // The actions of copies in order.
 fn listed(
     alloc: Global,
@@ -133,7 +112,11 @@ fn listed(
 }
 
 // Adds what turns the header fields of one packet into those of another.
-fn push_changes(actions: &mut Actions, known: &Packet, next: &Packet) -> Result<(), AllocError>
+pub(crate) fn push_changes(
+    actions: &mut Actions,
+    known: &Packet,
+    next: &Packet,
+) -> Result<(), AllocError>
     requires kept { keeps known.now next.now ≡ true }
     requires valid { IsValid next.now }
     ensures { OnOk result (actions.new ≡ actions.old ++ changed known.now next.now settable) }

@@ -8,10 +8,10 @@ ghost use Rattle.leaf_actions.specs.Settable.{AreSettable};
 ghost use Rattle.table_emitter.specs.Emission.{CanBeMade};
 ghost use Rattle.table_emitter.specs.Entries.{entries, AreActionsOf, AreRows, AddsFrom};
 ghost use Rattle.table_emitter.specs.Faults.{Bars, BarsFrom, BarsLeaf, BarsRow};
-ghost use Rattle.table_emitter.specs.Passed.{past_barred};
 
 use crate::fault::EmitError;
-use crate::kinds::{Kinds, is_port};
+use crate::kinds::Kinds;
+use crate::passing::past_barred;
 use crate::patterns::{RowCells, cells_of, pattern_of};
 use crate::sizes::are_small;
 use fdd_nodes::{Cell, Leaf, Node};
@@ -88,23 +88,6 @@ fn walk(
             }
         }
     }
-}
-
-// The part without the tests of transport ports that stand first, if no packet passes them.
-fn past_barred(part: &Node, kinds: Kinds) -> &Node
-    ensures { tree result.now ≡ past_barred kinds (tree part.now) }
-{
-    if !kinds.bars_ports() {
-        return part;
-    }
-    let mut node = part;
-    while let Node::Test(l, _, e) = node {
-        if !is_port(l.field()) {
-            return node;
-        }
-        node = e;
-    }
-    node
 }
 
 // Adds the rows of a leaf, on each such path.

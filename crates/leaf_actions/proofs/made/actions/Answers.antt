@@ -1,6 +1,6 @@
 use Rattle.std.proofs.Common.{sym, ◌∙◌}
 use Rattle.leaf_actions.proofs.ActionLists.{Ready, ready, action_list, acts_as, some_apart}
-use Rattle.leaf_actions.proofs.Alone.{alone, only}
+use Rattle.leaf_actions.proofs.LoneCopies.{alone, only}
 use Rattle.leaf_actions.proofs.Moved.{moves_ready}
 use Rattle.leaf_actions.proofs.Fits.{actions_fit}
 use Rattle.leaf_actions.proofs.made.actions.Goals as goal

@@ -3,9 +3,9 @@ use Rattle.nk_values.specs.declared.packet.Packet.{Packet}
 use Rattle.fdd_nodes.specs.Cells.{IsValid}
 use Rattle.fdd_nodes.specs.Trees.{apply}
 use Rattle.leaf_actions.specs.Chains.{keeps}
-use Rattle.leaf_actions.proofs.Alone.{kept}
+use Rattle.leaf_actions.proofs.LoneCopies.{kept}
 use Rattle.leaf_actions.proofs.Fixed.{valid_apply}
-use Rattle.leaf_actions.proofs.made.listed_alone.Goals as goal
+use Rattle.leaf_actions.proofs.alone.listed_alone.Goals as goal
 
 pub push_changes-requires-clause-kept : goal.push_changes-requires-clause-kept
 push_changes-requires-clause-kept c = subst (λ (y : Packet). keeps c.generic-known.result.now y ≡ true) (sym c.apply.ensures) (kept c.args.copy.now c.generic-known.result.now)
