@@ -72,16 +72,9 @@ fn walk(
         match node {
             Node::Leaf(leaf) => return list_leaf(alloc, cell, leaf, known, view, top, rows),
             Node::Test(l, t, e) => {
-                if !known.bars(l) {
-                    walk(
-                        alloc,
-                        t,
-                        &cell.with(l),
-                        known.after_true(l),
-                        view,
-                        top,
-                        rows,
-                    )?;
+                let within = known.after_true(l);
+                if !within.is_void() {
+                    walk(alloc, t, &cell.with(l), within, view, top, rows)?;
                 }
                 known = known.after_false(l);
                 node = e;

@@ -4,12 +4,13 @@ use Rattle.nk_values.specs.declared.row.Row.{Row}
 use Rattle.fdd_nodes.specs.Cells.{IsValid}
 use Rattle.fdd_nodes.specs.Trees.{tree}
 use Rattle.leaf_actions.proofs.Fixed.{valid_apply}
+use Rattle.table_emitter.specs.Kinds.{is_void}
 use Rattle.table_emitter.proofs.Depths.{tests_in}
 use Rattle.table_emitter.proofs.Listed.{made_then, made_else, leaf_made}
 use Rattle.table_emitter.proofs.Passed.{passed}
 use Rattle.table_emitter.proofs.Walking.{IsWalked, walk_on, walk_over, true_bars, last_rows, last_bars}
 use Rattle.table_emitter.proofs.lists.+walk.Goals as goal
-use Rattle.table_emitter.proofs.lists.+walk.Goals.{then-not-bars+in_ok-walk-in-Test, else-not-bars}
+use Rattle.table_emitter.proofs.lists.+walk.Goals.{then-not-is_void+in_ok-walk-in-Test, else-not-is_void}
 
 pub returns-in-Leaf-clause-rows : goal.returns-in-Leaf-clause-rows
 returns-in-Leaf-clause-rows t c =
@@ -48,8 +49,8 @@ walk-requires t c =
 pub returns-in_err-walk-in-Test-clause-bars : goal.returns-in_err-walk-in-Test-clause-bars
 returns-in_err-walk-in-Test-clause-bars t c =
     let at = passed c.args.view.now c.args.top c.args.cell.now c.args.kinds c.loop-node.known (tree c.args.part.now) (tree c.loop-node.node.now) (tree c.past_barred-node.result.now) c.args.rows.now c.loop-node.rows c.past_barred-node.ensures c.loop-node.invariant.walked c.loop-node.invariant.made in
-    let b = true_bars c.args.view.now c.args.top c.args.cell.now c.with.result c.args.kinds c.loop-node.known c.after_true.result (tree c.args.part.now) (tree c.past_barred-node.result.now) (tree c.deref.result.now) _ _ c.in-Test.l c.args.rows.now c.loop-node.rows c.in_err-walk-in-Test.field-0.0
-    (ap tree c.in-Test.is) (ap tree c.deref.ensures) c.with.ensures c.after_true.ensures at.walked c.in_err-walk-in-Test.ensures.bars in
+    let b = true_bars c.args.view.now c.args.top c.args.cell.now c.with.result c.args.kinds c.loop-node.known c.after_true-within.result (tree c.args.part.now) (tree c.past_barred-node.result.now) (tree c.deref.result.now) _ _ c.in-Test.l c.args.rows.now c.loop-node.rows c.in_err-walk-in-Test.field-0.0
+    (ap tree c.in-Test.is) (ap tree c.deref.ensures) c.with.ensures c.after_true-within.ensures at.walked c.in_err-walk-in-Test.ensures.bars in
     search (rules, b)
 
 pub loop-node-preserved : goal.loop-node-preserved
@@ -60,15 +61,15 @@ loop-node-preserved t c =
     let s = ap tests_in (ap tree c.in-Test.is) in
     let d = ap tests_in (ap tree c.deref-node.ensures) in
     record {
-      walked = elim c.if-not-bars.branch [
-        | then-not-bars+in_ok-walk-in-Test w ↦
+      walked = elim c.if-not-is_void.branch [
+        | then-not-is_void+in_ok-walk-in-Test w ↦
             subst (λ (rows : List Row). IsWalked c.args.view.now c.args.top c.args.cell.now c.args.kinds c.after_false-known.result (tree c.args.part.now) (tree c.deref-node.result.now) c.args.rows.now rows) (sym w.rows-is)
-            (walk_on c.args.view.now c.args.top c.args.cell.now w.with.result c.args.kinds c.loop-node.known w.after_true.result c.after_false-known.result _ _ _ _ _ _ c.in-Test.l _ _ _ (ap tree c.in-Test.is) (ap tree w.deref.ensures)
-            (ap tree c.deref-node.ensures) w.with.ensures w.after_true.ensures c.after_false-known.ensures at.walked w.in_ok-walk-in-Test.ensures.few w.in_ok-walk-in-Test.ensures.rows)
-        | else-not-bars w ↦
+            (walk_on c.args.view.now c.args.top c.args.cell.now w.with.result c.args.kinds c.loop-node.known c.after_true-within.result c.after_false-known.result _ _ _ _ _ _ c.in-Test.l _ _ _ (ap tree c.in-Test.is) (ap tree w.deref.ensures)
+            (ap tree c.deref-node.ensures) w.with.ensures c.after_true-within.ensures c.after_false-known.ensures at.walked w.in_ok-walk-in-Test.ensures.few w.in_ok-walk-in-Test.ensures.rows)
+        | else-not-is_void w ↦
             subst (λ (rows : List Row). IsWalked c.args.view.now c.args.top c.args.cell.now c.args.kinds c.after_false-known.result (tree c.args.part.now) (tree c.deref-node.result.now) c.args.rows.now rows) (sym w.rows-is)
             (walk_over c.args.view.now c.args.top c.args.cell.now c.args.kinds c.loop-node.known c.after_false-known.result _ _ _ _ _ c.in-Test.l _ _ (ap tree c.in-Test.is) (ap tree c.deref-node.ensures)
-            (sym c.bars.ensures ∙ w.if-not-bars.false) c.after_false-known.ensures at.walked)
+            (sym (ap is_void c.after_true-within.ensures) ∙ sym c.is_void.ensures ∙ w.if-not-is_void.false) c.after_false-known.ensures at.walked)
       ];
       made = made_else _ _ _ _ _ (ap tree c.in-Test.is) (ap tree c.deref-node.ensures) at.made;
       smaller = omega (arith, n, few, s, d);
