@@ -1,8 +1,8 @@
 //! Schedules, carried out in a world.
-ghost use Rattle.std.specs.Prelude.{◌≡◌, ◌++◌, List, Err, IfOk, IfErr, OnOk};
+ghost use Rattle.std.specs.Prelude.{◌≡◌, ◌++◌, ◌-◌, [], List, Err, IfOk, IfErr, OnOk, option_map, slice_get};
 ghost use Rattle.world_core.specs.declared.event.Event.{Event as EventValue};
 ghost use Rattle.world_core.specs.declared.fault.StepFault.TheVariants as faults;
-ghost use Rattle.plain_commands.specs.Schedules.{event_of, CannotHappen, CarriedOut, Does};
+ghost use Rattle.plain_commands.specs.Schedules.{arrive, event_of, CannotHappen, CarriedOut, Does};
 ghost use Rattle.plain_commands.specs.Told.{TellsStop};
 
 use document_text::{Event as Order, PacketLine, ScheduleLine};
@@ -58,7 +58,8 @@ fn carry(
             events.append(&mut more)?;
         }
         _ => {
-            let Some(event) = event_of(world.topology(), packets, order) else {
+            let named = event_of(alloc, world.topology(), packets, order)?;
+            let Some(event) = named else {
                 return Err(StepFault::NotEnabled);
             };
             events.reserve(1)?;
@@ -70,8 +71,37 @@ fn carry(
 }
 
 // The event that an order names.
-fn event_of(topology: &Topology, packets: &[PacketLine], order: Order) -> Option<Event>
-    ensures { result ≡ event_of topology.now.switches packets.now order }
+fn event_of(
+    alloc: Global,
+    topology: &Topology,
+    packets: &[PacketLine],
+    order: Order,
+) -> Result<Option<Event>, AllocError>
+    ensures { IfOk result (λ e. e ≡ event_of topology.now.switches packets.now order) }
+{
+    match order {
+        Order::Arrive(number) => arrival(alloc, packets, number),
+        _ => Ok(event_without(topology, order)),
+    }
+}
+
+// The arrival of the packet of a line, by its number from 1.
+fn arrival(
+    alloc: Global,
+    packets: &[PacketLine],
+    number: usize,
+) -> Result<Option<Event>, AllocError>
+    ensures { IfOk result (λ e. e ≡ option_map arrive (slice_get packets.now (number - 1))) }
+{
+    match packets.get(number.saturating_sub(1)) {
+        Some(line) => Ok(Some(Event::arrival(alloc, line.packet, line.tag)?)),
+        None => Ok(None),
+    }
+}
+
+// The event that an order names if there are no packet lines.
+fn event_without(topology: &Topology, order: Order) -> Option<Event>
+    ensures { result ≡ event_of topology.now.switches [] order }
 {
     match order {
         Order::Begin => Some(Event::Controller(ControllerEvent::Begin)),
@@ -83,15 +113,11 @@ fn event_of(topology: &Topology, packets: &[PacketLine], order: Order) -> Option
         ))),
         Order::Reply(sw) => Some(Event::Switch(SwitchEvent::Reply(topology.place(sw)?))),
         Order::Heard(sw) => Some(Event::Controller(ControllerEvent::Heard(topology.place(sw)?))),
-        Order::Arrive(number) => {
-            let line = packets.get(number.saturating_sub(1))?;
-            Some(Event::Packet(PacketEvent::Arrive(line.packet, line.tag)))
-        }
         Order::Hop(copy) => Some(Event::Packet(PacketEvent::Hop(copy as usize))),
         Order::Drained(stamp) => Some(Event::Controller(ControllerEvent::Drained(stamp))),
         Order::Lost(sw) => Some(Event::Controller(ControllerEvent::Lost(topology.place(sw)?))),
         Order::Rejoin(sw) => Some(Event::Controller(ControllerEvent::Rejoin(topology.place(sw)?))),
         Order::Stuck(copy) => Some(Event::Packet(PacketEvent::Stuck(copy as usize))),
-        Order::Settle | Order::Flow => None,
+        Order::Arrive(_) | Order::Settle | Order::Flow => None,
     }
 }

@@ -61,10 +61,9 @@ fn push_events(alloc: Global, events: &mut Vec<Event>) -> Result<(), AllocError>
     for event in SWITCH {
         events.push(Event::Switch(event))?;
     }
-    let arrival = PacketEvent::Arrive(packet((1, 2), 5), Tag::none());
-    for event in [arrival, PacketEvent::Hop(3), PacketEvent::Stuck(4)] {
-        events.push(Event::Packet(event))?;
-    }
+    events.push(Event::arrival(alloc, packet((1, 2), 5), Tag::none())?)?;
+    events.push(Event::Packet(PacketEvent::Hop(3)))?;
+    events.push(Event::Packet(PacketEvent::Stuck(4)))?;
     push_foreign(alloc, events, 0, Side::Controller)?;
     push_foreign(alloc, events, 1, Side::Switch)
 }

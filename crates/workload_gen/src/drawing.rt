@@ -37,7 +37,8 @@ pub fn draw(
     let mut tally = Tally::new(alloc, world)?;
     let mut left = packets;
     for _ in 0..u64::MAX {
-        let Some(event) = next_event(world, &tally, left, rng) else {
+        let next = next_event(alloc, world, &tally, left, rng)?;
+        let Some(event) = next else {
             return Ok(events);
         };
         left = left_by(&event, left);
@@ -48,23 +49,26 @@ pub fn draw(
 
 // The event that the next word draws, if one can happen.
 fn next_event(
+    alloc: Global,
     world: &World,
     tally: &Tally,
     packets: &[PacketLine],
     rng: &mut Lcg64Xsh32,
-) -> Option<Event>
+) -> Result<Option<Event>, AllocError>
     requires { AreCounts world.now tally.now }
-    ensures none { IfNone result (NoneIs world.now (tried packets.now world.now) × (rng.new ≡ rng.old)) }
-    ensures some { IfSome result (λ e. IsDrawn packets.now world.now rng.old e × (rng.new ≡ (next_word rng.old).1)) }
+    ensures none { IfOk result (λ r. IfNone r (NoneIs world.now (tried packets.now world.now) × (rng.new ≡ rng.old))) }
+    ensures some { IfOk result (λ r. IfSome r (λ e. IsDrawn packets.now world.now rng.old e × (rng.new ≡ (next_word rng.old).1))) }
 {
     let hops = count_hops(world);
     let others = hops.saturating_add(count_last(world, packets));
     let count = tally.total().saturating_add(others);
     if count == 0 {
-        return None;
+        return Ok(None);
     }
     let word = next_word(rng);
-    event_by(world, tally, packets, hops, u64::from(word) % count)
+    let number = u64::from(word) % count;
+    let found = event_by(alloc, world, tally, packets, hops, number)?;
+    Ok(found)
 }
 
 // The packets that are left after an event.

@@ -1,5 +1,5 @@
 // The event with a number, from 0, of those that can happen.
-ghost use Rattle.std.specs.Prelude.{◌≡◌, ◌<◌, ◌-◌, ◌^◌, ◌∷◌, [], length, slice_get};
+ghost use Rattle.std.specs.Prelude.{◌≡◌, ◌<◌, ◌-◌, ◌^◌, ◌∷◌, [], IfOk, length, slice_get};
 ghost use Rattle.world_core.specs.declared.event.ControllerEvent.TheVariants as of_controller;
 ghost use Rattle.world_core.specs.declared.event.Event.TheVariants as event;
 ghost use Rattle.world_core.specs.declared.event.SwitchEvent.TheVariants as of_switch;
@@ -10,31 +10,34 @@ ghost use Rattle.workload_gen.specs.Draws.{arrival, due, report, tried, tried_at
 use crate::counting::{arrives, begins, drains, due, pending_at};
 use crate::tally::Tally;
 use document_text::PacketLine;
+use std::alloc::{AllocError, Global};
 use world_core::{ControllerEvent, Event, PacketEvent, SwitchEvent, World};
 
 /// The event with a number, while these packets are still to come in. The tally has the counts at the switches, and
 /// `hops` copies may take a hop.
 pub(crate) fn event_by(
+    alloc: Global,
     world: &World,
     tally: &Tally,
     packets: &[PacketLine],
     hops: u64,
     number: u64,
-) -> Option<Event>
+) -> Result<Option<Event>, AllocError>
     requires number { number < 2 ^ 64 - 1 }
     requires counts { AreCounts world.now tally.now }
     requires hops { IsCount world.now (hops_from 0 (length world.now.flights)) hops }
-    ensures { Finds world.now (tried packets.now world.now) number result }
+    ensures { IfOk result (Finds world.now (tried packets.now world.now) number) }
 {
     let switches = tally.total();
     if number < switches {
-        return switch_event_by(world, tally.counts(), number);
+        return Ok(switch_event_by(world, tally.counts(), number));
     }
     let number = number - switches;
     if number < hops {
-        return hop_by(world, number);
+        return Ok(hop_by(world, number));
     }
-    last_by(world, packets, number - hops)
+    let found = last_by(alloc, world, packets, number - hops)?;
+    Ok(found)
 }
 
 // That of the events at switches with these counts.
@@ -108,31 +111,38 @@ fn hop_by(world: &World, number: u64) -> Option<Event>
 }
 
 // That of these three: the next packet comes in, an update begins, a drain is reported.
-fn last_by(world: &World, packets: &[PacketLine], number: u64) -> Option<Event>
+fn last_by(
+    alloc: Global,
+    world: &World,
+    packets: &[PacketLine],
+    number: u64,
+) -> Result<Option<Event>, AllocError>
     requires { number < 2 ^ 64 - 1 }
-    ensures { Finds world.now (tried_last packets.now world.now) number result }
+    ensures { IfOk result (Finds world.now (tried_last packets.now world.now) number) }
 {
     let arrives = u64::from(arrives(world, packets));
     if number < arrives {
-        return arrival(packets);
+        return arrival(alloc, packets);
     }
     let number = number - arrives;
     let begins = u64::from(begins(world));
     if number < begins {
-        return Some(Event::Controller(ControllerEvent::Begin));
+        return Ok(Some(Event::Controller(ControllerEvent::Begin)));
     }
     if number - begins < u64::from(drains(world)) {
-        return report(world);
+        return Ok(report(world));
     }
-    None
+    Ok(None)
 }
 
 // The arrival of the next packet.
-fn arrival(packets: &[PacketLine]) -> Option<Event>
-    ensures { result ≡ slice_get (arrival packets.now) 0 }
+fn arrival(alloc: Global, packets: &[PacketLine]) -> Result<Option<Event>, AllocError>
+    ensures { IfOk result (λ e. e ≡ slice_get (arrival packets.now) 0) }
 {
-    let line = packets.first()?;
-    Some(Event::Packet(PacketEvent::Arrive(line.packet, line.tag)))
+    match packets.first() {
+        Some(line) => Ok(Some(Event::arrival(alloc, line.packet, line.tag)?)),
+        None => Ok(None),
+    }
 }
 
 // The report that is waited for.

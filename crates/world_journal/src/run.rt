@@ -215,7 +215,8 @@ impl<L: RunName, E: Link> Run<L, E> {
         ensures err { OnErr result ((self.new ≡ self.old) × (seat.new.share.amount ≡ seat.old.share.amount)) }
     {
         let Line { packet, tag } = self.lines[place];
-        self.held.step(alloc, seat, Event::Packet(PacketEvent::Arrive(packet, tag)))?;
+        let event = Event::arrival(alloc, packet, tag)?;
+        self.held.step(alloc, seat, event)?;
         self.arrived[place] = true;
         self.left -= 1;
         Ok(())

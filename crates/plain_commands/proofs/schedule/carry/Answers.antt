@@ -19,7 +19,7 @@ returns-in_ok-step-in_default c = record {
   done = (
     c.in-Some.event ∷ [],
     does-one c.args.world.now.topology.switches c.args.packets.now c.args.order c.args.world.now (c.in-Some.event ∷ []) c.step.new.self c.in_default.not-Settle c.in_default.not-Flow
-        (record { event = c.in-Some.event; is = sym (c.in-Some.ensures ∙ ap (λ (t : Layout). event_of t.switches c.args.packets.now c.args.order) c.topology.ensures); step = c.in_ok-step-in_default.ensures.ok; all = refl }),
+        (record { event = c.in-Some.event; is = sym (sym c.in-Some.is ∙ c.in_ok-named-in_default.ensures ∙ ap (λ (t : Layout). event_of t.switches c.args.packets.now c.args.order) c.topology.ensures); step = c.in_ok-step-in_default.ensures.ok; all = refl }),
     c.push_reserved.ensures.items ∙ ap (λ (es : List Event). es ++ c.in-Some.event ∷ []) c.reserve.ensures.items,
   );
   topology = step-topology c.args.world.now c.in-Some.event c.step.new.self c.in_ok-step-in_default.ensures.ok;

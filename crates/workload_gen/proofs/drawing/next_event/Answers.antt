@@ -24,9 +24,9 @@ returns-clause-none c =
     let counted : IsCount w (tried lines w) n =
     count-tried w lines c.total.result c.count_hops-hops.result c.count_last.result c.saturating_add-others.result n
     (total-counts w c.args.tally.now c.total.result c.requires c.total.ensures) c.count_hops-hops.ensures c.count_last.ensures c.saturating_add-others.ensures c.saturating_add-count.ensures in
-    let finds : Finds w (tried lines w) (word % n) c.event_by.result = subst (λ (k : ℕ). Finds w (tried lines w) (k % n) c.event_by.result) c.from.ensures c.event_by.ensures in
-    let f = drawn-found lines w c.args.rng.now n c.event_by.result counted word c.next_word-word.ensures.word (omega (arith, c.next_word-word.type_inv)) c.if-count-eq0.false finds in
-    if-none _ c.event_by.result f.0 f.1
+    let finds : Finds w (tried lines w) (word % n) c.in_ok-found.found = subst (λ (k : ℕ). Finds w (tried lines w) (k % n) c.in_ok-found.found) c.from.ensures c.in_ok-found.ensures in
+    let f = drawn-found lines w c.args.rng.now n c.in_ok-found.found counted word c.next_word-word.ensures.word (omega (arith, c.next_word-word.type_inv)) c.if-count-eq0.false finds in
+    if-none _ c.in_ok-found.found f.0 f.1
 
 pub returns-clause-some : goal.returns-clause-some
 returns-clause-some c =
@@ -37,6 +37,6 @@ returns-clause-some c =
     let counted : IsCount w (tried lines w) n =
     count-tried w lines c.total.result c.count_hops-hops.result c.count_last.result c.saturating_add-others.result n
     (total-counts w c.args.tally.now c.total.result c.requires c.total.ensures) c.count_hops-hops.ensures c.count_last.ensures c.saturating_add-others.ensures c.saturating_add-count.ensures in
-    let finds : Finds w (tried lines w) (word % n) c.event_by.result = subst (λ (k : ℕ). Finds w (tried lines w) (k % n) c.event_by.result) c.from.ensures c.event_by.ensures in
-    let f = drawn-found lines w c.args.rng.now n c.event_by.result counted word c.next_word-word.ensures.word (omega (arith, c.next_word-word.type_inv)) c.if-count-eq0.false finds in
-    if-some _ c.event_by.result f.0 f.1 (f.2, c.next_word-word.ensures.behind)
+    let finds : Finds w (tried lines w) (word % n) c.in_ok-found.found = subst (λ (k : ℕ). Finds w (tried lines w) (k % n) c.in_ok-found.found) c.from.ensures c.in_ok-found.ensures in
+    let f = drawn-found lines w c.args.rng.now n c.in_ok-found.found counted word c.next_word-word.ensures.word (omega (arith, c.next_word-word.type_inv)) c.if-count-eq0.false finds in
+    if-some _ c.in_ok-found.found f.0 f.1 (f.2, c.next_word-word.ensures.behind)

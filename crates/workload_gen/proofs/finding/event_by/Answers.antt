@@ -15,6 +15,6 @@ returns-then-number-hops c =
 
 pub returns : goal.returns
 returns c =
-    at-last c.args.world.now c.args.packets.now c.total-switches.result c.args.hops c.args.number c.last_by.result
+    at-last c.args.world.now c.args.packets.now c.total-switches.result c.args.hops c.args.number c.in_ok-found.found
     (total-counts c.args.world.now c.args.tally.now c.total-switches.result c.requires.counts c.total-switches.ensures)
-    c.requires.hops c.requires.number c.if-number-switches.false c.if-number-hops.false c.last_by.ensures
+    c.requires.hops c.requires.number c.if-number-switches.false c.if-number-hops.false c.in_ok-found.ensures

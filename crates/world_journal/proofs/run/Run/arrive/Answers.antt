@@ -20,14 +20,14 @@ invariant_of-self-2 g c =
     let less = left-less c.self.inside.arrived.items c.args.place c.self.inside.left c.self.invariant.2 first in (
       c.self.invariant.0,
       arrived-more g.L.RunName.lines c.self.inside.arrived.items c.self.inside.held.world.arrivals c.step.new.self.world.arrivals c.args.place c.index.result.now c.self.invariant.1 first (rw c.self.invariant.0 at line)
-          (arrival-line c.self.inside.held.world c.index.result.now.packet c.index.result.now.tag c.step.new.self.world c.in_ok-step.ensures.world),
+          (arrival-line c.self.inside.held.world c.index.result.now.packet c.index.result.now.tag c.step.new.self.world (rw c.in_ok-event.ensures at c.in_ok-step.ensures.world)),
       less.1 (c.self.inside.left - 1) (omega (arith, less.0)),
       c.self.invariant.3,
       c.self.invariant.4,
       c.self.invariant.5,
       c.self.invariant.6,
-      sessions-step _ _ _ c.self.inside.held.journal c.step.new.self.journal _ _ _ c.args.seat.now.worker _ c.self.invariant.7 c.in_ok-step.ensures.journal refl,
-      counts-plain _ c.self.inside.held.journal c.step.new.self.journal _ _ c.args.seat.now.worker _ c.self.invariant.8 c.in_ok-step.ensures.journal refl refl,
+      sessions-step _ _ _ c.self.inside.held.journal c.step.new.self.journal _ _ _ c.args.seat.now.worker _ c.self.invariant.7 (rw c.in_ok-event.ensures at c.in_ok-step.ensures.journal) refl,
+      counts-plain _ c.self.inside.held.journal c.step.new.self.journal _ _ c.args.seat.now.worker _ c.self.invariant.8 (rw c.in_ok-event.ensures at c.in_ok-step.ensures.journal) refl refl,
     )
 
 pub returns-clause-made : goal.returns-clause-made
@@ -40,8 +40,8 @@ returns-clause-made g c =
       line = c.index.result.now;
       here = rw c.self.invariant.0 at line;
       first = first;
-      step = c.in_ok-step.ensures.world;
-      journal = c.in_ok-step.ensures.journal;
+      step = rw c.in_ok-event.ensures at c.in_ok-step.ensures.world;
+      journal = rw c.in_ok-event.ensures at c.in_ok-step.ensures.journal;
       ends = c.in_ok-step.ensures.ends;
       arrived = refl;
       rest = record { arrived = refl; closed = refl; back = refl; to_waits = refl; back_waits = refl; to_ends = refl; back_ends = refl };
