@@ -34,6 +34,7 @@ pub struct Store {
     known: IndexMap<Call, Id>,
     entries: Vec<Entry>,
     copies: SharedCopies,
+    ends: Ends,
 }
 
 impl Drop for Store {
@@ -43,6 +44,7 @@ impl Drop for Store {
             known: _known,
             entries: _entries,
             copies: _copies,
+            ends: _ends,
         } = self;
     }
 }
@@ -65,6 +67,13 @@ pub(crate) struct Size {
     pub(crate) known: usize,
 }
 
+/// Which diagrams last kept every packet, and no packet. They are looked at before they are used again.
+#[derive(Clone, Copy)]
+pub(crate) struct Ends {
+    pub(crate) all: Id,
+    pub(crate) none: Id,
+}
+
 /// The root of a diagram: a leaf, or a test with its branches.
 #[derive(Clone, Copy)]
 pub enum Look {
@@ -83,6 +92,10 @@ impl Store {
             known: IndexMap::new(alloc),
             entries: Vec::new(alloc),
             copies: SharedCopies::new(alloc),
+            ends: Ends {
+                all: Id::at(0),
+                none: Id::at(0),
+            },
         }
     }
 
@@ -103,6 +116,18 @@ impl Store {
             shapes: self.shapes.len(),
             known: self.known.len(),
         }
+    }
+
+    /// Which diagrams last kept every packet, and no packet.
+    pub(crate) fn ends(&self) -> Ends {
+        self.ends
+    }
+
+    /// Notes which diagrams keep every packet, and no packet.
+    pub(crate) fn note_ends(&mut self, ends: Ends)
+        ensures { self.new ≡ self.old }
+    {
+        self.ends = ends;
     }
 
     /// The root of a diagram.
