@@ -9,10 +9,12 @@ mod filters;
 mod flat;
 mod folds;
 mod guarded;
+mod leads;
 mod leftmost;
 mod literal;
 mod meanings;
 mod named;
+mod sums;
 
 pub use compiled::Compiled;
 pub use compiler::{Compiler, compile};
