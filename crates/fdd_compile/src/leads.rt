@@ -24,7 +24,12 @@ pub(crate) struct Parted {
 }
 
 /// Parts diagrams in leads and others. The one that keeps no packet tells which are leads.
-pub(crate) fn part(alloc: Global, store: &Store, parts: &[Id], zero: Id) -> Result<Parted, AllocError>
+pub(crate) fn part(
+    alloc: Global,
+    store: &Store,
+    parts: &[Id],
+    zero: Id,
+) -> Result<Parted, AllocError>
     requires held { AreHeld store.now parts.now }
     requires zero { Gives store.now zero ZeroOf }
     ensures parted { IfOk result (λ r. IsParted store.now r) }
@@ -68,6 +73,12 @@ fn lead_of(store: &Store, zero: Id, part: Id) -> Option<Lead>
 {
     match store.look(part) {
         Look::Leaf => None,
-        Look::Fork(test, below, rest) => { if rest.place() == zero.place() { Some(Lead { test, below }) } else { None } }
+        Look::Fork(test, below, rest) => {
+            if rest.place() == zero.place() {
+                Some(Lead { test, below })
+            } else {
+                None
+            }
+        }
     }
 }

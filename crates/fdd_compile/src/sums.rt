@@ -44,14 +44,21 @@ fn swept(alloc: Global, store: &mut Store, parts: &[Id], depth: u32) -> Result<I
     }
     let zero = store.zero(alloc)?;
     let mut all = part(alloc, store, parts, zero)?;
-    all.leads.sort_unstable_by_key(|lead| u64::MAX - lead.test.rank());
+    all.leads
+        .sort_unstable_by_key(|lead| u64::MAX - lead.test.rank());
     let rest = folded(alloc, store, &all.others, Fold::Union)?;
     sweep(alloc, store, &all.leads, rest, depth - 1)
 }
 
 // A diagram and leads, of which those with one test are best side by side.
 #[cycle(swept)]
-fn sweep(alloc: Global, store: &mut Store, leads: &[Lead], rest: Id, depth: u32) -> Result<Id, AllocError>
+fn sweep(
+    alloc: Global,
+    store: &mut Store,
+    leads: &[Lead],
+    rest: Id,
+    depth: u32,
+) -> Result<Id, AllocError>
     requires led { AreLed store.old leads.now }
     requires rest { Gives store.old rest IsNormal }
     requires small { AreSmall (tree_at store.old rest ∷ map (led store.old) leads.now) }
@@ -73,7 +80,13 @@ fn sweep(alloc: Global, store: &mut Store, leads: &[Lead], rest: Id, depth: u32)
 }
 
 #[cycle(swept)]
-fn take(alloc: Global, store: &mut Store, run: &mut Run, lead: &Lead, depth: u32) -> Result<(), AllocError>
+fn take(
+    alloc: Global,
+    store: &mut Store,
+    run: &mut Run,
+    lead: &Lead,
+    depth: u32,
+) -> Result<(), AllocError>
     requires run { IsRun store.old run.old }
     requires lead { Has store.old lead.now.below }
     requires small { AreSmall (run_of store.old run.old) }

@@ -35,6 +35,7 @@ pub struct Store {
     entries: Vec<Entry>,
     copies: SharedCopies,
     ends: Ends,
+    assigned: IndexMap<Lit, Id>,
 }
 
 impl Drop for Store {
@@ -45,6 +46,7 @@ impl Drop for Store {
             entries: _entries,
             copies: _copies,
             ends: _ends,
+            assigned: _assigned,
         } = self;
     }
 }
@@ -96,6 +98,7 @@ impl Store {
                 all: Id::at(0),
                 none: Id::at(0),
             },
+            assigned: IndexMap::new(alloc),
         }
     }
 
@@ -128,6 +131,21 @@ impl Store {
         ensures { self.new ≡ self.old }
     {
         self.ends = ends;
+    }
+
+    /// Which diagram last gave packets a literal, if this was noted.
+    pub(crate) fn noted(&self, l: &Lit) -> Option<Id> {
+        match self.assigned.get(l) {
+            None => None,
+            Some(place) => Some(*place),
+        }
+    }
+
+    /// Notes which diagram gives packets a literal, if there is memory to do so.
+    pub(crate) fn note(&mut self, l: Lit, a: Id)
+        ensures { self.new ≡ self.old }
+    {
+        let _noted = self.assigned.insert(l, a);
     }
 
     /// The root of a diagram.

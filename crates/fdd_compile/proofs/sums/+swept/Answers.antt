@@ -50,7 +50,7 @@ sweep-loop-lead-preserved t c =
       grows = grows_on _ _ _ old.grows c.in_ok-take.ensures.grows;
       alike =
           swept_more c.args.store.now c.loop-lead.store c.args.rest c.args.leads.now _ _ c.loop-lead-test.true c.lead-item.is c.requires.led old.grows
-              _ _ c.in_ok-take.ensures.alike old.alike;
+          _ _ c.in_ok-take.ensures.alike old.alike;
     }
 
 pub sweep-closed-requires : goal.sweep-closed-requires
@@ -76,7 +76,7 @@ take-returns-then-is-clause-alike t c = taken_beside c.args.store.now _ _ _ _ c.
 pub take-returns-clause-alike : goal.take-returns-clause-alike
 take-returns-clause-alike t c =
     taken_first c.args.store.now c.closed.new.store c.in_ok-whole.whole _ c.clear.new.self.items c.push-2.new.self.items c.args.lead.now
-        c.in_ok-whole.ensures.grows c.requires.lead c.clear.ensures.items c.in_ok-push-2.ensures.items c.in_ok-whole.ensures.place.is
+    c.in_ok-whole.ensures.grows c.requires.lead c.clear.ensures.items c.in_ok-push-2.ensures.items c.in_ok-whole.ensures.place.is
 
 pub swept-folded-requires-2-clause-small : goal.swept-folded-requires-2-clause-small
 swept-folded-requires-2-clause-small t c =
@@ -101,4 +101,4 @@ pub swept-returns-clause-place : goal.swept-returns-clause-place
 swept-returns-clause-place t c =
     if_ok c.sweep.result _ _ c.sweep.ensures.place (λ r g. gives_as _ r _ _ (λ x w.
     swept_sum c.args.store.now c.zero.new.self c.args.parts.now _ c.in_ok-all.all c.requires.held c.requires.small c.in_ok-zero.ensures.grows c.in_ok-all.ensures.parted c.in_ok-all.ensures.alike c.deref.ensures.value
-        c.folded-2.new.store _ c.in_ok-rest.ensures.grows c.in_ok-rest.ensures.place _ _ c.sort_unstable_by_key.ensures.permutation c.deref-2.ensures.value x w) g)
+    c.folded-2.new.store _ c.in_ok-rest.ensures.grows c.in_ok-rest.ensures.place _ _ c.sort_unstable_by_key.ensures.permutation c.deref-2.ensures.value x w) g)
