@@ -1,6 +1,6 @@
 -- Sums of diagrams, swept test by test.
 use Rattle.std.specs.Prelude.{◌↔◌}
-use Rattle.std.proofs.Common.{◌≡◌, ℕ, zero, suc, ◌+◌, ◌<◌, ◌≤◌, ◌⊎◌, inl, inr, refl, ap, sym, ◌∙◌, subst, arith, List, [], ◌∷◌, ◌++◌, length, map, get_or, take, drop}
+use Rattle.std.proofs.Common.{◌≡◌, ℕ, zero, suc, ◌+◌, ◌<◌, ◌≤◌, inl, inr, refl, ap, sym, ◌∙◌, subst, arith, List, [], ◌∷◌, ◌++◌, length, map, get_or, take, drop}
 use Rattle.std.proofs.lemmas.Bool.Decides.{eqb_tells}
 use Rattle.std.proofs.lemmas.List.{append_assoc, map-append, take-append-drop, take_more}
 use Rattle.std.specs.List.Sorted.{IsPermutation}
@@ -10,21 +10,20 @@ use Rattle.nk_values.specs.Held.{Holds}
 use Rattle.nk_values.specs.Lits.{lit_field, lit_value}
 use Rattle.nk_values.specs.Members.{IsIn, SameMembers}
 use Rattle.nk_values.specs.Packets.{get}
-use Rattle.nk_values.proofs.MemberLaws.{in-either}
-use Rattle.fdd_nodes.specs.Names.{literals, IsFew}
-use Rattle.fdd_nodes.specs.Normals.{IsNormal}
+use Rattle.nk_values.proofs.MemberLaws.{in-left, in-right, in-either}
+use Rattle.fdd_nodes.specs.Names.{literals, IsFew, AreFew}
+use Rattle.fdd_nodes.specs.Roots.{IsLeaf}
 use Rattle.fdd_nodes.specs.Trees.{Tree, Leaf, Node, answers, Tests, Assigns}
 use Rattle.fdd_nodes.proofs.GatherLaws.{same_itself, same_sorted}
 use Rattle.fdd_nodes.proofs.NameLaws.{named, count_within}
-use Rattle.fdd_store.specs.Operations.{ZeroOf, JoinOf}
-use Rattle.fdd_store.specs.Looks.{Forked}
-use Rattle.fdd_store.specs.Stores.{Kept, Has, Gives, Grows, tree_at}
+use Rattle.fdd_store.specs.Operations.{ZeroOf, UnionOf, JoinOf, LeavesOf}
+use Rattle.fdd_store.specs.Looks.{Forked, AreLeaves}
+use Rattle.fdd_store.specs.Stores.{Kept, Has, tree_at}
 use Rattle.fdd_store.proofs.ForkLaws.{node_then_as, node_else_as}
-use Rattle.fdd_store.proofs.StoreLaws.{tree_grown, gives_grown, has_grown}
 use Rattle.fdd_compile.specs.declared.leads.Lead.{Lead}
-use Rattle.fdd_compile.specs.Folds.{all_literals, SomeTests, SomeAssigns, AreSmall, SomeAnswers, UnionOfAll, AreHeld}
+use Rattle.fdd_compile.specs.Folds.{all_literals, SomeTests, SomeAssigns, AreSmall, SomeAnswers, UnionOfAll}
 use Rattle.fdd_compile.specs.Sums.{AreAlike, AreLed, behind, led}
-use Rattle.fdd_compile.proofs.FoldLaws.{tests_split, assigns_split, answers_split, some_tests_literal, some_assigns_literal, small_left, small_right, trees_kept}
+use Rattle.fdd_compile.proofs.FoldLaws.{tests_split, assigns_split, answers_split, some_tests_literal, some_assigns_literal, small_left}
 use Rattle.fdd_compile.proofs.NamedLaws.{some_named}
 
 -- lists of diagrams that are alike
@@ -52,7 +51,7 @@ alike_both ts ts' us us' h k = record {
   assigns = λ m x. (assigns_split ts' us' m).1 (elim ((assigns_split ts us m).0 x) [ inl w ↦ inl (h.assigns m w) | inr w ↦ inr (k.assigns m w) ]);
 }
 
-alike_swap : (ts us : List Tree) → AreAlike (ts ++ us) (us ++ ts)
+pub alike_swap : (ts us : List Tree) → AreAlike (ts ++ us) (us ++ ts)
 alike_swap ts us = record {
   answer = λ p q. let a = answers_split ts us p q in let b = answers_split us ts p q in (
     λ x. b.1 (elim (a.0 x) [ inl w ↦ inr w | inr w ↦ inl w ]),
@@ -299,3 +298,79 @@ pub small_take : {X : Type 0} (f : X → Tree) (t : Tree) (xs : List X) (i : ℕ
 small_take {X} f t xs i h =
     let e : map f (take i xs) ++ map f (drop i xs) ≡ map f xs = sym (map-append f (take i xs) (drop i xs)) ∙ ap (map f) (take-append-drop i xs) in
     small_left (t ∷ map f (take i xs)) (map f (drop i xs)) (subst AreSmall (sym (ap (λ (ts : List Tree). t ∷ ts) e)) h)
+
+-- leaves
+
+from_assigns : (ts : List Tree) (t : Tree) (m : Lit) → IsIn ts t → Assigns t m → SomeAssigns ts m
+from_assigns [] t m h k = absurd h
+from_assigns (u ∷ ts) t m (inl e) k = inl (subst (λ (x : Tree). Assigns x m) (sym e) k)
+from_assigns (u ∷ ts) t m (inr h) k = inr (from_assigns ts t m h k)
+
+pub leaves_union : (ts : List Tree) (r : Tree) → LeavesOf ts r → UnionOfAll ts r
+leaves_union ts r h = record {
+  answer = λ p q. (
+    λ x. let o = (h.answer p q).0 x in from_answers ts o.diagram p q o.among o.answered,
+    λ x. let o = in_answers ts p q x in (h.answer p q).1 (record { diagram = o.0; among = o.1; answered = o.2 }),
+  );
+  normal = h.normal;
+  tests = λ m x. absurd (h.tests m x);
+  assigns = λ m x. let o = h.assigns m x in from_assigns ts o.diagram m o.among o.assigned;
+}
+
+-- a diagram that is there already
+
+in_behind : (l : Lit) (ts : List Tree) (t : Tree) → IsIn ts t → IsIn (behind l ts) (Node l t (Leaf []))
+in_behind l [] t h = h
+in_behind l (u ∷ ts) t (inl e) = inl (ap (λ (x : Tree). Node l x (Leaf [])) e)
+in_behind l (u ∷ ts) t (inr h) = inr (in_behind l ts t h)
+
+alike_again : (ts : List Tree) (t : Tree) → IsIn ts t → AreAlike ts (ts ++ t ∷ [])
+alike_again ts t h = alike_members ts (ts ++ t ∷ []) (record {
+  front = λ x i. in-left ts (t ∷ []) x i;
+  back = λ x i. elim (in-either ts (t ∷ []) x i) [ inl w ↦ w | inr w ↦ elim w [ inl e ↦ subst (IsIn ts) e h | inr n ↦ absurd n ] ];
+})
+
+pub taken_again : (k : Kept) (l : Lit) (w : Tree) (ids : List ℕ) (b : Lead) → IsIn ids b.below → b.test ≡ l → AreAlike (w ∷ behind l (map (tree_at k) ids)) ((w ∷ behind l (map (tree_at k) ids)) ++ led k b ∷ [])
+taken_again k l w ids b h e =
+    let ts = w ∷ behind l (map (tree_at k) ids) in
+    let i : IsIn ts (led k b) = inr (subst (λ (m : Lit). IsIn (behind l (map (tree_at k) ids)) (Node m (tree_at k b.below) (Leaf []))) (sym e) (in_behind l (map (tree_at k) ids) (tree_at k b.below) (in_map (tree_at k) ids b.below h))) in
+    alike_again ts (led k b) i
+
+-- two diagrams
+
+pub nothing_alike : (z : Tree) (ts : List Tree) → ZeroOf z → AreAlike (z ∷ ts) ts
+nothing_alike z ts h = record {
+  answer = λ p q. (λ x. elim x [ inl w ↦ absurd (subst (λ (xs : List Packet). IsIn xs q) (h.answer p) w) | inr w ↦ w ], λ x. inr x);
+  tests = λ m x. elim x [ inl w ↦ absurd (h.tests m w) | inr w ↦ w ];
+  assigns = λ m x. elim x [ inl w ↦ absurd (h.assigns m w) | inr w ↦ w ];
+}
+
+pub few_two : (a b : Tree) → AreSmall (a ∷ b ∷ []) → AreFew a b
+few_two a b h = record {
+  bound =
+      let both = a ∷ b ∷ [] in
+      let c = count_within (literals a ++ literals b) (all_literals both) (λ m i. elim (in-either (literals a) (literals b) m i) [
+        | inl w ↦ in-left (literals a) (all_literals (b ∷ [])) m w
+        | inr w ↦ in-right (literals a) (all_literals (b ∷ [])) m (in-left (literals b) [] m w)
+      ]) in
+      omega (arith, c, h.bound);
+}
+
+pub union_two : (a b r : Tree) → UnionOf a b r → UnionOfAll (a ∷ b ∷ []) r
+union_two a b r h = record {
+  answer = λ p q. (
+    λ x. elim ((h.answer p).only q x) [ inl w ↦ inl w | inr w ↦ inr (inl w) ],
+    λ x. elim x [ inl w ↦ (h.answer p).left q w | inr w ↦ elim w [ inl y ↦ (h.answer p).right q y | inr n ↦ absurd n ] ],
+  );
+  normal = h.normal;
+  tests = λ m x. elim (h.tests m x) [ inl w ↦ inl w | inr w ↦ inr (inl w) ];
+  assigns = λ m x. elim (h.assigns m x) [ inl w ↦ inl w | inr w ↦ inr (inl w) ];
+}
+
+pub leaves_more : (k : Kept) (ids : List ℕ) (i x : ℕ) → i < length ids → x ≡ get_or ids i x → AreLeaves k (take i ids) → Has k x → IsLeaf (tree_at k x) → AreLeaves k (take (i + 1) ids)
+leaves_more k ids i x l e h w n =
+    let t : take (i + 1) ids ≡ take i ids ++ x ∷ [] = take_more ids i x l ∙ ap (λ (y : ℕ). take i ids ++ y ∷ []) (sym e) in
+    subst (λ (xs : List ℕ). AreLeaves k xs) (sym t) (λ j m. elim (in-either (take i ids) (x ∷ []) j m) [
+      | inl a ↦ h j a
+      | inr a ↦ elim a [ inl s ↦ subst (λ (y : ℕ). Has k y × IsLeaf (tree_at k y)) s (w, n) | inr b ↦ absurd b ]
+    ])

@@ -6,20 +6,19 @@ use Rattle.std.proofs.Math.Seq.{take-length}
 use Rattle.std.proofs.lemmas.List.{length-map}
 use Rattle.std.specs.List.Sorted.{IsPermutation}
 use Rattle.nk_values.specs.declared.lit.Lit.{Lit}
-use Rattle.nk_values.specs.Members.{IsIn}
-use Rattle.fdd_nodes.specs.Names.{IsFew}
+use Rattle.fdd_nodes.specs.Names.{AreFew, IsFew}
 use Rattle.fdd_nodes.specs.Normals.{IsNormal}
 use Rattle.fdd_nodes.specs.Trees.{Tree, Leaf, Node}
-use Rattle.fdd_store.specs.Operations.{JoinOf}
+use Rattle.fdd_store.specs.Operations.{ZeroOf, UnionOf, JoinOf}
 use Rattle.fdd_store.specs.Stores.{Kept, Has, Gives, Grows, tree_at}
-use Rattle.fdd_store.proofs.StoreLaws.{tree_grown, has_grown}
+use Rattle.fdd_store.proofs.StoreLaws.{gives_grown, tree_grown, has_grown}
 use Rattle.fdd_compile.specs.declared.leads.Lead.{Lead}
 use Rattle.fdd_compile.specs.declared.leads.Parted.{Parted}
 use Rattle.fdd_compile.specs.declared.sums.Run.{Run}
 use Rattle.fdd_compile.specs.Folds.{AreHeld, AreSmall, UnionOfAll}
 use Rattle.fdd_compile.specs.Sums.{AreAlike, AreLed, IsParted, IsRun, behind, led, parts_of, run_of}
-use Rattle.fdd_compile.proofs.FoldLaws.{small_left, trees_kept}
-use Rattle.fdd_compile.proofs.SumLaws.{alike_as, alike_both, alike_itself, alike_more, alike_of, alike_trans, few_join, item_in, joined, leads_sorted, led_sorted, map_more, small_alike, small_take, union_alike}
+use Rattle.fdd_compile.proofs.FoldLaws.{small_left, small_right, trees_kept}
+use Rattle.fdd_compile.proofs.SumLaws.{alike_as, alike_both, alike_more, alike_of, alike_swap, alike_trans, few_join, few_two, item_in, joined, leads_sorted, led_sorted, map_more, nothing_alike, small_alike, union_alike, union_two}
 
 -- leads of a store that grows
 
@@ -126,6 +125,37 @@ module _ (k0 k1 : Kept) (parts os : List ℕ) (all : Parted) (held : AreHeld k0 
 
     pub swept_sum : (x : Tree) → UnionOfAll (tree_at k2 rest ∷ map (led k2) ls) x → UnionOfAll (map (tree_at k0) parts) x
     swept_sum x h = union_alike _ _ x swept_alike h
+
+    -- the leads alone
+    module _ (zero : ℕ) (gz : Gives k1 zero ZeroOf) where
+      zero_there : Gives k2 zero ZeroOf
+      zero_there = gives_grown k1 k2 zero ZeroOf g2 gz
+
+      pub zero_normal : Gives k2 zero IsNormal
+      zero_normal = record { has = zero_there.has; made = zero_there.made; is = zero_there.is.normal }
+
+      zero_alike : AreAlike (tree_at k2 zero ∷ map (led k2) ls) (map (led k2) ls)
+      zero_alike = nothing_alike (tree_at k2 zero) (map (led k2) ls) zero_there.is
+
+      pub zero_small : AreSmall (tree_at k2 zero ∷ map (led k2) ls)
+      zero_small = small_alike _ _ zero_alike (small_right (tree_at k2 rest ∷ []) (map (led k2) ls) leads_small)
+
+      module _ (k3 : Kept) (sum : ℕ) (g3 : Grows k2 k3) (gs : Gives k3 sum (UnionOfAll (tree_at k2 zero ∷ map (led k2) ls))) where
+        pub rest_has : Has k3 rest
+        rest_has = has_grown k2 k3 rest g3 gr.has
+
+        two_alike : AreAlike (tree_at k3 sum ∷ tree_at k3 rest ∷ []) (map (tree_at k0) parts)
+        two_alike =
+            alike_trans _ _ _ (alike_both (tree_at k3 sum ∷ []) (map (led k2) ls) (tree_at k3 rest ∷ []) (tree_at k2 rest ∷ [])
+            (alike_trans _ _ _ (alike_of _ _ gs.is) zero_alike)
+            (alike_as _ _ (ap (λ (t : Tree). t ∷ []) (tree_grown k2 k3 rest g3 gr.has))))
+            (alike_trans _ _ _ (alike_swap (map (led k2) ls) (tree_at k2 rest ∷ [])) swept_alike)
+
+        pub two_few : AreFew (tree_at k3 sum) (tree_at k3 rest)
+        two_few = few_two (tree_at k3 sum) (tree_at k3 rest) (small_alike _ _ two_alike small)
+
+        pub two_sum : (x : Tree) → UnionOf (tree_at k3 sum) (tree_at k3 rest) x → UnionOfAll (map (tree_at k0) parts) x
+        two_sum x h = union_alike _ _ x two_alike (union_two _ _ x h)
 
 pub swept_all : (k : Kept) (t x : Tree) (leads : List Lead) (i : ℕ) → i ≡ length leads → UnionOfAll (t ∷ map (led k) (take i leads)) x → UnionOfAll (t ∷ map (led k) leads) x
 swept_all k t x leads i e h =

@@ -14,6 +14,7 @@ mod leftmost;
 mod literal;
 mod meanings;
 mod named;
+mod plain;
 mod sums;
 
 pub use compiled::Compiled;

@@ -1,5 +1,6 @@
 // Sums of diagrams, swept test by test from the last to the first: a test takes one fork.
-ghost use Rattle.std.specs.Prelude.{[], ◌∷◌, ◌++◌, IfOk, OnOk, map};
+ghost use Rattle.std.specs.Prelude.{[], ◌∷◌, ◌++◌, IfOk, IsTrue, OnOk, map};
+ghost use Rattle.nk_values.specs.Members.{IsIn};
 ghost use Rattle.fdd_nodes.specs.Normals.{IsNormal};
 ghost use Rattle.fdd_store.specs.Stores.{Has, Grows, Gives, tree_at};
 ghost use Rattle.fdd_compile.specs.Folds.{AreHeld, AreSmall, UnionOfAll};
@@ -7,7 +8,8 @@ ghost use Rattle.fdd_compile.specs.Sums.{AreAlike, AreLed, IsRun, led, run_of};
 
 use crate::folds::{Fold, folded};
 use crate::leads::{Lead, part};
-use fdd_store::{Id, Store, each_is_made};
+use crate::plain::plain_sum;
+use fdd_store::{Id, Look, Store};
 use nk_values::Lit;
 use std::alloc::{AllocError, Global};
 
@@ -32,6 +34,7 @@ pub fn summed(alloc: Global, store: &mut Store, parts: &[Id]) -> Result<Id, Allo
     swept(alloc, store, parts, DEPTH)
 }
 
+// Parts that are no leads may begin with any test: the leads would have to pass it one by one, if they were joined to them.
 #[cycle(swept)]
 fn swept(alloc: Global, store: &mut Store, parts: &[Id], depth: u32) -> Result<Id, AllocError>
     requires held { AreHeld store.old parts.now }
@@ -46,8 +49,12 @@ fn swept(alloc: Global, store: &mut Store, parts: &[Id], depth: u32) -> Result<I
     let mut all = part(alloc, store, parts, zero)?;
     all.leads
         .sort_unstable_by_key(|lead| u64::MAX - lead.test.rank());
-    let rest = folded(alloc, store, &all.others, Fold::Union)?;
-    sweep(alloc, store, &all.leads, rest, depth - 1)
+    let rest = plain_sum(alloc, store, &all.others)?;
+    if let Look::Leaf = store.look(rest) {
+        return sweep(alloc, store, &all.leads, rest, depth - 1);
+    }
+    let sum = sweep(alloc, store, &all.leads, zero, depth - 1)?;
+    store.union(alloc, sum, rest)
 }
 
 // A diagram and leads, of which those with one test are best side by side.
@@ -95,6 +102,9 @@ fn take(
     ensures alike { OnOk result (AreAlike (run_of store.new run.new) (run_of store.old run.old ++ led store.old lead.now ∷ [])) }
 {
     if lead.test.is(&run.test) {
+        if ends_in(&run.below, lead.below) {
+            return Ok(());
+        }
         run.below.push(lead.below)?;
         return Ok(());
     }
@@ -104,6 +114,15 @@ fn take(
     run.test = lead.test;
     run.whole = whole;
     Ok(())
+}
+
+fn ends_in(below: &[Id], a: Id) -> bool
+    ensures { IsTrue result → IsIn below.now a }
+{
+    match below.last() {
+        Some(last) => last.place() == a.place(),
+        None => false,
+    }
 }
 
 // The sum of a run.

@@ -1,11 +1,12 @@
-use Rattle.std.proofs.Common.{arith, sym, subst, ◌∙◌, List, ℕ, map}
+use Rattle.std.proofs.Common.{arith, sym, subst, List, ℕ, map}
+use Rattle.nk_values.specs.Members.{IsIn}
 use Rattle.fdd_store.proofs.ForkLaws.{if_ok}
 use Rattle.fdd_store.proofs.StoreLaws.{gives_as, grows_on}
 use Rattle.fdd_store.specs.Stores.{tree_at}
 use Rattle.fdd_compile.specs.Folds.{AreSmall}
 use Rattle.fdd_compile.proofs.FoldLaws.{held_as, held_push}
-use Rattle.fdd_compile.proofs.SumLaws.{small_alike, small_behind, small_take, union_alike}
-use Rattle.fdd_compile.proofs.SweepLaws.{closed_few, closed_sum, lead_has, leads_led, leads_small, others_small, rest_normal, some_there, swept_all, swept_more, swept_sum, taken_beside, taken_first}
+use Rattle.fdd_compile.proofs.SumLaws.{small_alike, small_behind, small_take, taken_again, union_alike}
+use Rattle.fdd_compile.proofs.SweepLaws.{closed_few, closed_sum, lead_has, leads_led, leads_small, others_small, rest_normal, some_there, swept_all, swept_more, swept_sum, taken_beside, taken_first, two_few, two_sum, zero_normal, zero_small}
 use Rattle.fdd_compile.proofs.sums.+swept.Goals as goal
 
 pub closed-swept-requires : goal.closed-swept-requires
@@ -70,6 +71,9 @@ take-returns-then-is-clause-run t c = record {
   whole = c.requires.run.whole;
 }
 
+pub take-returns-then-ends_in-clause-alike : goal.take-returns-then-ends_in-clause-alike
+take-returns-then-ends_in-clause-alike t c = taken_again c.args.store.now _ _ c.args.run.now.below.items c.args.lead.now (subst (λ (xs : List ℕ). IsIn xs c.args.lead.now.below) c.deref.ensures.value (c.ends_in.ensures c.if-ends_in.true)) (c.is.ensures.0 c.if-is.true)
+
 pub take-returns-then-is-clause-alike : goal.take-returns-then-is-clause-alike
 take-returns-then-is-clause-alike t c = taken_beside c.args.store.now _ _ _ _ c.args.lead.now c.in_ok-push.ensures.items (c.is.ensures.0 c.if-is.true)
 
@@ -78,8 +82,8 @@ take-returns-clause-alike t c =
     taken_first c.args.store.now c.closed.new.store c.in_ok-whole.whole _ c.clear.new.self.items c.push-2.new.self.items c.args.lead.now
     c.in_ok-whole.ensures.grows c.requires.lead c.clear.ensures.items c.in_ok-push-2.ensures.items c.in_ok-whole.ensures.place.is
 
-pub swept-folded-requires-2-clause-small : goal.swept-folded-requires-2-clause-small
-swept-folded-requires-2-clause-small t c =
+pub swept-plain_sum-requires-clause-small : goal.swept-plain_sum-requires-clause-small
+swept-plain_sum-requires-clause-small t c =
     others_small c.args.store.now c.zero.new.self c.args.parts.now _ c.in_ok-all.all c.requires.held c.requires.small c.in_ok-zero.ensures.grows c.in_ok-all.ensures.parted c.in_ok-all.ensures.alike c.deref.ensures.value
 
 pub swept-sweep-requires : goal.swept-sweep-requires
@@ -87,18 +91,52 @@ swept-sweep-requires t c = (
   omega (arith, c.if-depth-eq0.false),
   (
     leads_led c.args.store.now c.zero.new.self c.args.parts.now _ c.in_ok-all.all c.requires.held c.requires.small c.in_ok-zero.ensures.grows c.in_ok-all.ensures.parted c.in_ok-all.ensures.alike c.deref.ensures.value
-        c.folded-2.new.store _ c.in_ok-rest.ensures.grows c.in_ok-rest.ensures.place _ _ c.sort_unstable_by_key.ensures.permutation c.deref-2.ensures.value,
+        c.plain_sum.new.store _ c.in_ok-rest.ensures.grows c.in_ok-rest.ensures.place _ _ c.sort_unstable_by_key.ensures.permutation c.deref-in-Leaf.ensures.value,
     (
       rest_normal c.args.store.now c.zero.new.self c.args.parts.now _ c.in_ok-all.all c.requires.held c.requires.small c.in_ok-zero.ensures.grows c.in_ok-all.ensures.parted c.in_ok-all.ensures.alike c.deref.ensures.value
-          c.folded-2.new.store _ c.in_ok-rest.ensures.grows c.in_ok-rest.ensures.place _ _ c.sort_unstable_by_key.ensures.permutation c.deref-2.ensures.value,
+          c.plain_sum.new.store _ c.in_ok-rest.ensures.grows c.in_ok-rest.ensures.place _ _ c.sort_unstable_by_key.ensures.permutation c.deref-in-Leaf.ensures.value,
       leads_small c.args.store.now c.zero.new.self c.args.parts.now _ c.in_ok-all.all c.requires.held c.requires.small c.in_ok-zero.ensures.grows c.in_ok-all.ensures.parted c.in_ok-all.ensures.alike c.deref.ensures.value
-          c.folded-2.new.store _ c.in_ok-rest.ensures.grows c.in_ok-rest.ensures.place _ _ c.sort_unstable_by_key.ensures.permutation c.deref-2.ensures.value,
+          c.plain_sum.new.store _ c.in_ok-rest.ensures.grows c.in_ok-rest.ensures.place _ _ c.sort_unstable_by_key.ensures.permutation c.deref-in-Leaf.ensures.value,
     ),
   ),
 )
 
-pub swept-returns-clause-place : goal.swept-returns-clause-place
-swept-returns-clause-place t c =
+pub swept-returns-in-Leaf-clause-place : goal.swept-returns-in-Leaf-clause-place
+swept-returns-in-Leaf-clause-place t c =
     if_ok c.sweep.result _ _ c.sweep.ensures.place (λ r g. gives_as _ r _ _ (λ x w.
     swept_sum c.args.store.now c.zero.new.self c.args.parts.now _ c.in_ok-all.all c.requires.held c.requires.small c.in_ok-zero.ensures.grows c.in_ok-all.ensures.parted c.in_ok-all.ensures.alike c.deref.ensures.value
-    c.folded-2.new.store _ c.in_ok-rest.ensures.grows c.in_ok-rest.ensures.place _ _ c.sort_unstable_by_key.ensures.permutation c.deref-2.ensures.value x w) g)
+    c.plain_sum.new.store _ c.in_ok-rest.ensures.grows c.in_ok-rest.ensures.place _ _ c.sort_unstable_by_key.ensures.permutation c.deref-in-Leaf.ensures.value x w) g)
+
+pub swept-sweep-requires-2 : goal.swept-sweep-requires-2
+swept-sweep-requires-2 t c = (
+  omega (arith, c.if-depth-eq0.false),
+  (
+    leads_led c.args.store.now c.zero.new.self c.args.parts.now _ c.in_ok-all.all c.requires.held c.requires.small c.in_ok-zero.ensures.grows c.in_ok-all.ensures.parted c.in_ok-all.ensures.alike c.deref.ensures.value
+        c.plain_sum.new.store _ c.in_ok-rest.ensures.grows c.in_ok-rest.ensures.place _ _ c.sort_unstable_by_key.ensures.permutation c.deref-2.ensures.value,
+    (
+      zero_normal c.args.store.now c.zero.new.self c.args.parts.now _ c.in_ok-all.all c.requires.held c.requires.small c.in_ok-zero.ensures.grows c.in_ok-all.ensures.parted c.in_ok-all.ensures.alike c.deref.ensures.value
+          c.plain_sum.new.store _ c.in_ok-rest.ensures.grows c.in_ok-rest.ensures.place _ _ c.sort_unstable_by_key.ensures.permutation c.deref-2.ensures.value c.in_ok-zero.zero c.in_ok-zero.ensures.place,
+      zero_small c.args.store.now c.zero.new.self c.args.parts.now _ c.in_ok-all.all c.requires.held c.requires.small c.in_ok-zero.ensures.grows c.in_ok-all.ensures.parted c.in_ok-all.ensures.alike c.deref.ensures.value
+          c.plain_sum.new.store _ c.in_ok-rest.ensures.grows c.in_ok-rest.ensures.place _ _ c.sort_unstable_by_key.ensures.permutation c.deref-2.ensures.value c.in_ok-zero.zero c.in_ok-zero.ensures.place,
+    ),
+  ),
+)
+
+pub swept-returns-in_err-sum-clause-grows : goal.swept-returns-in_err-sum-clause-grows
+swept-returns-in_err-sum-clause-grows t c = grows_on _ _ _ c.in_ok-zero.ensures.grows (grows_on _ _ _ c.in_ok-rest.ensures.grows c.sweep-2.ensures.grows)
+
+pub swept-union-requires-clause-few : goal.swept-union-requires-clause-few
+swept-union-requires-clause-few t c =
+    two_few c.args.store.now c.zero.new.self c.args.parts.now _ c.in_ok-all.all c.requires.held c.requires.small c.in_ok-zero.ensures.grows c.in_ok-all.ensures.parted c.in_ok-all.ensures.alike c.deref.ensures.value
+    c.plain_sum.new.store _ c.in_ok-rest.ensures.grows c.in_ok-rest.ensures.place _ _ c.sort_unstable_by_key.ensures.permutation c.deref-2.ensures.value c.in_ok-zero.zero c.in_ok-zero.ensures.place
+    c.sweep-2.new.store _ c.in_ok-sum.ensures.grows c.in_ok-sum.ensures.place
+
+pub swept-returns-clause-grows : goal.swept-returns-clause-grows
+swept-returns-clause-grows t c = grows_on _ _ _ c.in_ok-zero.ensures.grows (grows_on _ _ _ c.in_ok-rest.ensures.grows (grows_on _ _ _ c.in_ok-sum.ensures.grows c.union.ensures.grows))
+
+pub swept-returns-clause-place : goal.swept-returns-clause-place
+swept-returns-clause-place t c =
+    if_ok c.union.result _ _ c.union.ensures.place (λ r g. gives_as _ r _ _ (λ x w.
+    two_sum c.args.store.now c.zero.new.self c.args.parts.now _ c.in_ok-all.all c.requires.held c.requires.small c.in_ok-zero.ensures.grows c.in_ok-all.ensures.parted c.in_ok-all.ensures.alike c.deref.ensures.value
+    c.plain_sum.new.store _ c.in_ok-rest.ensures.grows c.in_ok-rest.ensures.place _ _ c.sort_unstable_by_key.ensures.permutation c.deref-2.ensures.value c.in_ok-zero.zero c.in_ok-zero.ensures.place
+    c.sweep-2.new.store _ c.in_ok-sum.ensures.grows c.in_ok-sum.ensures.place x w) g)

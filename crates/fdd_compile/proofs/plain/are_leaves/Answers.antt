@@ -1,0 +1,10 @@
+use Rattle.fdd_compile.proofs.SumLaws.{item_in, leaves_more}
+use Rattle.fdd_compile.proofs.plain.are_leaves.Goals as goal
+
+pub look-requires : goal.look-requires
+look-requires c = c.requires _ (item_in c.args.parts.now _ _ c.loop-part-test.true c.part-item.is)
+
+pub loop-part-preserved : goal.loop-part-preserved
+loop-part-preserved c =
+    leaves_more c.args.store.now c.args.parts.now _ _ c.loop-part-test.true c.part-item.is c.loop-part.invariant
+    (c.requires _ (item_in c.args.parts.now _ _ c.loop-part-test.true c.part-item.is)) c.in-Leaf.ensures.look
