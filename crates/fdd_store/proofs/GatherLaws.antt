@@ -1,12 +1,10 @@
 -- Unions of leaves.
 use Rattle.std.proofs.Common.{◌≡◌, ℕ, zero, suc, arith, ◌+◌, ◌<◌, inl, inr, refl, ap, sym, ◌∙◌, subst, List, [], ◌∷◌, ◌++◌, length, map, get_or, take}
 use Rattle.std.proofs.lemmas.List.{take_more}
-use Rattle.nk_values.specs.declared.packet.Packet.{Packet}
 use Rattle.nk_values.specs.declared.lit.Lit.{Lit}
 use Rattle.nk_values.specs.Lits.{lit_field}
 use Rattle.nk_values.specs.Members.{IsIn, SameMembers}
 use Rattle.nk_values.proofs.MemberLaws.{in-left, in-right, in-either}
-use Rattle.fdd_nodes.specs.Cells.{open_cell}
 use Rattle.fdd_nodes.specs.Roots.{IsLeaf}
 use Rattle.fdd_nodes.specs.Trees.{Tree, Leaf, Node, answers, outcomes, Assigns}
 use Rattle.fdd_nodes.proofs.CellLaws.{lit_not_free, get-open}
@@ -14,7 +12,7 @@ use Rattle.fdd_nodes.proofs.MakesLaws.{source, outcome, among_lists}
 use Rattle.fdd_nodes.proofs.StripLaws.{holder}
 use Rattle.fdd_store.specs.Looks.{AreLeaves, AreCopiesOf, leaf_copies}
 use Rattle.fdd_store.specs.Operations.{LeavesOf}
-use Rattle.fdd_store.specs.Stores.{Kept, Gives, tree_at}
+use Rattle.fdd_store.specs.Stores.{Kept, tree_at}
 use Rattle.fdd_store.proofs.FollowLaws.{in_map, from_map}
 
 pub no_copies : (k : Kept) → AreCopiesOf k [] []

@@ -32,7 +32,11 @@ impl Store {
         ensures { IfSome result (λ a. Gives self.now a (λ t. t ≡ trees.Leaf ((l.now ∷ []) ∷ []))) }
     {
         let a = self.noted(l)?;
-        if self.holds(a) && self.gives(a, l) { Some(a) } else { None }
+        if self.holds(a) && self.gives(a, l) {
+            Some(a)
+        } else {
+            None
+        }
     }
 
     fn gives(&self, a: Id, l: &Lit) -> bool
