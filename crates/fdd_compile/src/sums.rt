@@ -13,7 +13,7 @@ use fdd_store::{Id, Look, Store};
 use nk_values::Lit;
 use std::alloc::{AllocError, Global};
 
-// A sweep goes below this many tests; more fields there are not.
+// A sweep goes below this many tests at most. There are no more fields.
 const DEPTH: u32 = 10;
 
 /// The diagrams that are to be put behind one test, beside the sum of those which were put behind later ones.
@@ -34,7 +34,7 @@ pub fn summed(alloc: Global, store: &mut Store, parts: &[Id]) -> Result<Id, Allo
     swept(alloc, store, parts, DEPTH)
 }
 
-// Parts that are no leads may begin with any test: the leads would have to pass it one by one, if they were joined to them.
+// Parts that are no leads may begin with any test. If leads were joined to them, each would have to pass it.
 #[cycle(swept)]
 fn swept(alloc: Global, store: &mut Store, parts: &[Id], depth: u32) -> Result<Id, AllocError>
     requires held { AreHeld store.old parts.now }
@@ -57,7 +57,7 @@ fn swept(alloc: Global, store: &mut Store, parts: &[Id], depth: u32) -> Result<I
     store.union(alloc, sum, rest)
 }
 
-// A diagram and leads, of which those with one test are best side by side.
+// The sum of a diagram and leads. It takes least if leads with later tests come first.
 #[cycle(swept)]
 fn sweep(
     alloc: Global,
@@ -86,6 +86,7 @@ fn sweep(
     closed(alloc, store, &run, depth)
 }
 
+// Takes one more lead: into the run if it has the run's test, else into a new one.
 #[cycle(swept)]
 fn take(
     alloc: Global,

@@ -10,8 +10,9 @@ use nk_values::Lit;
 use std::alloc::{AllocError, Global};
 
 impl Store {
-    /// The second diagram and, where a literal holds, the first one beside it. It is one fork if no test comes before the
-    /// literal and one of the diagrams is empty there.
+    /// The second diagram and, where a literal holds, the first one beside it.
+    ///
+    /// It is one fork if no test comes before the literal, and one of the diagrams keeps nothing where it holds.
     pub(crate) fn add(&mut self, alloc: Global, l: Lit, a: Id, b: Id) -> Result<Id, AllocError>
         requires has_a { Has self.old a }
         requires has_b { Has self.old b }
@@ -24,6 +25,7 @@ impl Store {
         }
     }
 
+    // The same if some test comes before the literal.
     fn add_later(&mut self, alloc: Global, l: Lit, a: Id, b: Id) -> Result<Id, AllocError>
         requires has_a { Has self.old a }
         requires has_b { Has self.old b }
@@ -35,6 +37,7 @@ impl Store {
         self.unite(alloc, front, b)
     }
 
+    // The same if no test comes before it.
     fn add_here(&mut self, alloc: Global, l: Lit, a: Id, b: Id) -> Result<Id, AllocError>
         requires x { Gives self.old a (IsNotBefore l) }
         requires y { Gives self.old b (IsNotBefore l) }
