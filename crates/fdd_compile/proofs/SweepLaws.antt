@@ -1,9 +1,11 @@
 -- The steps of a sweep, over a store that grows.
-use Rattle.std.proofs.Common.{false, ◌==◌, ◌≡◌, ℕ, ◌+◌, ◌<◌, ◌≤◌, inl, inr, refl, ap, sym, ◌∙◌, subst, arith, List, [], ◌∷◌, ◌++◌, length, map, get_or, take}
+use Rattle.std.proofs.Common.{false, ◌==◌, ◌≡◌, ℕ, ◌+◌, ◌<◌, ◌≤◌, inl, inr, refl, ap, sym, ◌∙◌, subst, arith, List, [], ◌∷◌, ◌++◌, length, map, get_or, take, drop}
 use Rattle.std.proofs.lemmas.Bool.{false≢true}
 use Rattle.std.proofs.lemmas.Bool.Decides.{eqb_tells}
 use Rattle.std.proofs.Math.Seq.{take-length}
-use Rattle.std.proofs.lemmas.List.{length-map}
+use Rattle.std.proofs.lemmas.List.{length-map, map-append, take-append-drop}
+use Rattle.nk_values.specs.Members.{IsIn}
+use Rattle.nk_values.proofs.MemberLaws.{in-left, in-right}
 use Rattle.std.specs.List.Sorted.{IsPermutation}
 use Rattle.nk_values.specs.declared.lit.Lit.{Lit}
 use Rattle.fdd_nodes.specs.Names.{AreFew, IsFew}
@@ -11,7 +13,7 @@ use Rattle.fdd_nodes.specs.Normals.{IsNormal}
 use Rattle.fdd_nodes.specs.Trees.{Tree, Leaf, Node}
 use Rattle.fdd_store.specs.Operations.{ZeroOf, UnionOf, JoinOf}
 use Rattle.fdd_store.specs.Stores.{Kept, Has, Gives, Grows, tree_at}
-use Rattle.fdd_store.proofs.StoreLaws.{gives_grown, tree_grown, has_grown}
+use Rattle.fdd_store.proofs.StoreLaws.{gives_grown, grows_on, tree_grown, has_grown}
 use Rattle.fdd_compile.specs.declared.leads.Lead.{Lead}
 use Rattle.fdd_compile.specs.declared.leads.Parted.{Parted}
 use Rattle.fdd_compile.specs.declared.sums.Run.{Run}
@@ -126,36 +128,76 @@ module _ (k0 k1 : Kept) (parts os : List ℕ) (all : Parted) (held : AreHeld k0 
     pub swept_sum : (x : Tree) → UnionOfAll (tree_at k2 rest ∷ map (led k2) ls) x → UnionOfAll (map (tree_at k0) parts) x
     swept_sum x h = union_alike _ _ x swept_alike h
 
-    -- the leads alone
-    module _ (zero : ℕ) (gz : Gives k1 zero ZeroOf) where
+    -- the later leads alone, and the earlier ones joined to the rest
+    module _ (zero : ℕ) (gz : Gives k1 zero ZeroOf) (n : ℕ) (late early : List Lead) (ea : late ≡ take n ls) (eb : early ≡ drop n ls) where
       zero_there : Gives k2 zero ZeroOf
       zero_there = gives_grown k1 k2 zero ZeroOf g2 gz
 
       pub zero_normal : Gives k2 zero IsNormal
       zero_normal = record { has = zero_there.has; made = zero_there.made; is = zero_there.is.normal }
 
-      zero_alike : AreAlike (tree_at k2 zero ∷ map (led k2) ls) (map (led k2) ls)
-      zero_alike = nothing_alike (tree_at k2 zero) (map (led k2) ls) zero_there.is
+      both_parts : late ++ early ≡ ls
+      both_parts = (λ x. ea x ++ eb x) ∙ take-append-drop n ls
 
-      pub zero_small : AreSmall (tree_at k2 zero ∷ map (led k2) ls)
-      zero_small = small_alike _ _ zero_alike (small_right (tree_at k2 rest ∷ []) (map (led k2) ls) leads_small)
+      both_led : map (led k2) late ++ map (led k2) early ≡ map (led k2) ls
+      both_led = sym (map-append (led k2) late early) ∙ ap (map (led k2)) both_parts
 
-      module _ (k3 : Kept) (sum : ℕ) (g3 : Grows k2 k3) (gs : Gives k3 sum (UnionOfAll (tree_at k2 zero ∷ map (led k2) ls))) where
+      pub late_led : AreLed k2 late
+      late_led = λ b i. leads_led b (subst (λ (bs : List Lead). IsIn bs b) both_parts (in-left late early b i))
+
+      early_there : AreLed k2 early
+      early_there = λ b i. leads_led b (subst (λ (bs : List Lead). IsIn bs b) both_parts (in-right late early b i))
+
+      zero_alike : AreAlike (tree_at k2 zero ∷ map (led k2) late) (map (led k2) late)
+      zero_alike = nothing_alike (tree_at k2 zero) (map (led k2) late) zero_there.is
+
+      all_small : AreSmall (map (led k2) late ++ map (led k2) early)
+      all_small = subst AreSmall (sym both_led) (small_right (tree_at k2 rest ∷ []) (map (led k2) ls) leads_small)
+
+      pub late_small : AreSmall (tree_at k2 zero ∷ map (led k2) late)
+      late_small = small_alike _ _ zero_alike (small_left (map (led k2) late) (map (led k2) early) all_small)
+
+      module _ (k3 : Kept) (sum : ℕ) (g3 : Grows k2 k3) (gs : Gives k3 sum (UnionOfAll (tree_at k2 zero ∷ map (led k2) late))) where
         pub rest_has : Has k3 rest
         rest_has = has_grown k2 k3 rest g3 gr.has
 
-        two_alike : AreAlike (tree_at k3 sum ∷ tree_at k3 rest ∷ []) (map (tree_at k0) parts)
-        two_alike =
-            alike_trans _ _ _ (alike_both (tree_at k3 sum ∷ []) (map (led k2) ls) (tree_at k3 rest ∷ []) (tree_at k2 rest ∷ [])
+        base_alike : AreAlike (tree_at k3 sum ∷ tree_at k3 rest ∷ []) (tree_at k2 rest ∷ map (led k2) late)
+        base_alike =
+            alike_trans _ _ _ (alike_both (tree_at k3 sum ∷ []) (map (led k2) late) (tree_at k3 rest ∷ []) (tree_at k2 rest ∷ [])
             (alike_trans _ _ _ (alike_of _ _ gs.is) zero_alike)
             (alike_as _ _ (ap (λ (t : Tree). t ∷ []) (tree_grown k2 k3 rest g3 gr.has))))
-            (alike_trans _ _ _ (alike_swap (map (led k2) ls) (tree_at k2 rest ∷ [])) swept_alike)
+            (alike_swap (map (led k2) late) (tree_at k2 rest ∷ []))
 
-        pub two_few : AreFew (tree_at k3 sum) (tree_at k3 rest)
-        two_few = few_two (tree_at k3 sum) (tree_at k3 rest) (small_alike _ _ two_alike small)
+        whole_alike : AreAlike ((tree_at k2 rest ∷ map (led k2) late) ++ map (led k2) early) (map (tree_at k0) parts)
+        whole_alike = alike_trans _ _ _ (alike_as _ _ (ap (λ (ts : List Tree). tree_at k2 rest ∷ ts) both_led)) swept_alike
 
-        pub two_sum : (x : Tree) → UnionOf (tree_at k3 sum) (tree_at k3 rest) x → UnionOfAll (map (tree_at k0) parts) x
-        two_sum x h = union_alike _ _ x two_alike (union_two _ _ x h)
+        pub base_few : AreFew (tree_at k3 sum) (tree_at k3 rest)
+        base_few =
+            few_two (tree_at k3 sum) (tree_at k3 rest)
+            (small_alike _ _ base_alike (small_left (tree_at k2 rest ∷ map (led k2) late) (map (led k2) early) (small_alike _ _ whole_alike small)))
+
+        module _ (k4 : Kept) (base : ℕ) (g4 : Grows k3 k4) (gu : Gives k4 base (UnionOf (tree_at k3 sum) (tree_at k3 rest))) where
+          pub base_normal : Gives k4 base IsNormal
+          base_normal = record { has = gu.has; made = gu.made; is = gu.is.normal }
+
+          g24 : Grows k2 k4
+          g24 = grows_on k2 k3 k4 g3 g4
+
+          pub early_led : AreLed k4 early
+          early_led = led_grown k2 k4 early g24 early_there
+
+          end_alike : AreAlike (tree_at k4 base ∷ map (led k4) early) (map (tree_at k0) parts)
+          end_alike =
+              alike_trans _ _ _ (alike_both (tree_at k4 base ∷ []) (tree_at k2 rest ∷ map (led k2) late) (map (led k4) early) (map (led k2) early)
+              (alike_trans _ _ _ (alike_of _ _ (union_two _ _ _ gu.is)) base_alike)
+              (alike_as _ _ (leads_kept k2 k4 early g24 early_there)))
+              whole_alike
+
+          pub early_small : AreSmall (tree_at k4 base ∷ map (led k4) early)
+          early_small = small_alike _ _ end_alike small
+
+          pub end_sum : (x : Tree) → UnionOfAll (tree_at k4 base ∷ map (led k4) early) x → UnionOfAll (map (tree_at k0) parts) x
+          end_sum x h = union_alike _ _ x end_alike h
 
 pub swept_all : (k : Kept) (t x : Tree) (leads : List Lead) (i : ℕ) → i ≡ length leads → UnionOfAll (t ∷ map (led k) (take i leads)) x → UnionOfAll (t ∷ map (led k) leads) x
 swept_all k t x leads i e h =

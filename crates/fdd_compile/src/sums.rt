@@ -1,5 +1,5 @@
 // Sums of diagrams, swept test by test from the last to the first: a test takes one fork.
-ghost use Rattle.std.specs.Prelude.{[], ◌∷◌, ◌++◌, IfOk, IsTrue, OnOk, map};
+ghost use Rattle.std.specs.Prelude.{◌≤◌, [], ◌∷◌, ◌++◌, IfOk, IsTrue, OnOk, length, map};
 ghost use Rattle.nk_values.specs.Members.{IsIn};
 ghost use Rattle.fdd_nodes.specs.Normals.{IsNormal};
 ghost use Rattle.fdd_store.specs.Stores.{Has, Grows, Gives, tree_at};
@@ -34,7 +34,7 @@ pub fn summed(alloc: Global, store: &mut Store, parts: &[Id]) -> Result<Id, Allo
     swept(alloc, store, parts, DEPTH)
 }
 
-// Parts that are no leads may begin with any test. If leads were joined to them, each would have to pass it.
+// Leads that come after the first test of the other parts are summed first. Joined to those, each would have to pass it.
 #[cycle(swept)]
 fn swept(alloc: Global, store: &mut Store, parts: &[Id], depth: u32) -> Result<Id, AllocError>
     requires held { AreHeld store.old parts.now }
@@ -50,11 +50,26 @@ fn swept(alloc: Global, store: &mut Store, parts: &[Id], depth: u32) -> Result<I
     all.leads
         .sort_unstable_by_key(|lead| u64::MAX - lead.test.rank());
     let rest = plain_sum(alloc, store, &all.others)?;
-    if let Look::Leaf = store.look(rest) {
-        return sweep(alloc, store, &all.leads, rest, depth - 1);
+    let (late, early) = all.leads.split_at(late_count(store, &all.leads, rest));
+    let sum = sweep(alloc, store, late, zero, depth - 1)?;
+    let base = store.union(alloc, sum, rest)?;
+    sweep(alloc, store, early, base, depth - 1)
+}
+
+// How many of some leads, which are sorted, do not come before the first test of a diagram.
+fn late_count(store: &Store, leads: &[Lead], rest: Id) -> usize
+    requires { Has store.now rest }
+    ensures { result ≤ length leads.now }
+{
+    let Look::Fork(root, _, _) = store.look(rest) else {
+        return 0;
+    };
+    for (i, lead) in leads.iter().enumerate() {
+        if lead.test.precedes(&root) {
+            return i;
+        }
     }
-    let sum = sweep(alloc, store, &all.leads, zero, depth - 1)?;
-    store.union(alloc, sum, rest)
+    leads.len()
 }
 
 // The sum of a diagram and leads. It takes least if leads with later tests come first.

@@ -6,7 +6,7 @@ use Rattle.fdd_store.specs.Stores.{tree_at}
 use Rattle.fdd_compile.specs.Folds.{AreSmall}
 use Rattle.fdd_compile.proofs.FoldLaws.{held_as, held_push}
 use Rattle.fdd_compile.proofs.SumLaws.{small_alike, small_behind, small_take, taken_again, union_alike}
-use Rattle.fdd_compile.proofs.SweepLaws.{closed_few, closed_sum, lead_has, leads_led, leads_small, others_small, rest_normal, some_there, swept_all, swept_more, swept_sum, taken_beside, taken_first, two_few, two_sum, zero_normal, zero_small}
+use Rattle.fdd_compile.proofs.SweepLaws.{base_few, base_normal, closed_few, closed_sum, early_led, early_small, end_sum, lead_has, late_led, late_small, others_small, some_there, swept_all, swept_more, taken_beside, taken_first, zero_normal}
 use Rattle.fdd_compile.proofs.sums.+swept.Goals as goal
 
 pub closed-swept-requires : goal.closed-swept-requires
@@ -90,53 +90,63 @@ pub swept-sweep-requires : goal.swept-sweep-requires
 swept-sweep-requires t c = (
   omega (arith, c.if-depth-eq0.false),
   (
-    leads_led c.args.store.now c.zero.new.self c.args.parts.now _ c.in_ok-all.all c.requires.held c.requires.small c.in_ok-zero.ensures.grows c.in_ok-all.ensures.parted c.in_ok-all.ensures.alike c.deref.ensures.value
-        c.plain_sum.new.store _ c.in_ok-rest.ensures.grows c.in_ok-rest.ensures.place _ _ c.sort_unstable_by_key.ensures.permutation c.deref-in-Leaf.ensures.value,
-    (
-      rest_normal c.args.store.now c.zero.new.self c.args.parts.now _ c.in_ok-all.all c.requires.held c.requires.small c.in_ok-zero.ensures.grows c.in_ok-all.ensures.parted c.in_ok-all.ensures.alike c.deref.ensures.value
-          c.plain_sum.new.store _ c.in_ok-rest.ensures.grows c.in_ok-rest.ensures.place _ _ c.sort_unstable_by_key.ensures.permutation c.deref-in-Leaf.ensures.value,
-      leads_small c.args.store.now c.zero.new.self c.args.parts.now _ c.in_ok-all.all c.requires.held c.requires.small c.in_ok-zero.ensures.grows c.in_ok-all.ensures.parted c.in_ok-all.ensures.alike c.deref.ensures.value
-          c.plain_sum.new.store _ c.in_ok-rest.ensures.grows c.in_ok-rest.ensures.place _ _ c.sort_unstable_by_key.ensures.permutation c.deref-in-Leaf.ensures.value,
-    ),
-  ),
-)
-
-pub swept-returns-in-Leaf-clause-place : goal.swept-returns-in-Leaf-clause-place
-swept-returns-in-Leaf-clause-place t c =
-    if_ok c.sweep.result _ _ c.sweep.ensures.place (λ r g. gives_as _ r _ _ (λ x w.
-    swept_sum c.args.store.now c.zero.new.self c.args.parts.now _ c.in_ok-all.all c.requires.held c.requires.small c.in_ok-zero.ensures.grows c.in_ok-all.ensures.parted c.in_ok-all.ensures.alike c.deref.ensures.value
-    c.plain_sum.new.store _ c.in_ok-rest.ensures.grows c.in_ok-rest.ensures.place _ _ c.sort_unstable_by_key.ensures.permutation c.deref-in-Leaf.ensures.value x w) g)
-
-pub swept-sweep-requires-2 : goal.swept-sweep-requires-2
-swept-sweep-requires-2 t c = (
-  omega (arith, c.if-depth-eq0.false),
-  (
-    leads_led c.args.store.now c.zero.new.self c.args.parts.now _ c.in_ok-all.all c.requires.held c.requires.small c.in_ok-zero.ensures.grows c.in_ok-all.ensures.parted c.in_ok-all.ensures.alike c.deref.ensures.value
-        c.plain_sum.new.store _ c.in_ok-rest.ensures.grows c.in_ok-rest.ensures.place _ _ c.sort_unstable_by_key.ensures.permutation c.deref-2.ensures.value,
+    late_led c.args.store.now c.zero.new.self c.args.parts.now _ c.in_ok-all.all c.requires.held c.requires.small c.in_ok-zero.ensures.grows c.in_ok-all.ensures.parted c.in_ok-all.ensures.alike c.deref.ensures.value
+        c.plain_sum.new.store c.in_ok-rest.rest c.in_ok-rest.ensures.grows c.in_ok-rest.ensures.place _ _ c.sort_unstable_by_key.ensures.permutation c.deref-2.ensures.value
+        c.in_ok-zero.zero c.in_ok-zero.ensures.place _ _ _ c.split_at.ensures.front c.split_at.ensures.back,
     (
       zero_normal c.args.store.now c.zero.new.self c.args.parts.now _ c.in_ok-all.all c.requires.held c.requires.small c.in_ok-zero.ensures.grows c.in_ok-all.ensures.parted c.in_ok-all.ensures.alike c.deref.ensures.value
-          c.plain_sum.new.store _ c.in_ok-rest.ensures.grows c.in_ok-rest.ensures.place _ _ c.sort_unstable_by_key.ensures.permutation c.deref-2.ensures.value c.in_ok-zero.zero c.in_ok-zero.ensures.place,
-      zero_small c.args.store.now c.zero.new.self c.args.parts.now _ c.in_ok-all.all c.requires.held c.requires.small c.in_ok-zero.ensures.grows c.in_ok-all.ensures.parted c.in_ok-all.ensures.alike c.deref.ensures.value
-          c.plain_sum.new.store _ c.in_ok-rest.ensures.grows c.in_ok-rest.ensures.place _ _ c.sort_unstable_by_key.ensures.permutation c.deref-2.ensures.value c.in_ok-zero.zero c.in_ok-zero.ensures.place,
+          c.plain_sum.new.store c.in_ok-rest.rest c.in_ok-rest.ensures.grows c.in_ok-rest.ensures.place _ _ c.sort_unstable_by_key.ensures.permutation c.deref-2.ensures.value
+          c.in_ok-zero.zero c.in_ok-zero.ensures.place _ _ _ c.split_at.ensures.front c.split_at.ensures.back,
+      late_small c.args.store.now c.zero.new.self c.args.parts.now _ c.in_ok-all.all c.requires.held c.requires.small c.in_ok-zero.ensures.grows c.in_ok-all.ensures.parted c.in_ok-all.ensures.alike c.deref.ensures.value
+          c.plain_sum.new.store c.in_ok-rest.rest c.in_ok-rest.ensures.grows c.in_ok-rest.ensures.place _ _ c.sort_unstable_by_key.ensures.permutation c.deref-2.ensures.value
+          c.in_ok-zero.zero c.in_ok-zero.ensures.place _ _ _ c.split_at.ensures.front c.split_at.ensures.back,
     ),
   ),
 )
 
 pub swept-returns-in_err-sum-clause-grows : goal.swept-returns-in_err-sum-clause-grows
-swept-returns-in_err-sum-clause-grows t c = grows_on _ _ _ c.in_ok-zero.ensures.grows (grows_on _ _ _ c.in_ok-rest.ensures.grows c.sweep-2.ensures.grows)
+swept-returns-in_err-sum-clause-grows t c = grows_on _ _ _ c.in_ok-zero.ensures.grows (grows_on _ _ _ c.in_ok-rest.ensures.grows c.sweep.ensures.grows)
 
 pub swept-union-requires-clause-few : goal.swept-union-requires-clause-few
 swept-union-requires-clause-few t c =
-    two_few c.args.store.now c.zero.new.self c.args.parts.now _ c.in_ok-all.all c.requires.held c.requires.small c.in_ok-zero.ensures.grows c.in_ok-all.ensures.parted c.in_ok-all.ensures.alike c.deref.ensures.value
-    c.plain_sum.new.store _ c.in_ok-rest.ensures.grows c.in_ok-rest.ensures.place _ _ c.sort_unstable_by_key.ensures.permutation c.deref-2.ensures.value c.in_ok-zero.zero c.in_ok-zero.ensures.place
-    c.sweep-2.new.store _ c.in_ok-sum.ensures.grows c.in_ok-sum.ensures.place
+    base_few c.args.store.now c.zero.new.self c.args.parts.now _ c.in_ok-all.all c.requires.held c.requires.small c.in_ok-zero.ensures.grows c.in_ok-all.ensures.parted c.in_ok-all.ensures.alike c.deref.ensures.value
+    c.plain_sum.new.store c.in_ok-rest.rest c.in_ok-rest.ensures.grows c.in_ok-rest.ensures.place _ _ c.sort_unstable_by_key.ensures.permutation c.deref-2.ensures.value
+    c.in_ok-zero.zero c.in_ok-zero.ensures.place _ _ _ c.split_at.ensures.front c.split_at.ensures.back
+    c.sweep.new.store _ c.in_ok-sum.ensures.grows c.in_ok-sum.ensures.place
+
+pub swept-sweep-requires-2 : goal.swept-sweep-requires-2
+swept-sweep-requires-2 t c = (
+  omega (arith, c.if-depth-eq0.false),
+  (
+    early_led c.args.store.now c.zero.new.self c.args.parts.now _ c.in_ok-all.all c.requires.held c.requires.small c.in_ok-zero.ensures.grows c.in_ok-all.ensures.parted c.in_ok-all.ensures.alike c.deref.ensures.value
+        c.plain_sum.new.store c.in_ok-rest.rest c.in_ok-rest.ensures.grows c.in_ok-rest.ensures.place _ _ c.sort_unstable_by_key.ensures.permutation c.deref-2.ensures.value
+        c.in_ok-zero.zero c.in_ok-zero.ensures.place _ _ _ c.split_at.ensures.front c.split_at.ensures.back
+        c.sweep.new.store _ c.in_ok-sum.ensures.grows c.in_ok-sum.ensures.place
+        c.union.new.self _ c.in_ok-base.ensures.grows c.in_ok-base.ensures.place,
+    (
+      base_normal c.args.store.now c.zero.new.self c.args.parts.now _ c.in_ok-all.all c.requires.held c.requires.small c.in_ok-zero.ensures.grows c.in_ok-all.ensures.parted c.in_ok-all.ensures.alike c.deref.ensures.value
+          c.plain_sum.new.store c.in_ok-rest.rest c.in_ok-rest.ensures.grows c.in_ok-rest.ensures.place _ _ c.sort_unstable_by_key.ensures.permutation c.deref-2.ensures.value
+          c.in_ok-zero.zero c.in_ok-zero.ensures.place _ _ _ c.split_at.ensures.front c.split_at.ensures.back
+          c.sweep.new.store _ c.in_ok-sum.ensures.grows c.in_ok-sum.ensures.place
+          c.union.new.self _ c.in_ok-base.ensures.grows c.in_ok-base.ensures.place,
+      early_small c.args.store.now c.zero.new.self c.args.parts.now _ c.in_ok-all.all c.requires.held c.requires.small c.in_ok-zero.ensures.grows c.in_ok-all.ensures.parted c.in_ok-all.ensures.alike c.deref.ensures.value
+          c.plain_sum.new.store c.in_ok-rest.rest c.in_ok-rest.ensures.grows c.in_ok-rest.ensures.place _ _ c.sort_unstable_by_key.ensures.permutation c.deref-2.ensures.value
+          c.in_ok-zero.zero c.in_ok-zero.ensures.place _ _ _ c.split_at.ensures.front c.split_at.ensures.back
+          c.sweep.new.store _ c.in_ok-sum.ensures.grows c.in_ok-sum.ensures.place
+          c.union.new.self _ c.in_ok-base.ensures.grows c.in_ok-base.ensures.place,
+    ),
+  ),
+)
 
 pub swept-returns-clause-grows : goal.swept-returns-clause-grows
-swept-returns-clause-grows t c = grows_on _ _ _ c.in_ok-zero.ensures.grows (grows_on _ _ _ c.in_ok-rest.ensures.grows (grows_on _ _ _ c.in_ok-sum.ensures.grows c.union.ensures.grows))
+swept-returns-clause-grows t c =
+    grows_on _ _ _ c.in_ok-zero.ensures.grows (grows_on _ _ _ c.in_ok-rest.ensures.grows (grows_on _ _ _ c.in_ok-sum.ensures.grows (grows_on _ _ _ c.in_ok-base.ensures.grows c.sweep-2.ensures.grows)))
 
 pub swept-returns-clause-place : goal.swept-returns-clause-place
 swept-returns-clause-place t c =
-    if_ok c.union.result _ _ c.union.ensures.place (λ r g. gives_as _ r _ _ (λ x w.
-    two_sum c.args.store.now c.zero.new.self c.args.parts.now _ c.in_ok-all.all c.requires.held c.requires.small c.in_ok-zero.ensures.grows c.in_ok-all.ensures.parted c.in_ok-all.ensures.alike c.deref.ensures.value
-    c.plain_sum.new.store _ c.in_ok-rest.ensures.grows c.in_ok-rest.ensures.place _ _ c.sort_unstable_by_key.ensures.permutation c.deref-2.ensures.value c.in_ok-zero.zero c.in_ok-zero.ensures.place
-    c.sweep-2.new.store _ c.in_ok-sum.ensures.grows c.in_ok-sum.ensures.place x w) g)
+    if_ok c.sweep-2.result _ _ c.sweep-2.ensures.place (λ r g. gives_as _ r _ _ (λ x w.
+    end_sum c.args.store.now c.zero.new.self c.args.parts.now _ c.in_ok-all.all c.requires.held c.requires.small c.in_ok-zero.ensures.grows c.in_ok-all.ensures.parted c.in_ok-all.ensures.alike c.deref.ensures.value
+    c.plain_sum.new.store c.in_ok-rest.rest c.in_ok-rest.ensures.grows c.in_ok-rest.ensures.place _ _ c.sort_unstable_by_key.ensures.permutation c.deref-2.ensures.value
+    c.in_ok-zero.zero c.in_ok-zero.ensures.place _ _ _ c.split_at.ensures.front c.split_at.ensures.back
+    c.sweep.new.store _ c.in_ok-sum.ensures.grows c.in_ok-sum.ensures.place
+    c.union.new.self _ c.in_ok-base.ensures.grows c.in_ok-base.ensures.place x w) g)
