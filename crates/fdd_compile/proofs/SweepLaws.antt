@@ -1,204 +1,348 @@
 -- The steps of a sweep, over a store that grows.
-use Rattle.std.proofs.Common.{false, ◌==◌, ◌≡◌, ℕ, ◌+◌, ◌<◌, ◌≤◌, inl, inr, refl, ap, sym, ◌∙◌, subst, arith, List, [], ◌∷◌, ◌++◌, length, map, get_or, take, drop}
-use Rattle.std.proofs.lemmas.Bool.{false≢true}
-use Rattle.std.proofs.lemmas.Bool.Decides.{eqb_tells}
-use Rattle.std.proofs.Math.Seq.{take-length}
-use Rattle.std.proofs.lemmas.List.{length-map, map-append, take-append-drop}
+use Rattle.std.proofs.Common.{false, true, ◌==◌, ◌≡◌, ℕ, zero, suc, ◌+◌, ◌-◌, ◌<◌, ◌≤◌, inl, inr, refl, ap, sym, ◌∙◌, subst, arith, List, [], ◌∷◌, ◌++◌, Option, Some, None, unwrap_or, length, length-drop, map, get_or, take, drop}
+use Rattle.std.specs.List.{slice_get}
+use Rattle.std.specs.Option.{is_some}
+use Rattle.std.proofs.lemmas.Bool.{eqb-true, false≢true}
+use Rattle.std.proofs.Math.Seq.{take-add}
+use Rattle.std.proofs.lemmas.List.{append-nil, append_assoc, get_or-drop, length-map, length-take-le, map-append, take-append-drop, take_more}
 use Rattle.nk_values.specs.Members.{IsIn}
-use Rattle.nk_values.proofs.MemberLaws.{in-left, in-right}
-use Rattle.std.specs.List.Sorted.{IsPermutation}
+use Rattle.nk_values.proofs.MemberLaws.{in-left, in-right, in-either}
 use Rattle.nk_values.specs.declared.lit.Lit.{Lit}
 use Rattle.fdd_nodes.specs.Names.{AreFew, IsFew}
 use Rattle.fdd_nodes.specs.Normals.{IsNormal}
 use Rattle.fdd_nodes.specs.Trees.{Tree, Leaf, Node}
 use Rattle.fdd_store.specs.Operations.{ZeroOf, UnionOf, JoinOf}
 use Rattle.fdd_store.specs.Stores.{Kept, Has, Gives, Grows, tree_at}
-use Rattle.fdd_store.proofs.StoreLaws.{gives_grown, grows_on, tree_grown, has_grown}
-use Rattle.fdd_compile.specs.declared.leads.Lead.{Lead}
-use Rattle.fdd_compile.specs.declared.leads.Parted.{Parted}
-use Rattle.fdd_compile.specs.declared.sums.Run.{Run}
-use Rattle.fdd_compile.specs.Folds.{AreHeld, AreSmall, UnionOfAll}
-use Rattle.fdd_compile.specs.Sums.{AreAlike, AreLed, IsParted, IsRun, behind, led, parts_of, run_of}
-use Rattle.fdd_compile.proofs.FoldLaws.{small_left, small_right, trees_kept}
-use Rattle.fdd_compile.proofs.SumLaws.{alike_as, alike_both, alike_more, alike_of, alike_swap, alike_trans, few_join, few_two, item_in, joined, leads_sorted, led_sorted, map_more, nothing_alike, small_alike, union_alike, union_two}
+use Rattle.fdd_store.proofs.StoreLaws.{grows_on, tree_grown, has_grown}
+use Rattle.fdd_compile.specs.declared.summand.Summand.{Summand}
+use Rattle.fdd_compile.specs.Folds.{AreSmall, UnionOfAll}
+use Rattle.fdd_compile.specs.Sums.{AreAlike, AreThere, HaveAt, HaveNoneAt, below_of, if_all, if_holds, left_of}
+use Rattle.fdd_compile.proofs.FoldLaws.{small_left, small_right}
+use Rattle.fdd_compile.proofs.AlikeLaws.{alike_as, alike_both, alike_of, alike_swap, alike_trans, small_alike, take_past, union_alike}
+use Rattle.fdd_compile.proofs.SumLaws.{few_join, few_two, joined, nothing_alike, small_behind, union_two}
 
--- leads of a store that grows
+-- summands of a store that grows
 
-led_kept : (old new : Kept) (b : Lead) → Grows old new → Has old b.below → led new b ≡ led old b
-led_kept old new b g h = ap (λ (t : Tree). Node b.test t (Leaf [])) (tree_grown old new b.below g h)
+pub left_kept : (n : ℕ) (old new : Kept) (s : Summand) → Grows old new → Has old s.below → left_of n new s ≡ left_of n old s
+left_kept n old new s g h = ap (if_all (drop n s.tests.items)) (tree_grown old new s.below g h)
 
-leads_kept : (old new : Kept) (bs : List Lead) → Grows old new → AreLed old bs → map (led new) bs ≡ map (led old) bs
-leads_kept old new [] g h = refl
-leads_kept old new (b ∷ bs) g h =
-    let e = led_kept old new b g (h b (inl refl)) in
-    let r = leads_kept old new bs g (λ x i. h x (inr i)) in
+pub lefts_kept : (n : ℕ) (old new : Kept) (ss : List Summand) → Grows old new → AreThere old ss → map (left_of n new) ss ≡ map (left_of n old) ss
+lefts_kept n old new [] g h = refl
+lefts_kept n old new (s ∷ ss) g h =
+    let e = left_kept n old new s g (h s (inl refl)) in
+    let r = lefts_kept n old new ss g (λ x i. h x (inr i)) in
     λ x. e x ∷ r x
 
-led_grown : (old new : Kept) (bs : List Lead) → Grows old new → AreLed old bs → AreLed new bs
-led_grown old new bs g h = λ b i. has_grown old new b.below g (h b i)
+pub there_grown : (old new : Kept) (ss : List Summand) → Grows old new → AreThere old ss → AreThere new ss
+there_grown old new ss g h = λ s i. has_grown old new s.below g (h s i)
+
+-- a test at a place
+
+no_more : (ls : List Lit) (n : ℕ) → slice_get ls n ≡ None → drop n ls ≡ []
+no_more [] zero e = refl
+no_more [] (suc n) e = refl
+no_more (l ∷ ls) zero e = absurd (let w : Some l ≡ None = e in cc)
+no_more (l ∷ ls) (suc n) e = no_more ls n e
+
+same_some : (m l : Lit) → Some m ≡ Some l → m ≡ l
+same_some m l e = ap (λ (o : Option Lit). unwrap_or o m) e
+
+one_more : (ls : List Lit) (n : ℕ) (l : Lit) → slice_get ls n ≡ Some l → drop n ls ≡ l ∷ drop (n + 1) ls
+one_more [] n l e = absurd (let w : None ≡ Some l = e in cc)
+one_more (m ∷ ls) zero l e = ap (λ (x : Lit). x ∷ ls) (same_some m l e)
+one_more (m ∷ ls) (suc n) l e = one_more ls n l e ∙ ap (λ (k : ℕ). l ∷ drop k (m ∷ ls)) (let w : suc (n + 1) ≡ suc n + 1 = omega arith in w)
+
+-- one summand more with a test at a place
+
+pub have_more : (n i : ℕ) (o : Option Lit) (ss : List Summand) (x : Summand) → i < length ss → x ≡ get_or ss i x → HaveAt n o (take i ss) → slice_get x.tests.items n ≡ o → HaveAt n o (take (i + 1) ss)
+have_more n i o ss x l e h k =
+    let t : take (i + 1) ss ≡ take i ss ++ x ∷ [] = take_more ss i x l ∙ ap (λ (y : Summand). take i ss ++ y ∷ []) (sym e) in
+    subst (HaveAt n o) (sym t) (λ s m. elim (in-either (take i ss) (x ∷ []) s m) [
+      | inl a ↦ h s a
+      | inr a ↦ elim a [ inl q ↦ subst (λ (y : Summand). slice_get y.tests.items n ≡ o) q k | inr b ↦ absurd b ]
+    ])
+
+pub have_none : (o : Option Lit) → false ≡ is_some o → o ≡ None
+have_none None e = refl
+have_none (Some l) e = absurd (false≢true e)
+
+-- summands up to the end of a run, from its start
+pub run_first : (n start : ℕ) (o : Option Lit) (ss : List Summand) → HaveAt n o (take 1 (drop start ss)) → HaveAt n o (take (start + 1 - start) (drop start ss))
+run_first n start o ss h = subst (λ (m : ℕ). HaveAt n o (take m (drop start ss))) (let w : 1 ≡ start + 1 - start = omega arith in w) h
+
+pub run_more : (n start end : ℕ) (o : Option Lit) (ss : List Summand) (x : Summand) → start < end → end < length ss → x ≡ get_or ss end x → HaveAt n o (take (end - start) (drop start ss)) → slice_get x.tests.items n ≡ o → HaveAt n o (take (end + 1 - start) (drop start ss))
+run_more n start end o ss x l b e h k =
+    let at : get_or (drop start ss) (end - start) x ≡ get_or ss end x = get_or-drop start ss (end - start) x ∙ ap (λ (m : ℕ). get_or ss m x) (let w : start + (end - start) ≡ end = omega (arith, l) in w) in
+    subst (λ (m : ℕ). HaveAt n o (take m (drop start ss))) (let w : end - start + 1 ≡ end + 1 - start = omega (arith, l) in w)
+    (have_more n (end - start) o (drop start ss) x (omega (arith, l, b, length-drop start ss)) (e ∙ sym at) h k)
+
+pub run_one : (n start : ℕ) (o : Option Lit) (ss : List Summand) (x : Summand) → start < length ss → x ≡ get_or ss start x → slice_get x.tests.items n ≡ o → HaveAt n o (take 1 (drop start ss))
+run_one n start o ss x l e k =
+    let at : get_or (drop start ss) 0 x ≡ get_or ss start x = get_or-drop start ss 0 x ∙ ap (λ (m : ℕ). get_or ss m x) (let w : start + 0 ≡ start = omega arith in w) in
+    have_more n 0 o (drop start ss) x (omega (arith, l, length-drop start ss)) (e ∙ sym at) (λ s m. absurd m) k
+
+-- summands without a test there are their diagrams
+pub bare_left : (k : Kept) (n : ℕ) (ss : List Summand) → HaveNoneAt n ss → map (left_of n k) ss ≡ map (below_of k) ss
+bare_left k n [] h = refl
+bare_left k n (s ∷ ss) h =
+    let e : left_of n k s ≡ below_of k s = ap (λ (ls : List Lit). if_all ls (tree_at k s.below)) (no_more s.tests.items n (h s (inl refl))) in
+    let r = bare_left k n ss (λ x i. h x (inr i)) in
+    λ x. e x ∷ r x
+
+-- summands with one test there are diagrams behind it
+pub led_left : (k : Kept) (n : ℕ) (l : Lit) (ss : List Summand) → HaveAt n (Some l) ss → map (left_of n k) ss ≡ if_holds l (map (left_of (n + 1) k) ss)
+led_left k n l [] h = refl
+led_left k n l (s ∷ ss) h =
+    let e : left_of n k s ≡ Node l (left_of (n + 1) k s) (Leaf []) = ap (λ (ls : List Lit). if_all ls (tree_at k s.below)) (one_more s.tests.items n l (h s (inl refl))) in
+    let r = led_left k n l ss (λ x i. h x (inr i)) in
+    λ x. e x ∷ r x
+
+-- how many tests are left
+
+abbrev pub tests_left : ℕ → List Summand → ℕ
+tests_left n [] = 0
+tests_left n (s ∷ ss) = length (drop n s.tests.items) + tests_left n ss
+
+left_split : (n : ℕ) (xs ys : List Summand) → tests_left n (xs ++ ys) ≡ tests_left n xs + tests_left n ys
+left_split n [] ys = omega arith
+left_split n (x ∷ xs) ys = let w = left_split n xs ys in let e : tests_left n ((x ∷ xs) ++ ys) ≡ length (drop n x.tests.items) + tests_left n (xs ++ ys) = refl in omega (arith, w, e)
+
+pub left_take : (n i : ℕ) (xs ys : List Summand) → ys ≡ take i xs → tests_left n ys ≤ tests_left n xs
+left_take n i xs ys e = let s = left_split n (take i xs) (drop i xs) in let w = ap (tests_left n) (take-append-drop i xs) in let v = ap (tests_left n) e in omega (arith, s, w, v)
+
+pub left_drop : (n i : ℕ) (xs ys : List Summand) → ys ≡ drop i xs → tests_left n ys ≤ tests_left n xs
+left_drop n i xs ys e = let s = left_split n (take i xs) (drop i xs) in let w = ap (tests_left n) (take-append-drop i xs) in let v = ap (tests_left n) e in omega (arith, s, w, v)
+
+pub left_less : (n : ℕ) (l : Lit) (ss : List Summand) → HaveAt n (Some l) ss → 0 < length ss → tests_left (n + 1) ss < tests_left n ss
+left_less n l [] h p = absurd (omega (arith, p))
+left_less n l (s ∷ ss) h p = omega (arith, one s (h s (inl refl)), rest ss (λ x i. h x (inr i))) where
+  one : (x : Summand) → slice_get x.tests.items n ≡ Some l → length (drop (n + 1) x.tests.items) < length (drop n x.tests.items)
+  one x e = let w = ap length (one_more x.tests.items n l e) in omega (arith, w)
+
+  rest : (xs : List Summand) → HaveAt n (Some l) xs → tests_left (n + 1) xs ≤ tests_left n xs
+  rest [] g = omega arith
+  rest (x ∷ xs) g = let a = one x (g x (inl refl)) in let b = rest xs (λ y i. g y (inr i)) in omega (arith, a, b)
 
 -- a run is closed
 
-pub some_there : (xs : List ℕ) → false ≡ (length xs == 0) → 1 ≤ length xs
-some_there xs h = elim (eqb_tells (length xs) 0) [
-  | inl y ↦ absurd (false≢true (h ∙ y.0))
-  | inr n ↦ let e = n.1 in omega (arith, e)
-]
+module _ (k0 : Kept) (n whole : ℕ) (l : Lit) (run : List Summand) (some : 0 < length run) (at : HaveAt n (Some l) run) (gw : Gives k0 whole IsNormal) (small : AreSmall (tree_at k0 whole ∷ map (left_of n k0) run)) where
+  led_small : AreSmall (tree_at k0 whole ∷ if_holds l (map (left_of (n + 1) k0) run))
+  led_small = subst (λ (ts : List Tree). AreSmall (tree_at k0 whole ∷ ts)) (led_left k0 n l run at) small
 
-module _ (k0 k1 : Kept) (r : Run) (items : List ℕ) (below : ℕ) (e : items ≡ r.below.items) (run : IsRun k0 r) (small : AreSmall (run_of k0 r)) (n : 1 ≤ length items) (g : Grows k0 k1) (gb : Gives k1 below (UnionOfAll (map (tree_at k0) items))) where
-  below_sum : UnionOfAll (map (tree_at k0) r.below.items) (tree_at k1 below)
-  below_sum = subst (λ (xs : List ℕ). UnionOfAll (map (tree_at k0) xs) (tree_at k1 below)) e gb.is
+  pub inner_small : AreSmall (map (left_of (n + 1) k0) run)
+  inner_small = small_behind l (tree_at k0 whole) (map (left_of (n + 1) k0) run) led_small
 
-  some : 1 ≤ length (map (tree_at k0) r.below.items)
-  some = let l : length items ≡ length r.below.items = ap length e in omega (arith, n, l, length-map r.below.items (tree_at k0))
+  module _ (k1 : Kept) (sum : ℕ) (g : Grows k0 k1) (gs : Gives k1 sum (UnionOfAll (map (left_of (n + 1) k0) run))) where
+    some_left : 1 ≤ length (map (left_of (n + 1) k0) run)
+    some_left = omega (arith, some, length-map run (left_of (n + 1) k0))
 
-  same_whole : tree_at k1 r.whole ≡ tree_at k0 r.whole
-  same_whole = tree_grown k0 k1 r.whole g run.whole.has
+    same_whole : tree_at k1 whole ≡ tree_at k0 whole
+    same_whole = tree_grown k0 k1 whole g gw.has
 
-  pub closed_few : IsFew (Node r.test (tree_at k1 below) (tree_at k1 r.whole))
-  closed_few = subst (λ (t : Tree). IsFew (Node r.test (tree_at k1 below) t)) (sym same_whole) (few_join r.test (tree_at k0 r.whole) (tree_at k1 below) (map (tree_at k0) r.below.items) some small below_sum)
+    pub closed_few : IsFew (Node l (tree_at k1 sum) (tree_at k1 whole))
+    closed_few = subst (λ (t : Tree). IsFew (Node l (tree_at k1 sum) t)) (sym same_whole) (few_join l (tree_at k0 whole) (tree_at k1 sum) (map (left_of (n + 1) k0) run) some_left led_small gs.is)
 
-  pub closed_sum : (x : Tree) → JoinOf r.test (tree_at k1 below) (tree_at k1 r.whole) x → UnionOfAll (run_of k0 r) x
-  closed_sum x h =
-      joined r.test (tree_at k0 r.whole) (tree_at k1 below) x (map (tree_at k0) r.below.items) some below_sum
-      (subst (λ (t : Tree). JoinOf r.test (tree_at k1 below) t x) same_whole h)
+    pub closed_sum : (x : Tree) → JoinOf l (tree_at k1 sum) (tree_at k1 whole) x → UnionOfAll (tree_at k0 whole ∷ map (left_of n k0) run) x
+    closed_sum x h =
+        subst (λ (ts : List Tree). UnionOfAll (tree_at k0 whole ∷ ts) x) (sym (led_left k0 n l run at))
+        (joined l (tree_at k0 whole) (tree_at k1 sum) x (map (left_of (n + 1) k0) run) some_left gs.is
+        (subst (λ (t : Tree). JoinOf l (tree_at k1 sum) t x) same_whole h))
 
--- a lead is taken
+-- summands with no more tests are put beside the rest
 
-behind_put : (k : Kept) (l : Lit) (old new : List ℕ) (b : Lead) → new ≡ old ++ b.below ∷ [] → b.test ≡ l → behind l (map (tree_at k) new) ≡ behind l (map (tree_at k) old) ++ led k b ∷ []
-behind_put k l old new b e s = ap (λ (xs : List ℕ). behind l (map (tree_at k) xs)) e ∙ more old where
-  more : (xs : List ℕ) → behind l (map (tree_at k) (xs ++ b.below ∷ [])) ≡ behind l (map (tree_at k) xs) ++ led k b ∷ []
-  more [] = ap (λ (m : Lit). Node m (tree_at k b.below) (Leaf []) ∷ []) (sym s)
-  more (i ∷ xs) = ap (λ (ts : List Tree). Node l (tree_at k i) (Leaf []) ∷ ts) (more xs)
+module _ (k0 : Kept) (n whole : ℕ) (run : List Summand) (at : HaveNoneAt n run) (gw : Gives k0 whole IsNormal) (small : AreSmall (tree_at k0 whole ∷ map (left_of n k0) run)) where
+  bare_all : AreSmall (tree_at k0 whole ∷ map (below_of k0) run)
+  bare_all = subst (λ (ts : List Tree). AreSmall (tree_at k0 whole ∷ ts)) (bare_left k0 n run at) small
 
-pub taken_beside : (k : Kept) (l : Lit) (whole : ℕ) (old new : List ℕ) (b : Lead) → new ≡ old ++ b.below ∷ [] → b.test ≡ l → AreAlike (tree_at k whole ∷ behind l (map (tree_at k) new)) ((tree_at k whole ∷ behind l (map (tree_at k) old)) ++ led k b ∷ [])
-taken_beside k l whole old new b e s = alike_as _ _ (ap (λ (ts : List Tree). tree_at k whole ∷ ts) (behind_put k l old new b e s))
+  pub beside_small : AreSmall (map (below_of k0) run)
+  beside_small = small_right (tree_at k0 whole ∷ []) (map (below_of k0) run) bare_all
 
-pub taken_first : (k0 k1 : Kept) (whole : ℕ) (us : List Tree) (old new : List ℕ) (b : Lead) → Grows k0 k1 → Has k0 b.below → old ≡ [] → new ≡ old ++ b.below ∷ [] → UnionOfAll us (tree_at k1 whole) → AreAlike (tree_at k1 whole ∷ behind b.test (map (tree_at k1) new)) (us ++ led k0 b ∷ [])
-taken_first k0 k1 whole us old new b g h n e u =
-    let m : new ≡ b.below ∷ [] = e ∙ ap (λ (xs : List ℕ). xs ++ b.below ∷ []) n in
-    alike_trans _ _ _ (alike_as _ _ (ap (λ (xs : List ℕ). tree_at k1 whole ∷ behind b.test (map (tree_at k1) xs)) m))
-    (alike_both (tree_at k1 whole ∷ []) us (led k1 b ∷ []) (led k0 b ∷ []) (alike_of us _ u) (alike_as _ _ (ap (λ (t : Tree). t ∷ []) (led_kept k0 k1 b g h))))
+  module _ (k1 : Kept) (sum : ℕ) (g : Grows k0 k1) (gs : Gives k1 sum (UnionOfAll (map (below_of k0) run))) where
+    pub beside_has : Has k1 whole
+    beside_has = has_grown k0 k1 whole g gw.has
 
--- leads are taken one by one
+    beside_alike : AreAlike (tree_at k1 whole ∷ tree_at k1 sum ∷ []) (tree_at k0 whole ∷ map (left_of n k0) run)
+    beside_alike =
+        alike_both (tree_at k1 whole ∷ []) (tree_at k0 whole ∷ []) (tree_at k1 sum ∷ []) (map (left_of n k0) run)
+        (alike_as _ _ (ap (λ (t : Tree). t ∷ []) (tree_grown k0 k1 whole g gw.has)))
+        (alike_trans _ _ _ (alike_of _ _ gs.is) (alike_as _ _ (sym (bare_left k0 n run at))))
 
-module _ (k0 k1 : Kept) (rest : ℕ) (leads : List Lead) (i : ℕ) (b : Lead) (l : i < length leads) (e : b ≡ get_or leads i b) (held : AreLed k0 leads) (g : Grows k0 k1) where
-  there : Has k0 b.below
-  there = held b (item_in leads i b l e)
+    pub beside_few : AreFew (tree_at k1 whole) (tree_at k1 sum)
+    beside_few = few_two _ _ (small_alike _ _ beside_alike small)
 
-  pub lead_has : Has k1 b.below
-  lead_has = has_grown k0 k1 b.below g there
+    pub beside_sum : (x : Tree) → UnionOf (tree_at k1 whole) (tree_at k1 sum) x → UnionOfAll (tree_at k0 whole ∷ map (left_of n k0) run) x
+    beside_sum x h = union_alike _ _ x beside_alike (union_two _ _ x h)
 
-  pub swept_more : (ts us : List Tree) → AreAlike us (ts ++ led k1 b ∷ []) → AreAlike ts (tree_at k0 rest ∷ map (led k0) (take i leads)) → AreAlike us (tree_at k0 rest ∷ map (led k0) (take (i + 1) leads))
-  swept_more ts us h k =
-      alike_more ts _ us _ (led k1 b) h k
-      (ap (λ (ws : List Tree). tree_at k0 rest ∷ ws) (map_more (led k0) leads i b l e ∙ ap (λ (t : Tree). map (led k0) (take i leads) ++ t ∷ []) (sym (led_kept k0 k1 b g there))))
+-- runs are taken one by one
 
--- parts are swept
+part_of : {X : Type 0} (i j : ℕ) (xs : List X) → i ≤ j → take i xs ++ take (j - i) (drop i xs) ≡ take j xs
+part_of {X} i j xs h = sym (take-add i (j - i) xs) ∙ ap (λ (m : ℕ). take m xs) (let e : i + (j - i) ≡ j = omega (arith, h) in e)
 
-module _ (k0 k1 : Kept) (parts os : List ℕ) (all : Parted) (held : AreHeld k0 parts) (small : AreSmall (map (tree_at k0) parts)) (g1 : Grows k0 k1) (ip : IsParted k1 all) (al : AreAlike (parts_of k1 all) (map (tree_at k1) parts)) (eo : os ≡ all.others.items) where
-  all_alike : AreAlike (map (tree_at k1) os ++ map (led k1) all.leads.items) (map (tree_at k0) parts)
-  all_alike =
-      alike_trans _ _ _ (alike_as _ _ (ap (λ (xs : List ℕ). map (tree_at k1) xs ++ map (led k1) all.leads.items) eo))
-      (alike_trans _ _ _ al (alike_as _ _ (trees_kept k0 k1 parts g1 held)))
+module _ (k0 k1 : Kept) (n rest whole start end : ℕ) (all run : List Summand) (there : AreThere k0 all) (small : AreSmall (tree_at k0 rest ∷ map (left_of n k0) all)) (g : Grows k0 k1) (gw : Gives k1 whole (UnionOfAll (tree_at k0 rest ∷ map (left_of n k0) (take start all)))) (l : start ≤ end) (er : run ≡ take (end - start) (drop start all)) where
+  so_far : take start all ++ run ≡ take end all
+  so_far = ap (λ (xs : List Summand). take start all ++ xs) er ∙ part_of start end all l
 
-  pub others_small : AreSmall (map (tree_at k1) os)
-  others_small = small_left (map (tree_at k1) os) (map (led k1) all.leads.items) (small_alike _ _ all_alike small)
+  run_there0 : AreThere k0 run
+  run_there0 = λ s i. there s (subst (λ (xs : List Summand). IsIn xs s) (take-append-drop end all) (in-left (take end all) (drop end all) s (subst (λ (xs : List Summand). IsIn xs s) so_far (in-right (take start all) run s i))))
 
-  module _ (k2 : Kept) (rest : ℕ) (g2 : Grows k1 k2) (gr : Gives k2 rest (UnionOfAll (map (tree_at k1) os))) (sorted ls : List Lead) (p : IsPermutation all.leads.items sorted) (el : ls ≡ sorted) where
-    leads_there : AreLed k1 sorted
-    leads_there = led_sorted k1 all.leads.items sorted p ip.led
+  pub run_there : AreThere k1 run
+  run_there = there_grown k0 k1 run g run_there0
 
-    pub leads_led : AreLed k2 ls
-    leads_led = subst (AreLed k2) (sym el) (led_grown k1 k2 sorted g2 leads_there)
+  run_alike : AreAlike (tree_at k1 whole ∷ map (left_of n k1) run) (tree_at k0 rest ∷ map (left_of n k0) (take end all))
+  run_alike =
+      alike_trans _ _ _ (alike_both (tree_at k1 whole ∷ []) (tree_at k0 rest ∷ map (left_of n k0) (take start all)) (map (left_of n k1) run) (map (left_of n k0) run)
+      (alike_of _ _ gw.is) (alike_as _ _ (lefts_kept n k0 k1 run g run_there0)))
+      (alike_as _ _ (ap (λ (ts : List Tree). tree_at k0 rest ∷ ts) (sym (map-append (left_of n k0) (take start all) run) ∙ ap (map (left_of n k0)) so_far)))
 
-    leads_alike : AreAlike (map (led k2) ls) (map (led k1) all.leads.items)
-    leads_alike =
-        alike_trans _ _ _ (alike_as _ _ (ap (map (led k2)) el ∙ leads_kept k1 k2 sorted g2 leads_there)) (leads_sorted k1 all.leads.items sorted p)
+  end_small : AreSmall (tree_at k0 rest ∷ map (left_of n k0) (take end all))
+  end_small =
+      small_left (tree_at k0 rest ∷ map (left_of n k0) (take end all)) (map (left_of n k0) (drop end all))
+      (subst (λ (ts : List Tree). AreSmall (tree_at k0 rest ∷ ts)) (sym (sym (map-append (left_of n k0) (take end all) (drop end all)) ∙ ap (map (left_of n k0)) (take-append-drop end all))) small)
 
-    swept_alike : AreAlike (tree_at k2 rest ∷ map (led k2) ls) (map (tree_at k0) parts)
-    swept_alike = alike_trans _ _ _ (alike_both (tree_at k2 rest ∷ []) _ _ _ (alike_of _ _ gr.is) leads_alike) all_alike
+  pub run_small : AreSmall (tree_at k1 whole ∷ map (left_of n k1) run)
+  run_small = small_alike _ _ run_alike end_small
 
-    pub rest_normal : Gives k2 rest IsNormal
-    rest_normal = record { has = gr.has; made = gr.made; is = gr.is.normal }
+  pub run_normal : Gives k1 whole IsNormal
+  run_normal = record { has = gw.has; made = gw.made; is = gw.is.normal }
 
-    pub leads_small : AreSmall (tree_at k2 rest ∷ map (led k2) ls)
-    leads_small = small_alike _ _ swept_alike small
+  pub run_sum : (x : Tree) → UnionOfAll (tree_at k1 whole ∷ map (left_of n k1) run) x → UnionOfAll (tree_at k0 rest ∷ map (left_of n k0) (take end all)) x
+  run_sum x h = union_alike _ _ x run_alike h
 
-    pub swept_sum : (x : Tree) → UnionOfAll (tree_at k2 rest ∷ map (led k2) ls) x → UnionOfAll (map (tree_at k0) parts) x
-    swept_sum x h = union_alike _ _ x swept_alike h
+  pub run_within : tests_left n run ≤ tests_left n all
+  run_within =
+      let s = left_split n (take start all) run in
+      let e = ap (tests_left n) so_far in
+      let w = left_take n end all (take end all) refl in
+      omega (arith, s, e, w)
 
-    -- the later leads alone, and the earlier ones joined to the rest
-    module _ (zero : ℕ) (gz : Gives k1 zero ZeroOf) (n : ℕ) (late early : List Lead) (ea : late ≡ take n ls) (eb : early ≡ drop n ls) where
-      zero_there : Gives k2 zero ZeroOf
-      zero_there = gives_grown k1 k2 zero ZeroOf g2 gz
+pub swept_all : (k : Kept) (n : ℕ) (t x : Tree) (all : List Summand) (i : ℕ) → length all ≤ i → UnionOfAll (t ∷ map (left_of n k) (take i all)) x → UnionOfAll (t ∷ map (left_of n k) all) x
+swept_all k n t x all i e h =
+    subst (λ (ss : List Summand). UnionOfAll (t ∷ map (left_of n k) ss) x) (take_past i all e) h
+
+append_none : (xs ys : List Summand) → (length ys == 0) ≡ true → xs ++ ys ≡ xs
+append_none xs [] e = append-nil xs
+append_none xs (y ∷ ys) e = absurd (let w : suc (length ys) ≡ 0 = eqb-true _ _ e in omega (arith, w))
+
+-- summands with no more tests, and those that come before them or after them
+
+module _ (k0 : Kept) (n i : ℕ) (all bare led : List Summand) (there : AreThere k0 all) (small : AreSmall (map (left_of n k0) all)) (none : HaveNoneAt n (take i all)) (ew : bare ≡ take i all) (el : led ≡ drop i all) where
+  parts : bare ++ led ≡ all
+  parts = (λ x. ew x ++ el x) ∙ take-append-drop i all
+
+  pub bare_there : AreThere k0 bare
+  bare_there = λ s m. there s (subst (λ (xs : List Summand). IsIn xs s) parts (in-left bare led s m))
+
+  led_there0 : AreThere k0 led
+  led_there0 = λ s m. there s (subst (λ (xs : List Summand). IsIn xs s) parts (in-right bare led s m))
+
+  bare_none : map (left_of n k0) bare ≡ map (below_of k0) bare
+  bare_none = bare_left k0 n bare (subst (HaveNoneAt n) (sym ew) none)
+
+  both_parts : map (left_of n k0) bare ++ map (left_of n k0) led ≡ map (left_of n k0) all
+  both_parts = sym (map-append (left_of n k0) bare led) ∙ ap (map (left_of n k0)) parts
+
+  parts_small : AreSmall (map (left_of n k0) bare ++ map (left_of n k0) led)
+  parts_small = subst AreSmall (sym both_parts) small
+
+  pub bare_small : AreSmall (map (below_of k0) bare)
+  bare_small = subst AreSmall bare_none (small_left (map (left_of n k0) bare) (map (left_of n k0) led) parts_small)
+
+  module _ (k1 : Kept) (rest : ℕ) (g1 : Grows k0 k1) (gr : Gives k1 rest (UnionOfAll (map (below_of k0) bare))) where
+    rest_alike : AreAlike (tree_at k1 rest ∷ []) (map (left_of n k0) bare)
+    rest_alike = alike_trans _ _ _ (alike_of _ _ gr.is) (alike_as _ _ (sym bare_none))
+
+    pub rest_alone : (length led == 0) ≡ true → (x : Tree) → UnionOfAll (map (below_of k0) bare) x → UnionOfAll (map (left_of n k0) all) x
+    rest_alone e x h = subst (λ (ts : List Tree). UnionOfAll ts x) (sym bare_none ∙ ap (map (left_of n k0)) (sym (append_none bare led e) ∙ parts)) h
+
+    module _ (k2 : Kept) (zero j : ℕ) (late early : List Summand) (g2 : Grows k1 k2) (gz : Gives k2 zero ZeroOf) (ea : late ≡ take j led) (eb : early ≡ drop j led) where
+      g02 : Grows k0 k2
+      g02 = grows_on k0 k1 k2 g1 g2
+
+      led_parts : late ++ early ≡ led
+      led_parts = (λ x. ea x ++ eb x) ∙ take-append-drop j led
+
+      late_there0 : AreThere k0 late
+      late_there0 = λ s m. led_there0 s (subst (λ (xs : List Summand). IsIn xs s) led_parts (in-left late early s m))
+
+      early_there0 : AreThere k0 early
+      early_there0 = λ s m. led_there0 s (subst (λ (xs : List Summand). IsIn xs s) led_parts (in-right late early s m))
+
+      pub late_there : AreThere k2 late
+      late_there = there_grown k0 k2 late g02 late_there0
 
       pub zero_normal : Gives k2 zero IsNormal
-      zero_normal = record { has = zero_there.has; made = zero_there.made; is = zero_there.is.normal }
+      zero_normal = record { has = gz.has; made = gz.made; is = gz.is.normal }
 
-      both_parts : late ++ early ≡ ls
-      both_parts = (λ x. ea x ++ eb x) ∙ take-append-drop n ls
+      late_alike : AreAlike (tree_at k2 zero ∷ map (left_of n k2) late) (map (left_of n k0) late)
+      late_alike = alike_trans _ _ _ (nothing_alike (tree_at k2 zero) (map (left_of n k2) late) gz.is) (alike_as _ _ (lefts_kept n k0 k2 late g02 late_there0))
 
-      both_led : map (led k2) late ++ map (led k2) early ≡ map (led k2) ls
-      both_led = sym (map-append (led k2) late early) ∙ ap (map (led k2)) both_parts
+      led_both : map (left_of n k0) late ++ map (left_of n k0) early ≡ map (left_of n k0) led
+      led_both = sym (map-append (left_of n k0) late early) ∙ ap (map (left_of n k0)) led_parts
 
-      pub late_led : AreLed k2 late
-      late_led = λ b i. leads_led b (subst (λ (bs : List Lead). IsIn bs b) both_parts (in-left late early b i))
+      led_small0 : AreSmall (map (left_of n k0) late ++ map (left_of n k0) early)
+      led_small0 = subst AreSmall (sym led_both) (small_right (map (left_of n k0) bare) (map (left_of n k0) led) parts_small)
 
-      early_there : AreLed k2 early
-      early_there = λ b i. leads_led b (subst (λ (bs : List Lead). IsIn bs b) both_parts (in-right late early b i))
+      pub late_small : AreSmall (tree_at k2 zero ∷ map (left_of n k2) late)
+      late_small = small_alike _ _ late_alike (small_left (map (left_of n k0) late) (map (left_of n k0) early) led_small0)
 
-      zero_alike : AreAlike (tree_at k2 zero ∷ map (led k2) late) (map (led k2) late)
-      zero_alike = nothing_alike (tree_at k2 zero) (map (led k2) late) zero_there.is
+      pub late_within : tests_left n late ≤ tests_left n all
+      late_within = let a = left_take n j led late ea in let b = left_drop n i all led el in omega (arith, a, b)
 
-      all_small : AreSmall (map (led k2) late ++ map (led k2) early)
-      all_small = subst AreSmall (sym both_led) (small_right (tree_at k2 rest ∷ []) (map (led k2) ls) leads_small)
+      pub early_within : tests_left n early ≤ tests_left n all
+      early_within = let a = left_drop n j led early eb in let b = left_drop n i all led el in omega (arith, a, b)
 
-      pub late_small : AreSmall (tree_at k2 zero ∷ map (led k2) late)
-      late_small = small_alike _ _ zero_alike (small_left (map (led k2) late) (map (led k2) early) all_small)
+      -- the rest and the late summands, and then the early ones, are all
+      order_alike : AreAlike ((map (left_of n k0) bare ++ map (left_of n k0) late) ++ map (left_of n k0) early) (map (left_of n k0) all)
+      order_alike = alike_as _ _ (append_assoc (map (left_of n k0) bare) (map (left_of n k0) late) (map (left_of n k0) early) ∙ ap (λ (ts : List Tree). map (left_of n k0) bare ++ ts) led_both ∙ both_parts)
 
-      module _ (k3 : Kept) (sum : ℕ) (g3 : Grows k2 k3) (gs : Gives k3 sum (UnionOfAll (tree_at k2 zero ∷ map (led k2) late))) where
+      module _ (k3 : Kept) (sum : ℕ) (g3 : Grows k2 k3) (gs : Gives k3 sum (UnionOfAll (tree_at k2 zero ∷ map (left_of n k2) late))) where
+        g13 : Grows k1 k3
+        g13 = grows_on k1 k2 k3 g2 g3
+
         pub rest_has : Has k3 rest
-        rest_has = has_grown k2 k3 rest g3 gr.has
+        rest_has = has_grown k1 k3 rest g13 gr.has
 
-        base_alike : AreAlike (tree_at k3 sum ∷ tree_at k3 rest ∷ []) (tree_at k2 rest ∷ map (led k2) late)
+        base_alike : AreAlike (tree_at k3 sum ∷ tree_at k3 rest ∷ []) (map (left_of n k0) bare ++ map (left_of n k0) late)
         base_alike =
-            alike_trans _ _ _ (alike_both (tree_at k3 sum ∷ []) (map (led k2) late) (tree_at k3 rest ∷ []) (tree_at k2 rest ∷ [])
-            (alike_trans _ _ _ (alike_of _ _ gs.is) zero_alike)
-            (alike_as _ _ (ap (λ (t : Tree). t ∷ []) (tree_grown k2 k3 rest g3 gr.has))))
-            (alike_swap (map (led k2) late) (tree_at k2 rest ∷ []))
-
-        whole_alike : AreAlike ((tree_at k2 rest ∷ map (led k2) late) ++ map (led k2) early) (map (tree_at k0) parts)
-        whole_alike = alike_trans _ _ _ (alike_as _ _ (ap (λ (ts : List Tree). tree_at k2 rest ∷ ts) both_led)) swept_alike
+            alike_trans _ _ _ (alike_both (tree_at k3 sum ∷ []) (map (left_of n k0) late) (tree_at k3 rest ∷ []) (map (left_of n k0) bare)
+            (alike_trans _ _ _ (alike_of _ _ gs.is) late_alike)
+            (alike_trans _ _ _ (alike_as _ _ (ap (λ (t : Tree). t ∷ []) (tree_grown k1 k3 rest g13 gr.has))) rest_alike))
+            (alike_swap (map (left_of n k0) late) (map (left_of n k0) bare))
 
         pub base_few : AreFew (tree_at k3 sum) (tree_at k3 rest)
         base_few =
             few_two (tree_at k3 sum) (tree_at k3 rest)
-            (small_alike _ _ base_alike (small_left (tree_at k2 rest ∷ map (led k2) late) (map (led k2) early) (small_alike _ _ whole_alike small)))
+            (small_alike _ _ base_alike (small_left (map (left_of n k0) bare ++ map (left_of n k0) late) (map (left_of n k0) early) (small_alike _ _ order_alike small)))
 
         module _ (k4 : Kept) (base : ℕ) (g4 : Grows k3 k4) (gu : Gives k4 base (UnionOf (tree_at k3 sum) (tree_at k3 rest))) where
+          g04 : Grows k0 k4
+          g04 = grows_on k0 k1 k4 g1 (grows_on k1 k3 k4 g13 g4)
+
           pub base_normal : Gives k4 base IsNormal
           base_normal = record { has = gu.has; made = gu.made; is = gu.is.normal }
 
-          g24 : Grows k2 k4
-          g24 = grows_on k2 k3 k4 g3 g4
+          pub early_there : AreThere k4 early
+          early_there = there_grown k0 k4 early g04 early_there0
 
-          pub early_led : AreLed k4 early
-          early_led = led_grown k2 k4 early g24 early_there
-
-          end_alike : AreAlike (tree_at k4 base ∷ map (led k4) early) (map (tree_at k0) parts)
+          end_alike : AreAlike (tree_at k4 base ∷ map (left_of n k4) early) (map (left_of n k0) all)
           end_alike =
-              alike_trans _ _ _ (alike_both (tree_at k4 base ∷ []) (tree_at k2 rest ∷ map (led k2) late) (map (led k4) early) (map (led k2) early)
+              alike_trans _ _ _ (alike_both (tree_at k4 base ∷ []) (map (left_of n k0) bare ++ map (left_of n k0) late) (map (left_of n k4) early) (map (left_of n k0) early)
               (alike_trans _ _ _ (alike_of _ _ (union_two _ _ _ gu.is)) base_alike)
-              (alike_as _ _ (leads_kept k2 k4 early g24 early_there)))
-              whole_alike
+              (alike_as _ _ (lefts_kept n k0 k4 early g04 early_there0)))
+              order_alike
 
-          pub early_small : AreSmall (tree_at k4 base ∷ map (led k4) early)
+          pub early_small : AreSmall (tree_at k4 base ∷ map (left_of n k4) early)
           early_small = small_alike _ _ end_alike small
 
-          pub end_sum : (x : Tree) → UnionOfAll (tree_at k4 base ∷ map (led k4) early) x → UnionOfAll (map (tree_at k0) parts) x
+          pub end_sum : (x : Tree) → UnionOfAll (tree_at k4 base ∷ map (left_of n k4) early) x → UnionOfAll (map (left_of n k0) all) x
           end_sum x h = union_alike _ _ x end_alike h
 
-pub swept_all : (k : Kept) (t x : Tree) (leads : List Lead) (i : ℕ) → i ≡ length leads → UnionOfAll (t ∷ map (led k) (take i leads)) x → UnionOfAll (t ∷ map (led k) leads) x
-swept_all k t x leads i e h =
-    subst (λ (bs : List Lead). UnionOfAll (t ∷ map (led k) bs) x) (ap (λ (j : ℕ). take j leads) e ∙ take-length leads) h
+pub run_some : (start end : ℕ) (ss : List Summand) → start < end → end ≤ length ss → 0 < length (take (end - start) (drop start ss))
+run_some start end ss l h =
+    let n = length-take-le (end - start) (drop start ss) (omega (arith, l, h, length-drop start ss)) in
+    omega (arith, l, n)
+
+pub one_summand : (k : Kept) (ss : List Summand) (x : Summand) → length ss ≡ 1 → x ≡ get_or ss 0 x → map (below_of k) ss ≡ below_of k x ∷ []
+one_summand k [] x h e = absurd (omega (arith, h))
+one_summand k (s ∷ []) x h e = let f : x ≡ s = e in ap (λ (y : Summand). below_of k y ∷ []) (sym f)
+one_summand k (s ∷ t ∷ ss) x h e = absurd (omega (arith, h))

@@ -1,15 +1,14 @@
--- Sums of diagrams, swept test by test.
-use Rattle.std.specs.Prelude.{◌↔◌, List, [], ◌∷◌, ◌++◌, map}
+-- Sums of diagrams behind tests, made test by test.
+use Rattle.std.specs.Prelude.{◌≡◌, ℕ, ◌+◌, ◌<◌, ◌⊎◌, ◌↔◌, List, [], ◌∷◌, ◌++◌, Option, None, drop, slice_get}
 use Rattle.nk_values.specs.declared.packet.Packet.{Packet}
 use Rattle.nk_values.specs.declared.lit.Lit.{Lit}
+use Rattle.nk_values.specs.Lits.{lit_field, lit_value}
 use Rattle.nk_values.specs.Members.{IsIn}
-use Rattle.fdd_nodes.specs.Normals.{IsNormal}
+use Rattle.nk_syntax.specs.Terms.{Guard, Term, Filter, Test}
 use Rattle.fdd_nodes.specs.Trees.{Tree, Leaf, Node}
-use Rattle.fdd_store.specs.Stores.{Kept, Has, Gives, tree_at}
-use Rattle.fdd_compile.specs.declared.leads.Lead.{Lead}
-use Rattle.fdd_compile.specs.declared.leads.Parted.{Parted}
-use Rattle.fdd_compile.specs.declared.sums.Run.{Run}
-use Rattle.fdd_compile.specs.Folds.{SomeTests, SomeAssigns, SomeAnswers, AreHeld}
+use Rattle.fdd_store.specs.Stores.{Kept, Has, tree_at}
+use Rattle.fdd_compile.specs.declared.summand.Summand.{Summand}
+use Rattle.fdd_compile.specs.Folds.{SomeTests, SomeAssigns, SomeAnswers}
 
 -- together the first diagrams answer what the second ones answer, and name nothing else
 pub record AreAlike (ts us : List Tree) : Type 0 where
@@ -17,30 +16,55 @@ pub record AreAlike (ts us : List Tree) : Type 0 where
   pub tests : (m : Lit) → SomeTests ts m → SomeTests us m
   pub assigns : (m : Lit) → SomeAssigns ts m → SomeAssigns us m
 
--- each of the diagrams where the literal holds, and else nothing
-abbrev pub behind : Lit → List Tree → List Tree
-behind l [] = []
-behind l (t ∷ ts) = Node l t (Leaf []) ∷ behind l ts
+-- each of the diagrams if the literal holds, and else nothing
+abbrev pub if_holds : Lit → List Tree → List Tree
+if_holds l [] = []
+if_holds l (t ∷ ts) = Node l t (Leaf []) ∷ if_holds l ts
 
--- what a lead stands for: a diagram where its literal holds, and else nothing
-abbrev pub led : Kept → Lead → Tree
-led k b = Node b.test (tree_at k b.below) (Leaf [])
+-- the diagram if all of the literals hold, and else nothing
+abbrev pub if_all : List Lit → Tree → Tree
+if_all [] t = t
+if_all (l ∷ ls) t = Node l (if_all ls t) (Leaf [])
 
-abbrev pub AreLed : Kept → List Lead → Type 0
-AreLed k bs = (b : Lead) → IsIn bs b → Has k b.below
+-- the predicates and the policies that test these literals
+abbrev pub guards_of_tests : List Lit → List Guard
+guards_of_tests [] = []
+guards_of_tests (l ∷ ls) = Test (lit_field l) (lit_value l) ∷ guards_of_tests ls
 
--- the diagrams that do not begin so, and the leads
-abbrev pub parts_of : Kept → Parted → List Tree
-parts_of k p = map (tree_at k) p.others.items ++ map (led k) p.leads.items
+abbrev pub tests_of : List Lit → List Term
+tests_of [] = []
+tests_of (l ∷ ls) = Filter (Test (lit_field l) (lit_value l)) ∷ tests_of ls
 
-pub record IsParted (k : Kept) (p : Parted) : Type 0 where
-  pub led : AreLed k p.leads.items
-  pub others : AreHeld k p.others.items
+-- a summand's diagram, and what a summand stands for without its first n tests
+abbrev pub below_of : Kept → Summand → Tree
+below_of k s = tree_at k s.below
 
--- the sum so far, and what is still to be put behind the test
-abbrev pub run_of : Kept → Run → List Tree
-run_of k r = tree_at k r.whole ∷ behind r.test (map (tree_at k) r.below.items)
+abbrev pub left_of : ℕ → Kept → Summand → Tree
+left_of n k s = if_all (drop n s.tests.items) (tree_at k s.below)
 
-pub record IsRun (k : Kept) (r : Run) : Type 0 where
-  pub below : AreHeld k r.below.items
-  pub whole : Gives k r.whole IsNormal
+-- the store has the diagrams of the summands
+abbrev pub AreThere : Kept → List Summand → Type 0
+AreThere k ss = (s : Summand) → IsIn ss s → Has k s.below
+
+-- each of the summands has this test at the place n, or none
+abbrev pub HaveAt : ℕ → Option Lit → List Summand → Type 0
+HaveAt n o ss = (s : Summand) → IsIn ss s → slice_get s.tests.items n ≡ o
+
+abbrev pub HaveNoneAt : ℕ → List Summand → Type 0
+HaveNoneAt n ss = HaveAt n None ss
+
+-- a diagram has fewer tests one below the other
+abbrev pub height : Tree → ℕ
+height (Leaf cs) = 0
+height (Node l t e) = height t + height e + 1
+
+abbrev pub IsLower : Tree → Tree → Type 0
+IsLower t u = height t < height u
+
+-- one of the summands has the same tests and the same diagram
+abbrev pub IsAgain : List Summand → Summand → Type 0
+IsAgain ss s = (o : Summand) × IsIn ss o × (o.tests.items ≡ s.tests.items) × (o.below ≡ s.below)
+
+-- a summand is put after others, or it is among them
+pub record HasPut (old : List Summand) (s : Summand) (new : List Summand) : Type 0 where
+  pub put : (new ≡ old ++ s ∷ []) ⊎ ((new ≡ old) × IsAgain old s)

@@ -1,6 +1,7 @@
 //! Policies compiled to diagrams (ICFP 2015, section 3), and which policies have none that a switch can follow.
 #![tactic(auto)]
 
+mod bare;
 mod build;
 mod compiled;
 mod compiler;
@@ -8,13 +9,14 @@ mod fault;
 mod filters;
 mod flat;
 mod folds;
+mod fronts;
 mod guarded;
-mod leads;
 mod leftmost;
 mod literal;
 mod meanings;
 mod named;
 mod plain;
+mod summand;
 mod sums;
 
 pub use compiled::Compiled;

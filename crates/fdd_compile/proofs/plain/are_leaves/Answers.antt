@@ -1,4 +1,5 @@
-use Rattle.fdd_compile.proofs.SumLaws.{item_in, leaves_more}
+use Rattle.fdd_compile.proofs.SummandLaws.{item_in}
+use Rattle.fdd_compile.proofs.SumLaws.{leaves_more}
 use Rattle.fdd_compile.proofs.plain.are_leaves.Goals as goal
 
 pub look-requires : goal.look-requires

@@ -1,23 +1,24 @@
-use Rattle.std.proofs.Common.{◌∷◌, map, take, ◌+◌, ◌*◌}
-use Rattle.fdd_store.specs.Stores.{Grows, tree_at}
-use Rattle.fdd_compile.specs.Sums.{AreAlike, IsRun, led, run_of}
+use Rattle.std.proofs.Common.{◌∷◌, map, take, ◌+◌, ◌*◌, ◌-◌, length}
+use Rattle.fdd_store.specs.Stores.{Gives, Grows, tree_at}
+use Rattle.fdd_compile.specs.Folds.{UnionOfAll}
+use Rattle.fdd_compile.specs.Sums.{left_of}
+use Rattle.fdd_compile.proofs.SweepLaws.{tests_left}
 use Rattle.fdd_compile.proofs.sums.+swept.Given as goal
 
-abbrev pub decreases-swept : goal.decreases-swept
-decreases-swept l = 4 * l.depth
-
 abbrev pub decreases-closed : goal.decreases-closed
-decreases-closed l = 4 * l.depth + 1
-
-abbrev pub decreases-take : goal.decreases-take
-decreases-take l = 4 * l.depth + 2
+decreases-closed l = 3 * tests_left l.from l.run.now
 
 abbrev pub decreases-sweep : goal.decreases-sweep
-decreases-sweep l = 4 * l.depth + 3
+decreases-sweep l = 3 * tests_left l.from l.summands.now + 1
 
-abbrev pub invariant-sweep-loop-lead : goal.invariant-sweep-loop-lead
-invariant-sweep-loop-lead l = record {
-  run : IsRun l.store l.run;
+abbrev pub decreases-swept : goal.decreases-swept
+decreases-swept l = 3 * tests_left l.from l.summands.now + 2
+
+abbrev pub invariant-sweep-loop-start : goal.invariant-sweep-loop-start
+invariant-sweep-loop-start l = record {
   grows : Grows l.fn.store l.store;
-  alike : AreAlike (run_of l.store l.run) (tree_at l.fn.store l.fn.rest ∷ map (led l.fn.store) (take l.lead-index l.leads));
+  sum : Gives l.store l.whole (UnionOfAll (tree_at l.fn.store l.fn.rest ∷ map (left_of l.from l.fn.store) (take l.start l.summands)));
 }
+
+abbrev pub decreases-sweep-loop-start : goal.decreases-sweep-loop-start
+decreases-sweep-loop-start l = length l.summands - l.start
