@@ -1,5 +1,5 @@
 -- Numbers in decimal, as values are read.
-use Rattle.std.proofs.Common.{◌≡◌, ℕ, ◌+◌, ◌%◌, ◌^◌, ◌<◌, ◌≤◌, Bool, true, false, ◌&&◌, ◌==◌, nat_eq, nat_le, List, [], ◌∷◌, ◌++◌, length, codes, decimal, Some, refl, ap, ◌∙◌, arith}
+use Rattle.std.proofs.Common.{◌≡◌, ℕ, ◌+◌, ◌%◌, ◌^◌, ◌<◌, ◌≤◌, Bool, true, false, ◌&&◌, ◌==◌, nat_eq, nat_le, List, [], ◌∷◌, ◌++◌, length, codes, decimal, Option, None, Some, cond, refl, sym, ap, ◌∙◌, arith}
 use Rattle.std.specs.List.{list_all, prefix_len, starts_with}
 use Rattle.std.specs.Char.{is_ascii_digit, is_digit}
 use Rattle.std.specs.Str.Parse.{digits_value}
@@ -8,7 +8,7 @@ use Rattle.std.proofs.lemmas.Fmt.{decimal_by_steps, decimal_is_IsNumeral, length
 use Rattle.std.proofs.Math.Seq.{take-append_seam, drop-append_seam}
 use Rattle.nk_values.specs.declared.field.Field.{Field}
 use Rattle.netkat_parser.specs.Signs.{ahead, is_blank, is_run_byte, run, past_run}
-use Rattle.netkat_parser.specs.Numbers.{number, decimal_form}
+use Rattle.netkat_parser.specs.Numbers.{number, numeral, at_most, digits_form, decimal_form}
 
 within : (m n : ℕ) → m ≤ n → nat_le m n ≡ true
 within m n h = grind (arith, nat_tests)
@@ -68,6 +68,43 @@ number-decimal f n small =
     rw (no-prefix (decimal n) ds, all-digits (decimal n) ds)
     (numeral-fits (decimal n) ds (decimal_nonempty n small) (length-decimal-le 20 n (omega arith) (omega arith) small)
     ∙ ap (λ m. Some m) (decimal_is_IsNumeral n small).1)
+
+-- ---- a run of decimal digits
+
+digit-range : (c : ℕ) → is_digit c 10 ≡ true → (48 ≤ c) × (c ≤ 57)
+digit-range c e = (grind (arith, nat_tests), grind (arith, nat_tests))
+
+both : (p q : Bool) → (p && q) ≡ true → (p ≡ true) × (q ≡ true)
+both true true e = (refl, refl)
+both true false e = cc
+both false q e = cc
+
+are-digits : (ds : List ℕ) → list_all (λ d. is_digit d 10) ds ≡ true → AreDigits ds
+are-digits [] h = tt
+are-digits (c ∷ cs) h =
+    let k = both (is_digit c 10) (list_all (λ d. is_digit d 10) cs) h in
+    let r = digit-range c k.0 in
+    (r.0, r.1, are-digits cs k.1)
+
+some-if : (b : Bool) (n m : ℕ) → Some n ≡ cond b (Some m) None → Some m ≡ Some n
+some-if true n m e = sym e
+some-if false n m e = cc
+
+some-of : (high n : ℕ) (o : Option ℕ) → Some n ≡ at_most high o → o ≡ Some n
+some-of high n None e = cc
+some-of high n (Some m) e = some-if (nat_le m high) n m e
+
+where-some : (b : Bool) (o : Option ℕ) (n : ℕ) → cond b o None ≡ Some n → (b ≡ true) × (o ≡ Some n)
+where-some true o n e = (refl, e)
+where-some false o n e = cc
+
+-- a number of decimal digits is written so for each field
+pub number-read : (f : Field) (high : ℕ) (ds : List ℕ) (n : ℕ) → Some n ≡ at_most high (numeral 10 1 20 ds) → number f ds ≡ Some n
+number-read f high ds n e =
+    let form = some-of high n (numeral 10 1 20 ds) e in
+    let digits = (where-some _ (digits_form 10 ds) n form).1 in
+    let h = are-digits ds (where-some _ (Some (digits_value 10 ds)) n digits).0 in
+    rw (no-prefix ds h, all-digits ds h) form
 
 -- the byte behind a run ends it
 abbrev pub EndsRun : List ℕ → Type 0

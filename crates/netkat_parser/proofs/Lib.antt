@@ -6,6 +6,7 @@ pub mod Decimals
 pub mod Digits
 pub mod Goes
 pub mod Joined
+pub mod Lines
 pub mod Literals
 pub mod Moving
 pub mod Naming

@@ -1,5 +1,5 @@
 // Reading goes on over a text that may go on.
-ghost use Rattle.std.specs.Prelude.{◌≡◌, ◌≤◌, ◌++◌, ℕ, List, length, drop, IfSome, IfNone};
+ghost use Rattle.std.specs.Prelude.{◌≡◌, ◌≤◌, ◌++◌, ℕ, List, length, IfSome, IfNone};
 ghost use Rattle.netkat_parser.specs.declared.stage.Stage.TheVariants as stage;
 ghost use Rattle.netkat_parser.specs.Cuts.{EndsAt};
 ghost use Rattle.netkat_parser.specs.Views.{view_of, HasNoRun};
@@ -8,7 +8,7 @@ ghost use Rattle.netkat_parser.specs.Standing.{Steps, Advances};
 use crate::reading::{Halt, Reading};
 use crate::sign::Sign;
 use crate::stage::{Operator, Stage};
-use crate::token::{run_at, sign_at, skip};
+use crate::token::{behind, run_at, sign_at, skip};
 use nk_values::Field;
 use std::alloc::Global;
 
@@ -45,14 +45,6 @@ pub fn advance(
             Err(pause) => return (at, comment, pause),
         }
     }
-}
-
-// The text from a place on.
-fn behind(text: &[u8], at: usize) -> &[u8]
-    requires { at ≤ length text.now }
-    ensures { result.now ≡ drop at text.now }
-{
-    &text[at..]
 }
 
 // Takes one sign, or one value.

@@ -42,6 +42,10 @@ pub fn literal(field: Field, run: &[u8]) -> Option<Lit>
 pub fn number_of(field: Field, run: &[u8]) -> Option<u64>
     ensures { IsUpTo GREATEST (number field run.now) result }
 {
+    // Most numbers are decimal ones, and these are gone through once.
+    if let Some(n) = numeral(10, 1, 20, GREATEST, run) {
+        return Some(n);
+    }
     match behind_0x(run) {
         Some(digits) => numeral(16, 1, 16, GREATEST, digits),
         None if is_decimal(run) => numeral(10, 1, 20, GREATEST, run),

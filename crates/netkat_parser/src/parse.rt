@@ -3,12 +3,14 @@ ghost use Rattle.std.specs.Prelude.{◌≡◌, ◌⊎◌, ◌+◌, ◌-◌, ◌<
 ghost use Rattle.nk_syntax.specs.Terms.{Term};
 ghost use Rattle.nk_syntax.specs.Views.{term_of};
 ghost use Rattle.netkat_parser.specs.Grammar.{IsText};
-ghost use Rattle.netkat_parser.specs.Places.{next_place, place_behind, HasFault, text_start};
+ghost use Rattle.netkat_parser.specs.Places.{place_behind, HasFault, text_start};
 ghost use Rattle.netkat_parser.specs.declared.fault.ParseError.{ParseError as Error};
 ghost use Rattle.netkat_parser.specs.declared.fault.ParseFault.{ParseFault as Located};
 
 use crate::fault::{ParseError, Place};
 use crate::feeding::PolicyReader;
+use crate::token::behind;
+use memchr::memchr;
 use nk_syntax::Pol;
 use std::alloc::Global;
 
@@ -60,27 +62,16 @@ pub fn place_behind(begin: Place, front: &[u8]) -> Place
     ensures { result ≡ place_behind begin front.now }
 {
     let mut place = begin;
-    for byte in front {
-        place = next_place(place, *byte);
-    }
-    place
-}
-
-// The place of the byte after one.
-fn next_place(place: Place, byte: u8) -> Place
-    requires line { place.line + 1 < 2 ^ 64 }
-    requires column { place.column + 1 < 2 ^ 64 }
-    ensures { result ≡ next_place place byte }
-{
-    if byte == b'\n' {
-        Place {
+    let mut rest = front;
+    while let Some(at) = memchr(b'\n', rest) {
+        place = Place {
             line: place.line + 1,
             column: 1,
-        }
-    } else {
-        Place {
-            line: place.line,
-            column: place.column + 1,
-        }
+        };
+        rest = behind(rest, at + 1);
+    }
+    Place {
+        line: place.line,
+        column: place.column + rest.len() as u64,
     }
 }

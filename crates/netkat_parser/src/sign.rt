@@ -110,33 +110,21 @@ fn mark(byte: u8) -> Sign
 fn word(name: &[u8]) -> Sign
     ensures { result ≡ word name.now }
 {
-    if is_text(name, "skip") {
-        Sign::Skip
-    } else if is_text(name, "drop") {
-        Sign::Drop
-    } else if is_text(name, "dup") {
-        Sign::Dup
-    } else if is_text(name, "not") {
-        Sign::Not
-    } else {
-        match field_named(name) {
-            Some(field) => Sign::Name(field),
-            None => Sign::Unlisted,
-        }
+    match name {
+        b"skip" => Sign::Skip,
+        b"drop" => Sign::Drop,
+        b"dup" => Sign::Dup,
+        b"not" => Sign::Not,
+        b"sw" => Sign::Name(Field::Sw),
+        b"pt" => Sign::Name(Field::Pt),
+        b"ethTyp" => Sign::Name(Field::EthTyp),
+        b"ipProto" => Sign::Name(Field::IpProto),
+        b"ethSrc" => Sign::Name(Field::EthSrc),
+        b"ethDst" => Sign::Name(Field::EthDst),
+        b"ip4Src" => Sign::Name(Field::Ip4Src),
+        b"ip4Dst" => Sign::Name(Field::Ip4Dst),
+        b"tcpSrcPort" => Sign::Name(Field::TcpSrcPort),
+        b"tcpDstPort" => Sign::Name(Field::TcpDstPort),
+        _ => Sign::Unlisted,
     }
-}
-
-fn field_named(name: &[u8]) -> Option<Field>
-    ensures { result ≡ find (λ f. bytes_eq name.now (name_of f)) all_fields }
-{
-    Field::ALL
-        .iter()
-        .copied()
-        .find(|field| is_text(name, field.name()))
-}
-
-fn is_text(bytes: &[u8], text: &str) -> bool
-    ensures { result ≡ bytes_eq bytes.now text.now }
-{
-    bytes == text.as_bytes()
 }
