@@ -11,6 +11,7 @@ pub mod Literals
 pub mod Moving
 pub mod Naming
 pub mod Outcomes
+pub mod PairSteps
 pub mod PolLiterals
 pub mod ReadBack
 pub mod Rooms

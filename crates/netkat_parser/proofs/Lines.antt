@@ -1,8 +1,8 @@
 -- Places after lines and parts of one.
-use Rattle.std.proofs.Common.{◌≡◌, ℕ, zero, suc, ◌+◌, ◌<◌, ◌≤◌, ◌==◌, Bool, true, false, List, [], ◌∷◌, length, drop, slice_index, Option, None, Some, refl, sym, ap, ◌∙◌, add-one, length-drop, arith}
+use Rattle.std.proofs.Common.{◌≡◌, ℕ, zero, suc, ◌+◌, ◌<◌, ◌==◌, Bool, true, false, List, [], ◌∷◌, length, drop, slice_index, None, Some, refl, sym, ap, ◌∙◌, add-one, arith}
 use Rattle.memchr.specs.Find.{IsFirstByte, is_byte}
 use Rattle.netkat_parser.specs.declared.fault.Place.{Place}
-use Rattle.netkat_parser.specs.Places.{next_place, place_behind}
+use Rattle.netkat_parser.specs.Places.{place_behind}
 
 abbrev on : ℕ → ℕ → Place
 on line column = record { line = line; column = column }

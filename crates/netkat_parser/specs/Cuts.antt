@@ -1,8 +1,16 @@
 -- What stands at the front of a text that may go on.
-use Rattle.std.specs.Prelude.{◌≡◌, ◌≢◌, ◌≤◌, ◌<◌, ℕ, Bool, true, false, not, ◌==◌, ◌&&◌, List, [], ◌∷◌, ◌++◌, length, take, drop, if◌then◌else◌}
+use Rattle.std.specs.Prelude.{◌≡◌, ◌≢◌, ◌≤◌, ◌<◌, ℕ, Bool, true, false, not, ◌==◌, ◌&&◌, List, [], ◌∷◌, ◌++◌, length, take, drop, Some, if◌then◌else◌}
 use Rattle.std.specs.List.{prefix_len}
 use Rattle.std.specs.Char.{is_ascii_alphabetic, is_ascii_alphanumeric}
+use Rattle.nk_values.specs.declared.field.Field.{Field}
+use Rattle.nk_values.specs.declared.lit.Lit.{Lit}
+use Rattle.nk_values.specs.Lits.{lit_field, lit_value}
 use Rattle.netkat_parser.specs.declared.sign.Sign.{Sign}
+use Rattle.netkat_parser.specs.declared.sign.Sign.TheVariants.{Name, Equals, Becomes}
+use Rattle.netkat_parser.specs.declared.stage.Operator.{Operator}
+use Rattle.netkat_parser.specs.declared.stage.Operator.TheVariants as operator
+use Rattle.netkat_parser.specs.declared.pair.Pair.{Pair}
+use Rattle.netkat_parser.specs.Numbers.{number, IsWritten}
 use Rattle.netkat_parser.specs.Signs.{is_blank, ahead, sign, past, run, past_run}
 
 -- a comment goes on behind what stands in front of the next sign
@@ -34,3 +42,36 @@ pub record IsRunAt (text : List ℕ) (end : Bool) (n : ℕ) : Type 0 where
   pub within : n ≤ length text
   pub run : (rest : List ℕ) → EndsAt end rest → run (text ++ rest) ≡ take n text
   pub past : (rest : List ℕ) → EndsAt end rest → past_run (text ++ rest) ≡ ahead false (drop n text ++ rest)
+
+-- ---- behind blanks and comments
+
+-- the next sign ends behind so many bytes, however the text goes on
+pub record IsSignAhead (text : List ℕ) (g : Sign) (n : ℕ) : Type 0 where
+  pub some : 0 < n
+  pub within : n ≤ length text
+  pub is_sign : (rest : List ℕ) → sign (ahead false (text ++ rest)) ≡ g
+  pub goes_on : (rest : List ℕ) → past (ahead false (text ++ rest)) ≡ ahead false (drop n text ++ rest)
+
+-- the next run likewise, which writes a literal of the field
+pub record IsValueAhead (f : Field) (text : List ℕ) (l : Lit) (n : ℕ) : Type 0 where
+  pub within : n ≤ length text
+  pub value : List ℕ
+  pub written : IsWritten f value (Some l)
+  pub is_run : (rest : List ℕ) → run (ahead false (text ++ rest)) ≡ value
+  pub goes_on : (rest : List ℕ) → past_run (ahead false (text ++ rest)) ≡ ahead false (drop n text ++ rest)
+
+-- the sign between a field and its value
+abbrev pub relation : Operator → Sign
+relation operator.Test = Equals
+relation operator.Assign = Becomes
+
+-- the pair stands at the front, however the text goes on
+pub record IsPairAt (text : List ℕ) (pair : Pair) : Type 0 where
+  pub some : 0 < pair.len
+  pub within : pair.len ≤ length text
+  pub value : List ℕ
+  pub written : number (lit_field pair.lit) value ≡ Some (lit_value pair.lit)
+  pub is_name : (rest : List ℕ) → sign (text ++ rest) ≡ Name (lit_field pair.lit)
+  pub is_relation : (rest : List ℕ) → sign (past (text ++ rest)) ≡ relation pair.operator
+  pub is_run : (rest : List ℕ) → run (past (past (text ++ rest))) ≡ value
+  pub goes_on : (rest : List ℕ) → past_run (past (past (text ++ rest))) ≡ ahead false (drop pair.len text ++ rest)

@@ -1,11 +1,13 @@
 -- A reader's state and the moves that it makes, sign by sign.
-use Rattle.std.specs.Prelude.{◌≡◌, ◌≢◌, ℕ, ◌+◌, length, Bool, true, false, List, [], ◌∷◌, reverse, Result, Ok, Err}
+use Rattle.std.specs.Prelude.{◌≡◌, ◌≢◌, ℕ, ◌+◌, length, Bool, true, false, List, [], ◌∷◌, reverse, Some, Result, Ok, Err}
 use Rattle.nk_values.specs.declared.field.Field.{Field}
 use Rattle.nk_values.specs.declared.fault.TextFault.{TextFault}
+use Rattle.nk_values.specs.declared.lit.Lit.{Lit}
+use Rattle.nk_values.specs.Lits.{lit_field, lit_value}
 use Rattle.nk_syntax.specs.Terms.{Term}
 use Rattle.nk_syntax.specs.declared.pol.Pol.{Pol}
 use Rattle.netkat_parser.specs.declared.sign.Sign.{Sign}
-use Rattle.netkat_parser.specs.declared.sign.Sign.TheVariants.{Close, End}
+use Rattle.netkat_parser.specs.declared.sign.Sign.TheVariants.{Name, Close, End}
 use Rattle.netkat_parser.specs.declared.stage.Stage.{Stage}
 use Rattle.netkat_parser.specs.declared.stage.Stage.TheVariants as stage
 use Rattle.netkat_parser.specs.declared.stage.Operator.{Operator}
@@ -18,6 +20,8 @@ use Rattle.netkat_parser.specs.declared.reading.Halt.{Halt}
 use Rattle.netkat_parser.specs.declared.reading.Halt.TheVariants as halt
 use Rattle.netkat_parser.specs.Signs.{sign, past, run, past_run}
 use Rattle.netkat_parser.specs.Grammar.{Got, Read, Bad}
+use Rattle.netkat_parser.specs.Numbers.{number}
+use Rattle.netkat_parser.specs.Cuts.{relation}
 use Rattle.netkat_parser.specs.Answers.{spot}
 use Rattle.netkat_parser.specs.Pairs.{pairs}
 use Rattle.netkat_parser.specs.Going.{Frame, Negated, Bracketed, is_inside, is_based, Phase, Operand, Relation, Number, Behind, Reach, Comes}
@@ -130,6 +134,12 @@ TakesRun old bs new (Ok u) = TakesNumber old bs new
 TakesRun old bs new (Err (halt.Fault f)) = StopsAtRun old bs f
 TakesRun old bs new (Err halt.Done) = ⊥
 TakesRun old bs new (Err halt.Memory) = Keeps old new
+
+-- the pair of field and value was taken
+abbrev pub TakesPair : View → Operator → Lit → View → Type 0
+TakesPair old op l new = (bs : List ℕ) → number (lit_field l) bs ≡ Some (lit_value l) → (x : Reach) → Shows old x → (y : Reach) × Shows new y
+    × ((text : List ℕ) (o : Got Term) → sign text ≡ Name (lit_field l) → sign (past text) ≡ relation op → run (past (past text)) ≡ bs
+    → Comes y (spot (past_run (past (past text))) new.named) o → Comes x (spot text old.named) o)
 
 -- no `not` ends in front of the sign, and the sign ends neither the bracket nor the text
 abbrev pub GoesOn : List Level → Sign → Type 0

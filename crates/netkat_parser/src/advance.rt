@@ -47,8 +47,18 @@ pub fn advance(
     }
 }
 
-// Takes one sign, or one value.
+// Takes a pair with the sign after it, or one sign, or one value.
 fn step(reading: &mut Reading, alloc: Global, text: &[u8], end: bool) -> Result<usize, Pause>
+    ensures { Steps (view_of reading.old) text.now end (view_of reading.new) result }
+{
+    match reading.pair(alloc, text) {
+        Some(len) => Ok(len),
+        None => token_step(reading, alloc, text, end),
+    }
+}
+
+// Takes one sign, or one value.
+fn token_step(reading: &mut Reading, alloc: Global, text: &[u8], end: bool) -> Result<usize, Pause>
     ensures { Steps (view_of reading.old) text.now end (view_of reading.new) result }
 {
     let Some((field, operator)) = awaited(reading) else {

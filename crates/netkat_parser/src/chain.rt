@@ -60,6 +60,7 @@ impl Operands {
     }
 
     // One more, for which there is room.
+    #[inline(always)]
     fn push(&mut self, pol: Pol)
         requires { HasRoom self.old }
         ensures { (i : Bool) (ps : List Term) (p : Term) → AreOperands i self.old ps → IsOperand i pol p → AreOperands i self.new (ps ++ p ∷ []) }
@@ -196,6 +197,7 @@ impl Chain {
     }
 
     /// One more factor.
+    #[inline(always)]
     pub fn factor(&mut self, pol: Pol)
         requires { HaveRoom self.old }
         ensures { (i : Bool) (ss qs : List Term) (p : Term) → AreChain i self.old ss qs → IsOperand i pol p → AreChain i self.new ss (qs ++ p ∷ []) }

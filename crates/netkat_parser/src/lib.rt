@@ -8,6 +8,8 @@ mod feeding;
 mod laws;
 mod named;
 mod number;
+mod pair;
+mod pairing;
 mod parse;
 mod reader;
 mod reading;

@@ -12,6 +12,7 @@ ghost use Rattle.netkat_parser.specs.Pairs.{pairs};
 use crate::chain::{Chain, pred_of, put};
 use crate::named::Named;
 use crate::number::literal;
+use crate::pair::policy_of;
 use crate::sign::Sign;
 use crate::stage::{Operator, Stage};
 use crate::stray::{MOST_OPEN, stray};
@@ -335,11 +336,7 @@ impl Reading {
         if !self.named.name(lit)? {
             return Err(Halt::Fault(TextFault::TooManyValues));
         }
-        let pol = match operator {
-            Operator::Test => Pol::Filter(Pred::Test(lit)),
-            Operator::Assign => Pol::Assign(lit),
-        };
-        self.stage = Stage::Behind(pol, true);
+        self.stage = Stage::Behind(policy_of(operator, lit), true);
         Ok(())
     }
 

@@ -31,6 +31,7 @@ pub enum Sign {
 }
 
 /// The first sign of a text that begins with no blank. It has `len` bytes.
+#[inline(always)]
 pub fn first_sign(text: &[u8], len: usize) -> Sign
     requires len { len ≡ sign_len text.now }
     requires within { len ≤ length text.now }
@@ -63,6 +64,7 @@ pub fn is_run_byte(byte: u8) -> bool
 }
 
 /// How many bytes the first sign has.
+#[inline(always)]
 pub fn sign_len(text: &[u8]) -> usize
     ensures len { result ≡ sign_len text.now }
     ensures within { result ≤ length text.now }

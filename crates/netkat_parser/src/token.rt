@@ -49,6 +49,7 @@ fn is_ahead(text: &[u8]) -> bool
 }
 
 /// The first sign of a text and how many bytes it has, unless what follows the text may change it.
+#[inline(always)]
 pub fn sign_at(text: &[u8], end: bool) -> Option<(Sign, usize)>
     ensures whole { IfSome result (λ x. IsSignAt text.now end x.0 x.1) }
     ensures cut { IfNone result (end ≡ false) }

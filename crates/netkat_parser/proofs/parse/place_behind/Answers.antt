@@ -1,4 +1,4 @@
-use Rattle.std.proofs.Common.{◌≡◌, ◌≤◌, ◌+◌, ◌-◌, ap, ◌∙◌, length, length-drop, arith, None, Some}
+use Rattle.std.proofs.Common.{◌+◌, ap, ◌∙◌, length, length-drop, arith}
 use Rattle.netkat_parser.specs.Places.{place_behind}
 use Rattle.netkat_parser.proofs.Lines.{past-line, past-none}
 use Rattle.netkat_parser.proofs.parse.place_behind.Goals as goal

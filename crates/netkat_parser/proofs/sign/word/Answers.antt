@@ -1,4 +1,4 @@
-use Rattle.std.proofs.Common.{◌≡◌, List, ℕ, codes, refl, sym, rules, arith, length}
+use Rattle.std.proofs.Common.{◌≡◌, List, ℕ, codes, refl, rules, arith, length}
 use Rattle.std.proofs.lemmas.Slice.Eq.{text_from_reads, HasBytesAt}
 use Rattle.nk_values.specs.declared.field.Field.TheVariants as field
 use Rattle.netkat_parser.specs.declared.sign.Sign.{Sign}

@@ -1,12 +1,7 @@
-use Rattle.std.proofs.Common.{refl, ◌≡◌}
 use Rattle.nk_values.specs.Lits.{lit_field, lit_value}
-use Rattle.nk_syntax.specs.Views.{term_of}
-use Rattle.nk_syntax.proofs.Equations.{term_of-filter, term_of-assign, guard_of-test}
 use Rattle.netkat_parser.specs.Views.{view_of}
-use Rattle.netkat_parser.specs.Going.{made}
 use Rattle.netkat_parser.specs.Pairs.{pairs}
 use Rattle.netkat_parser.proofs.Moving.{stops-range, stops-many, takes-number}
-use Rattle.netkat_parser.proofs.reading.Reading.number.Goals.{in-Test, in-Assign}
 use Rattle.netkat_parser.proofs.reading.Reading.number.Goals as goal
 
 pub returns-in_default : goal.returns-in_default
@@ -19,9 +14,5 @@ returns-then-not-branch c =
 
 pub returns : goal.returns
 returns c =
-    let made-so : term_of c.match-operator.pol ≡ made c.args.operator (lit_field c.in-Some.lit) (lit_value c.in-Some.lit) = elim c.match-operator.branch [
-      | in-Test w ↦ rw (w.pol-is, w.in-Test.is, term_of-filter, guard_of-test) refl
-      | in-Assign w ↦ rw (w.pol-is, w.in-Assign.is, term_of-assign) refl
-    ] in
-    takes-number (view_of c.args.self.now) c.args.field (lit_field c.in-Some.lit) (lit_value c.in-Some.lit) c.args.operator c.args.run.now _ (pairs c.name.new.self) c.match-operator.pol
-    c.requires.stage c.requires.some c.in-Some.lit.literal c.in-Some.ensures c.if-not-branch.false c.in_ok-name.ensures.room c.in_ok-name.ensures.pairs made-so
+    takes-number (view_of c.args.self.now) c.args.field (lit_field c.in-Some.lit) (lit_value c.in-Some.lit) c.args.operator c.args.run.now _ (pairs c.name.new.self) c.policy_of.result
+    c.requires.stage c.requires.some c.in-Some.lit.literal c.in-Some.ensures c.if-not-branch.false c.in_ok-name.ensures.room c.in_ok-name.ensures.pairs c.policy_of.ensures
