@@ -1,3 +1,4 @@
+pub mod Ends
 pub mod Feeding
 pub mod Holding
 pub mod Limits

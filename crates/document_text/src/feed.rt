@@ -11,6 +11,7 @@ use crate::fault::DocumentError;
 use crate::reader::Reader;
 use crate::take::refused;
 use bytes::BytesMut;
+use memchr::memchr;
 use netkat_parser::{Place, PolicyReader};
 use nk_values::{MOST_DOCUMENT_BYTES, TextFault};
 use std::alloc::{AllocError, Global};
@@ -108,10 +109,10 @@ fn line_behind(line: u64, front: &[u8]) -> u64
     ensures { result + 1 ≡ line + line_behind front.now }
 {
     let mut line = line;
-    for byte in front {
-        if *byte == b'\n' {
-            line += 1;
-        }
+    let mut rest = front;
+    while let Some(at) = memchr(b'\n', rest) {
+        line += 1;
+        rest = &rest[at + 1..];
     }
     line
 }

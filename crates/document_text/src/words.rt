@@ -8,6 +8,7 @@ ghost use Rattle.document_text.specs.Answers.{texts, Forms};
 
 use crate::fault::Stop;
 use crate::head::is_text;
+use memchr::memchr;
 use netkat_parser::{GREATEST, cut, numeral as parsed, run_len};
 use nk_values::TextFault;
 use std::alloc::{AllocError, Global};
@@ -17,12 +18,10 @@ pub fn line_end(text: &[u8]) -> Option<usize>
     ensures some { IfSome result (λ n. (0 < n) × (n ≤ length text.now) × ((rest : List ℕ) → first_len (text.now ++ rest) ≡ n)) }
     ensures none { IfNone result (IsPiece text.now) }
 {
-    for (i, byte) in text.iter().enumerate() {
-        if *byte == b'\n' {
-            return Some(i + 1);
-        }
+    match memchr(b'\n', text) {
+        Some(at) => Some(at + 1),
+        None => None,
     }
-    None
 }
 
 /// The words of a line.
@@ -117,6 +116,9 @@ pub fn is_end(words: &[&[u8]]) -> bool
 pub fn is_end_line(line: &[u8]) -> bool
     ensures { result ≡ is_end (words_of line.now) }
 {
+    if is_no_end(line) {
+        return false;
+    }
     let content = content(line);
     let rest = &content[blank_len(content)..];
     let end = piece_len(rest);
