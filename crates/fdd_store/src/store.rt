@@ -355,10 +355,10 @@ impl Store {
         ensures grows { Grows self.old self.new }
         ensures shapes { self.new.shapes ≡ self.old.shapes }
     {
-        if self.known.get(&call).is_some() {
-            return Ok(());
+        let (at, before) = self.known.insert_full(call, place)?;
+        if let Some(same) = before {
+            self.known[at] = same;
         }
-        self.known.insert(call, place)?;
         Ok(())
     }
 
