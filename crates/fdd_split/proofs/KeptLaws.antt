@@ -9,6 +9,7 @@ use Rattle.nk_values.proofs.LitLaws.{lit_eq-Decides}
 use Rattle.fdd_nodes.specs.declared.node.Node.{Node}
 use Rattle.fdd_nodes.specs.Trees.{Tree, tree}
 use Rattle.fdd_store.specs.Stores.{Kept, Has, Grows, tree_at}
+use Rattle.fdd_store.proofs.NodeLaws.{nodes_grown}
 use Rattle.fdd_store.proofs.StoreLaws.{has_grown, tree_grown}
 use Rattle.fdd_split.specs.declared.bars.Bar.{Bar}
 use Rattle.fdd_split.specs.declared.memo.Key.{Key}
@@ -120,6 +121,7 @@ kept_grown old new m g h = record {
   parts = each_on (IsPartEntry old) (IsPartEntry new) m.parts.entries
       (λ q r w. (has_grown old new q.diagram g w.0, subst (λ (x : Tree). Divides q.bars.items x (tree r.root.value)) (sym (tree_grown old new q.diagram g w.0)) w.1))
       h.parts;
+  nodes = nodes_grown old new m.nodes g h.nodes;
 }
 
 -- what was divided is right where it is kept

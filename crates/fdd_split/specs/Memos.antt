@@ -2,6 +2,7 @@
 use Rattle.std.specs.Prelude.{◌≡◌, ℕ, Bool, List, [], ◌∷◌, Option, Some, IsTrue, slice_get}
 use Rattle.nk_values.specs.declared.lit.Lit.{Lit}
 use Rattle.fdd_nodes.specs.Trees.{Tree, Leaf, Node, tree}
+use Rattle.fdd_store.specs.NodeLists.{AreNodes}
 use Rattle.fdd_store.specs.Stores.{Kept, Has, tree_at}
 use Rattle.fdd_split.specs.declared.memo.Key.{Key}
 use Rattle.fdd_split.specs.declared.memo.Part.{Part}
@@ -37,3 +38,4 @@ pub record AreKept (k : Kept) (m : Memo) : Type 0 where
   pub plain : ArePlainEntries k m.plain.items
   pub threats : EachIs (IsThreatEntry k) m.threats.entries
   pub parts : EachIs (IsPartEntry k) m.parts.entries
+  pub nodes : AreNodes k m.nodes

@@ -3,7 +3,7 @@ ghost use Rattle.std.specs.Prelude.{◌≡◌, IfOk};
 
 use crate::bars::{Bar, same_bars};
 use fdd_nodes::Node;
-use fdd_store::Id;
+use fdd_store::{Id, Nodes};
 use indexmap::IndexMap;
 use nk_values::Lit;
 use std::alloc::{AllocError, Global};
@@ -22,13 +22,14 @@ pub(crate) struct Part {
     pub(crate) root: Rc<Node>,
 }
 
-/// Of each place of the store whether its diagram is plain, if that is known; the first threats that were found; and what
-/// was divided.
+/// Of each place of the store whether its diagram is plain, if that is known; the first threats that were found; what was
+/// divided; and the nodes of what was not.
 #[derive(Drop)]
 pub(crate) struct Memo {
     pub(crate) plain: Vec<Option<bool>>,
     pub(crate) threats: IndexMap<Key, Option<Lit>>,
     pub(crate) parts: IndexMap<Key, Part>,
+    pub(crate) nodes: Nodes,
 }
 
 /// The key of a diagram.
@@ -57,6 +58,7 @@ impl Memo {
             plain: Vec::new(alloc),
             threats: IndexMap::new(alloc),
             parts: IndexMap::new(alloc),
+            nodes: Nodes::new(alloc),
         }
     }
 

@@ -66,7 +66,7 @@ fn split_below(
     ensures divided { IfOk result (λ r. Divides bars.now (tree_at store.old a) (tree r.value)) }
 {
     let Some(l) = first_threat(alloc, store, memo, bars, a)? else {
-        return store.node(a);
+        return memo.nodes.node(alloc, store, a);
     };
     let key = key_of(alloc, bars, a)?;
     if let Some(known) = memo.part_of(&key) {

@@ -5,8 +5,6 @@ ghost use Rattle.nk_values.specs.Lits.{lit_field};
 ghost use Rattle.nk_values.specs.Members.{IsIn};
 ghost use Rattle.nk_values.specs.Ranges.{place};
 ghost use Rattle.fdd_nodes.specs.Copies.{IsCopy};
-ghost use Rattle.fdd_nodes.specs.Fdds.{tree_of};
-ghost use Rattle.fdd_nodes.specs.Names.{IsFew};
 ghost use Rattle.fdd_nodes.specs.Roots.{IsLeaf};
 ghost use Rattle.fdd_nodes.specs.Trees as trees;
 ghost use Rattle.fdd_store.specs.Entries.{IsEntry, SetsField, behind};
@@ -19,12 +17,11 @@ use crate::copies::SharedCopies;
 use crate::entry::{Entry, fields_set};
 use crate::id::Id;
 use crate::shape::Shape;
-use fdd_nodes::{Fdd, Leaf, Node};
+use fdd_nodes::Leaf;
 use indexmap::{IndexMap, IndexSet};
 use nk_values::{Field, Lit};
 use std::alloc::{AllocError, Global};
 use std::marker::Model;
-use std::rc::Rc;
 
 /// Diagrams that share their parts: each node and each leaf is kept once, and so is each result of an operation.
 ///
@@ -190,24 +187,6 @@ impl Store {
         }
     }
 
-    /// A diagram as nodes, which share what the store's diagrams share.
-    pub fn tree(&self, alloc: Global, a: Id) -> Result<Fdd, AllocError>
-        requires has { Has self.now a }
-        requires few { IsFew (tree_at self.now a) }
-        ensures { IfOk result (λ r. tree_of r ≡ tree_at self.now a) }
-    {
-        let root = self.entry(a).node.copy(alloc)?;
-        Ok(Fdd::new(root))
-    }
-
-    /// A diagram as nodes, the same ones that the store has.
-    pub fn node(&self, a: Id) -> Result<Rc<Node>, AllocError>
-        requires { Has self.now a }
-        ensures { IfOk result (λ r. trees.tree r.value ≡ tree_at self.now a) }
-    {
-        self.entry(a).node.clone()
-    }
-
     /// Where the tests of a field at the front lead that do not hold.
     pub(crate) fn behind(&self, f: Field, a: Id) -> Id
         requires { Has self.now a }
@@ -297,9 +276,7 @@ impl Store {
         ensures err { OnErr result (self.new ≡ self.old) }
     {
         let shared = self.copies.leaf(alloc, leaf)?;
-        let again = shared.copy(alloc)?;
         let entry = Entry {
-            node: Rc::new(alloc, Node::Leaf(again))?,
             behind: Id::at(0),
             sets: fields_set(shared.copies()),
         };
@@ -307,7 +284,7 @@ impl Store {
     }
 
     /// The diagram of a test that is not idle.
-    pub(crate) fn put_fork(&mut self, alloc: Global, l: Lit, t: Id, e: Id) -> Result<Id, AllocError>
+    pub(crate) fn put_fork(&mut self, l: Lit, t: Id, e: Id) -> Result<Id, AllocError>
         requires has_then { Has self.old t }
         requires has_else { Has self.old e }
         requires made { IsMade (trees.Node l (tree_at self.old t) (tree_at self.old e)) }
@@ -315,28 +292,22 @@ impl Store {
         ensures place { IfOk result (λ i. Gives self.new i (λ x. x ≡ trees.Node l (tree_at self.old t) (tree_at self.old e))) }
         ensures err { OnErr result (self.new ≡ self.old) }
     {
-        let shape = Shape::Fork(l, t, e);
-        if let Some(place) = self.found(&shape) {
-            return Ok(place);
-        }
-        let entry = self.entry_of(alloc, l, t, e)?;
-        self.put(shape, entry)
+        let entry = self.entry_of(l, t, e);
+        self.put(Shape::Fork(l, t, e), entry)
     }
 
     // What is told of a test with its branches.
     #[tactic(auto, using(crate::proofs::EntryLaws::sets_test))]
-    fn entry_of(&self, alloc: Global, l: Lit, t: Id, e: Id) -> Result<Entry, AllocError>
+    fn entry_of(&self, l: Lit, t: Id, e: Id) -> Entry
         requires has_then { Has self.now t }
         requires has_else { Has self.now e }
-        ensures { IfOk result (λ r. IsEntry self.now (length self.now.shapes) (trees.Node l (tree_at self.now t) (tree_at self.now e)) r) }
+        ensures { IsEntry self.now (length self.now.shapes) (trees.Node l (tree_at self.now t) (tree_at self.now e)) result }
     {
         let (yes, no) = (self.entry(t), self.entry(e));
-        let (node_then, node_else) = (yes.node.clone()?, no.node.clone()?);
-        Ok(Entry {
-            node: Rc::new(alloc, Node::Test(l, node_then, node_else))?,
+        Entry {
             behind: self.behind(l.field(), e),
             sets: yes.sets.with(&no.sets),
-        })
+        }
     }
 
     /// The result of an operation, if it was kept.

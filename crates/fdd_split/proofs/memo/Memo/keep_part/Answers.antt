@@ -8,4 +8,5 @@ returns c = λ k h w. record {
   plain = h.plain;
   threats = h.threats;
   parts = subst (EachIs (IsPartEntry k)) (sym c.in_ok-insert.ensures.entries) (right_added key_eq (IsPartEntry k) (part_to k) (part_back k) _ _ _ h.parts w);
+  nodes = h.nodes;
 }

@@ -10,6 +10,7 @@ returns-in-Some c = λ k h w.
       plain = known_set k _ c.args.a c.place-place.result c.args.plain c.place-place.ensures kept.plain w;
       threats = kept.threats;
       parts = kept.parts;
+      nodes = kept.nodes;
     }
 
 pub returns-in_ok-push-in-None : goal.returns-in_ok-push-in-None
@@ -21,4 +22,5 @@ returns-in_ok-push-in-None c = λ k h w.
       plain = subst (λ (known : List (Option Bool)). ArePlainEntries k known) (sym c.in_ok-push-in-None.ensures.items) (known_added k _ c.args.a c.args.plain full kept.plain w);
       threats = kept.threats;
       parts = kept.parts;
+      nodes = kept.nodes;
     }

@@ -8,4 +8,5 @@ returns c = λ k h w. record {
   plain = h.plain;
   threats = subst (EachIs (IsThreatEntry k)) (sym c.in_ok-insert.ensures.entries) (right_added key_eq (IsThreatEntry k) (threat_to k) (threat_back k) _ _ _ h.threats w);
   parts = h.parts;
+  nodes = h.nodes;
 }

@@ -11,6 +11,7 @@ loop-preserved c = (
         plain = subst (λ (known : List (Option Bool)). ArePlainEntries k known) (sym c.in_ok-push.ensures.items) (unknown_added k _ kept.plain);
         threats = kept.threats;
         parts = kept.parts;
+        nodes = kept.nodes;
       },
   let before = c.loop.invariant.1 in search rules,
 )
