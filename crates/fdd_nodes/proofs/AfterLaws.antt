@@ -1,6 +1,8 @@
 -- One copy after another.
-use Rattle.std.proofs.Common.{◌≡◌, ◌≢◌, ℕ, ◌+◌, ◌<◌, ◌≤◌, ◌⊎◌, inl, inr, refl, ap, sym, ◌∙◌, subst, arith, Bool, true, false, cond, ltb, List, [], ◌∷◌, ◌++◌}
+use Rattle.std.proofs.Common.{◌≡◌, ◌≢◌, ℕ, ◌+◌, ◌<◌, ◌≤◌, ◌⊎◌, inl, inr, refl, ap, sym, ◌∙◌, subst, arith, Bool, true, false, cond, ltb, List, [], ◌∷◌, ◌++◌, length, Result, Ok, Err}
 use Rattle.std.proofs.lemmas.Bool.Decides.{nat_tests}
+use Rattle.std.proofs.lemmas.List.{append_assoc}
+use Rattle.std.specs.Prelude.{OnOk}
 use Rattle.nk_values.specs.declared.field.Field.{Field}
 use Rattle.nk_values.specs.declared.packet.Packet.{Packet}
 use Rattle.nk_values.specs.declared.lit.Lit.{Lit}
@@ -159,3 +161,81 @@ after_among c (l ∷ d) n h = elim (after_among (set_lit l c) d n h) [
 pub apply-push : (c : List Lit) (l : Lit) (p : Packet) → apply (c ++ l ∷ []) p ≡ put l (apply c p)
 apply-push [] l p = refl
 apply-push (m ∷ c) l p = apply-push c l (put m p)
+
+-- one literal at a time, in field order
+
+from_less : (c : List Lit) (j k : ℕ) → j ≤ k → IsCopyFrom k c → IsCopyFrom j c
+from_less [] j k n h = tt
+from_less (l ∷ c) j k n h = (omega (arith, n, h.0), h.1)
+
+pub rest_copy : (l : Lit) (c : List Lit) → IsCopy (l ∷ c) → IsCopy c
+rest_copy l c h = from_less c 0 (place (lit_field l) + 1) (omega arith) h.1
+
+-- a literal in front of what is later stays in front
+front_stays : (m : Lit) (c d : List Lit) → IsCopyFrom (place (lit_field m) + 1) c → IsCopyFrom (place (lit_field m) + 1) d → after (m ∷ c) d ≡ m ∷ after c d
+front_stays m c [] h k = refl
+front_stays m c (l ∷ d) h k =
+    let from : IsCopyFrom (place (lit_field m)) (m ∷ c) = (omega arith, h) in
+    elim (places l m c (place (lit_field m)) from) [
+      | inl w ↦
+          ap (λ (x : List Lit). after x d) w.is
+          ∙ front_stays m (set_lit l c) d (set_copy l c (place (lit_field m) + 1) k.0 h) (from_less d (place (lit_field m) + 1) (place (lit_field l) + 1) (let a = k.0 in omega (arith, a)) k.1)
+      | inr v ↦ elim v [
+        | inl w ↦ absurd (let e : place (lit_field m) ≡ place (lit_field l) = ap place w.eq in let a = k.0 in omega (arith, e, a))
+        | inr w ↦ absurd (let e = w.lt in let a = k.0 in omega (arith, e, a))
+      ]
+    ]
+
+pub after_first : (m l : Lit) (c d : List Lit) → place (lit_field m) < place (lit_field l) → IsCopy (m ∷ c) → IsCopy (l ∷ d) → after (m ∷ c) (l ∷ d) ≡ m ∷ after c (l ∷ d)
+after_first m l c d n h k = front_stays m c (l ∷ d) h.1 (omega (arith, n), k.1)
+
+pub after_same : (m l : Lit) (c d : List Lit) → place (lit_field m) ≡ place (lit_field l) → IsCopy (m ∷ c) → IsCopy (l ∷ d) → after (m ∷ c) (l ∷ d) ≡ l ∷ after c d
+after_same m l c d n h k = elim (places l m c 0 h) [
+  | inl w ↦ absurd (let e = w.lt in omega (arith, e, n))
+  | inr v ↦ elim v [
+    | inl w ↦ ap (λ (x : List Lit). after x d) w.is ∙ front_stays l c d (subst (λ (i : ℕ). IsCopyFrom (i + 1) c) n h.1) k.1
+    | inr w ↦ absurd (let e = w.lt in omega (arith, e, n))
+  ]
+]
+
+pub after_later : (m l : Lit) (c d : List Lit) → place (lit_field l) < place (lit_field m) → IsCopy (m ∷ c) → IsCopy (l ∷ d) → after (m ∷ c) (l ∷ d) ≡ l ∷ after (m ∷ c) d
+after_later m l c d n h k = elim (places l m c 0 h) [
+  | inl w ↦ absurd (let e = w.lt in omega (arith, e, n))
+  | inr v ↦ elim v [
+    | inl w ↦ absurd (let e : place (lit_field m) ≡ place (lit_field l) = ap place w.eq in omega (arith, e, n))
+    | inr w ↦ ap (λ (x : List Lit). after x d) w.is ∙ front_stays l (m ∷ c) d (omega (arith, n), h.1) k.1
+  ]
+]
+
+pub after_none : (d : List Lit) → IsCopy d → after [] d ≡ d
+after_none [] h = refl
+after_none (l ∷ d) h = front_stays l [] d tt h.1 ∙ ap (λ (x : List Lit). l ∷ x) (after_none d (rest_copy l d h))
+
+-- a step in front of the rest
+
+glued : (out mid new : List Lit) (x : Lit) (ys zs : List Lit) → mid ≡ out ++ x ∷ [] → zs ≡ x ∷ ys → new ≡ mid ++ ys → new ≡ out ++ zs
+glued out mid new x ys zs h e k = k ∙ ap (λ (m : List Lit). m ++ ys) h ∙ append_assoc out (x ∷ []) ys ∙ ap (λ (z : List Lit). out ++ z) (sym e)
+
+module _ (xs ys c d : List Lit) (m l : Lit) (hx : xs ≡ m ∷ c) (hy : ys ≡ l ∷ d) (h : IsCopy xs) (k : IsCopy ys) where
+  pub rests : IsCopy c × IsCopy d
+  rests = (rest_copy m c (subst IsCopy hx h), rest_copy l d (subst IsCopy hy k))
+
+  pub first_step : place (lit_field m) < place (lit_field l) → (out mid new : List Lit) → mid ≡ out ++ m ∷ [] → new ≡ mid ++ after c ys → new ≡ out ++ after xs ys
+  first_step n out mid new p q = glued out mid new m _ _ p ((λ i. after (hx i) (hy i)) ∙ after_first m l c d n (subst IsCopy hx h) (subst IsCopy hy k) ∙ ap (λ (z : List Lit). m ∷ after c z) (sym hy)) q
+
+  pub same_step : place (lit_field m) ≡ place (lit_field l) → (out mid new : List Lit) → mid ≡ out ++ l ∷ [] → new ≡ mid ++ after c d → new ≡ out ++ after xs ys
+  same_step n out mid new p q = glued out mid new l _ _ p ((λ i. after (hx i) (hy i)) ∙ after_same m l c d n (subst IsCopy hx h) (subst IsCopy hy k)) q
+
+  pub later_step : place (lit_field l) < place (lit_field m) → (out mid new : List Lit) → mid ≡ out ++ l ∷ [] → new ≡ mid ++ after xs d → new ≡ out ++ after xs ys
+  later_step n out mid new p q = glued out mid new l _ _ p ((λ i. after (hx i) (hy i)) ∙ after_later m l c d n (subst IsCopy hx h) (subst IsCopy hy k) ∙ ap (λ (z : List Lit). l ∷ after z d) (sym hx)) q
+
+empty_list : (xs : List Lit) → length xs ≡ 0 → xs ≡ []
+empty_list [] e = refl
+empty_list (x ∷ xs) e = absurd (omega (arith, e))
+
+pub none_step : (xs ys : List Lit) → length xs ≡ 0 → IsCopy ys → ys ≡ after xs ys
+none_step xs ys e k = sym (ap (λ (z : List Lit). after z ys) (empty_list xs e) ∙ after_none ys k)
+
+pub on_ok : {A E P Q : Type 0} (o : Result A E) → (P → Q) → OnOk o P → OnOk o Q
+on_ok (Ok x) f h = f h
+on_ok (Err e) f h = tt

@@ -1,7 +1,7 @@
 -- Lists of copies in strictly rising order.
 use Rattle.std.specs.Prelude.{◌==◌}
-use Rattle.std.proofs.Common.{Result, Ok, Err, Option, MatchOption, ◌≡◌, ℕ, zero, suc, ◌+◌, ◌<◌, ◌≤◌, inl, inr, refl, ap, sym, ◌∙◌, subst, arith, true, false, List, [], ◌∷◌, ◌++◌, length, take, drop, get_or, Ordering, Less, Equal, Greater}
-use Rattle.std.proofs.lemmas.List.{take-append-drop}
+use Rattle.std.proofs.Common.{Result, Ok, Err, Option, MatchOption, ◌≡◌, ℕ, zero, suc, ◌+◌, ◌<◌, ◌≤◌, inl, inr, refl, ap, sym, ◌∙◌, subst, arith, Bool, true, false, not, List, [], ◌∷◌, ◌++◌, length, take, drop, get_or, Ordering, Less, Equal, Greater}
+use Rattle.std.proofs.lemmas.List.{append-nil, take-append-drop, take_all}
 use Rattle.std.proofs.lemmas.List.Sorted.{searchable_from_sorted}
 use Rattle.std.specs.Cmp.{IsTotalOrder}
 use Rattle.std.specs.Cmp.Lexicographic.{lists_total, lists_ties, pointwise, pointwise_decides}
@@ -156,3 +156,41 @@ puts_insert c old i =
 
 pub puts_there : (c : List Lit) (old : List (List Lit)) → IsIn old c → Puts c old old
 puts_there c old h = record { kept = λ x k. k; has = h; only = λ x k. inl k }
+
+-- one copy more of a list that rises as far
+
+pub rising_first : (cs : List (List Lit)) → IsStrictlySortedBy copy_cmp (take 1 cs)
+rising_first [] = rising_none
+rising_first (c ∷ cs) = rising_one c
+
+take_last : {X : Type 0} (xs : List X) (i : ℕ) (d : X) → i < length xs → take (i + 1) xs ≡ take i xs ++ get_or xs i d ∷ []
+take_last [] i d h = absurd (omega (arith, h))
+take_last (x ∷ xs) zero d h = refl
+take_last (x ∷ xs) (suc i) d h =
+    let n : suc i + 1 ≡ suc (i + 1) = omega arith in
+    ap (λ j. take j (x ∷ xs)) n ∙ ap (λ ys. x ∷ ys) (take_last xs i d (omega (arith, h)))
+
+length_taken : {X : Type 0} (xs : List X) (i : ℕ) → i ≤ length xs → length (take i xs) ≡ i
+length_taken xs zero h = refl
+length_taken [] (suc i) h = absurd (omega (arith, h))
+length_taken (x ∷ xs) (suc i) h = ap suc (length_taken xs i (omega (arith, h)))
+
+get_taken : {X : Type 0} (xs : List X) (i j : ℕ) (d : X) → j < i → get_or (take i xs) j d ≡ get_or xs j d
+get_taken xs zero j d h = absurd (omega (arith, h))
+get_taken [] (suc i) j d h = refl
+get_taken (x ∷ xs) (suc i) zero d h = refl
+get_taken (x ∷ xs) (suc i) (suc j) d h = get_taken xs i j d (omega (arith, h))
+
+pub rising_more : (cs : List (List Lit)) (i j : ℕ) (x y : List Lit) → j + 1 ≡ i → i < length cs → x ≡ get_or cs j x → y ≡ get_or cs i y → copy_cmp x y ≡ Less → IsStrictlySortedBy copy_cmp (take i cs) → IsStrictlySortedBy copy_cmp (take (i + 1) cs)
+rising_more cs i j x y n h ex ey l r =
+    let len = length_taken cs i (omega (arith, h)) in
+    let last : copy_cmp (get_or (take i cs) j x) y ≡ Less = ap (λ z. copy_cmp z y) (get_taken cs i j x (omega (arith, n)) ∙ sym ex) ∙ l in
+    subst (IsStrictlySortedBy copy_cmp) (sym (take_last cs i y h ∙ ap (λ z. take i cs ++ z ∷ []) (sym ey)))
+    (rising_insert (take i cs) [] y (subst (IsStrictlySortedBy copy_cmp) (sym (append-nil (take i cs))) r) (all_below y (take i cs) j x (omega (arith, n, len)) r last) tt)
+
+pub rising_whole : (cs : List (List Lit)) (i : ℕ) → length cs ≤ i → IsStrictlySortedBy copy_cmp (take i cs) → IsStrictlySortedBy copy_cmp cs
+rising_whole cs i h r = subst (IsStrictlySortedBy copy_cmp) (take_all i cs h) r
+
+pub not_not : (b : Bool) → not b ≡ false → b ≡ true
+not_not true e = refl
+not_not false e = sym e

@@ -1,7 +1,7 @@
 // Copies: what one copy of a packet is assigned.
-ghost use Rattle.std.specs.Prelude.{◌≡◌, ◌↔◌, IsTrue, IfOk};
+ghost use Rattle.std.specs.Prelude.{◌≡◌, ◌↔◌, ◌++◌, IsTrue, IfOk, OnOk};
 ghost use Rattle.nk_values.specs.declared.lit.Lit.{Lit};
-ghost use Rattle.fdd_nodes.specs.Copies.{strip, below, above, set_lit, after, assigned};
+ghost use Rattle.fdd_nodes.specs.Copies.{IsCopy, strip, after, assigned};
 ghost use Rattle.fdd_nodes.specs.Makes.{made, IsFreeOf};
 
 use crate::cell::Cell;
@@ -40,7 +40,6 @@ impl Model for Assignments {
 
 impl Assignments {
     ghost use Rattle.std.specs.Prelude.{[], ◌∷◌};
-    ghost use Rattle.fdd_nodes.specs.Copies.{IsCopy};
     ghost use Rattle.fdd_nodes.specs.Trees.{apply};
 
     fn new(alloc: Global, lits: SmallVec<Lit, 4>) -> Result<Assignments, AllocError>
@@ -115,7 +114,12 @@ impl Assignments {
         ensures after { IfOk result (λ r. r ≡ after self.now later.now) }
         ensures copy { IsCopy self.now }
     {
-        let both = set_all(alloc, self.lits(), later.lits())?;
+        let (lits, more) = (self.lits(), later.lits());
+        if more.is_empty() {
+            return self.copy();
+        }
+        let mut both = SmallVec::new(alloc);
+        push_after(&mut both, lits, more)?;
         Assignments::new(alloc, both)
     }
 
@@ -247,32 +251,38 @@ fn none_fixed(lits: &[Lit], cell: &Cell) -> bool
     true
 }
 
-// The literals with another one in its place.
-fn set_one(alloc: Global, lits: &[Lit], l: &Lit) -> Result<SmallVec<Lit, 4>, AllocError>
-    ensures { IfOk result (λ r. r.items ≡ set_lit l.now lits.now) }
+// Adds literals and later ones in field order: of a field that both have, the later one.
+#[cycle(after)]
+fn push_after(out: &mut SmallVec<Lit, 4>, lits: &[Lit], later: &[Lit]) -> Result<(), AllocError>
+    requires lits { IsCopy lits.now }
+    requires later { IsCopy later.now }
+    ensures { OnOk result (out.new.items ≡ out.old.items ++ after lits.now later.now) }
 {
-    let place = l.field().place();
-    let mut out = SmallVec::new(alloc);
-    for m in lits {
-        if m.field().place() < place {
-            out.push(*m)?;
+    let Some((l, more)) = later.split_first() else {
+        return push_all(out, lits);
+    };
+    let Some((m, rest)) = lits.split_first() else {
+        return push_all(out, later);
+    };
+    let (place, other) = (l.field().place(), m.field().place());
+    if other < place {
+        out.push(*m)?;
+        push_after(out, rest, later)
+    } else {
+        out.push(*l)?;
+        if other == place {
+            push_after(out, rest, more)
+        } else {
+            push_after(out, lits, more)
         }
     }
-    out.push(*l)?;
-    for n in lits {
-        if place < n.field().place() {
-            out.push(*n)?;
-        }
-    }
-    Ok(out)
 }
 
-fn set_all(alloc: Global, lits: &[Lit], later: &[Lit]) -> Result<SmallVec<Lit, 4>, AllocError>
-    ensures { IfOk result (λ r. r.items ≡ after lits.now later.now) }
+fn push_all(out: &mut SmallVec<Lit, 4>, lits: &[Lit]) -> Result<(), AllocError>
+    ensures { OnOk result (out.new.items ≡ out.old.items ++ lits.now) }
 {
-    let mut out = SmallVec::from_slice(alloc, lits)?;
-    for l in later {
-        out = set_one(alloc, out.as_slice(), l)?;
+    for l in lits {
+        out.push(*l)?;
     }
-    Ok(out)
+    Ok(())
 }

@@ -70,10 +70,13 @@ impl Leaf {
         Ok(Leaf { copies })
     }
 
-    /// The leaf of some copies. They are sorted first, which takes little time if they rise.
+    /// The leaf of some copies. They are taken as they are if they rise, and else sorted first.
     pub fn gathered(alloc: Global, mut copies: Vec<Assignments>) -> Result<Leaf, AllocError>
         ensures { IfOk result (λ r. SameMembers r copies.items) }
     {
+        if is_rising(&copies) {
+            return Ok(Leaf { copies });
+        }
         copies.sort_unstable();
         let mut leaf = Leaf::with_capacity(alloc, copies.len())?;
         put_all(&mut leaf, copies)?;
@@ -153,6 +156,18 @@ impl Hash for Leaf {
     fn hash<H: Hasher>(&self, state: &mut H) {
         self.copies.hash(state);
     }
+}
+
+// Whether each copy comes before the next one.
+fn is_rising(copies: &[Assignments]) -> bool
+    ensures { IsTrue result → IsStrictlySortedBy copy_cmp copies.now }
+{
+    for n in 1..copies.len() {
+        if copies[n - 1].cmp(&copies[n]) != Ordering::Less {
+            return false;
+        }
+    }
+    true
 }
 
 // Where a copy is to stand among rising copies, or none if it stands already.
