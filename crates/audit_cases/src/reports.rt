@@ -28,8 +28,8 @@ impl Case {
     pub fn plan(&mut self, alloc: Global, rows: &[Row]) -> Result<(), AllocError> {
         self.planned = Table::new(alloc, CAPACITY);
         for row in rows {
-            let change = addition(alloc, row)?;
-            if self.planned.change(alloc, &change).is_err() {
+            let mut change = addition(alloc, row)?;
+            if self.planned.change(alloc, &mut change).is_err() {
                 return Err(AllocError);
             }
         }

@@ -59,14 +59,14 @@ fn add(
 ) -> Result<(), ChangeError> {
     let mut actions = Actions::new(alloc);
     actions.push(Action::Output(out))?;
-    let change = FlowMod {
+    let mut change = FlowMod {
         command: Command::Add,
         pattern,
         priority,
         out_port: ANY_PORT,
         actions,
     };
-    table.change(alloc, &change)
+    table.change(alloc, &mut change)
 }
 
 // The output of the row that the packet meets at port 1; 0 if it meets none.
@@ -135,14 +135,14 @@ fn remove(
     pattern: Pattern,
     priority: u16,
 ) -> Result<(), ChangeError> {
-    let change = FlowMod {
+    let mut change = FlowMod {
         command: Command::DeleteStrict,
         pattern,
         priority,
         out_port: ANY_PORT,
         actions: Actions::new(alloc),
     };
-    table.change(alloc, &change)
+    table.change(alloc, &mut change)
 }
 
 // A table with a row for all packets, of this priority, and one of priority 10 for untagged ones at port 1.

@@ -1,5 +1,5 @@
 -- Replies, row by row, and the rows that are picked for them.
-use Rattle.std.proofs.Common.{◌≡◌, ℕ, suc, ◌+◌, ◌<◌, ◌≤◌, ◌⊎◌, ◌^◌, Bool, true, false, List, [], ◌∷◌, ◌++◌, length, map, drop, get_or, refl, sym, ap, subst, ◌∙◌, inl, inr, add-one, drop-cons, arith, length-drop}
+use Rattle.std.proofs.Common.{◌≡◌, ℕ, suc, ◌+◌, ◌<◌, ◌≤◌, ◌^◌, Bool, true, false, List, [], ◌∷◌, ◌++◌, length, map, drop, get_or, refl, sym, ap, subst, ◌∙◌, inl, inr, add-one, drop-cons, arith, length-drop}
 use Rattle.std.specs.List.{AllByRecursion}
 use Rattle.std.specs.List.Sorted.{IsPermutation}
 use Rattle.std.proofs.lemmas.List.{append-nil, append_assoc, map-append, nil_from_length}
@@ -8,7 +8,7 @@ use Rattle.nk_values.specs.declared.row.FlowMod.{FlowMod}
 use Rattle.nk_values.specs.Changes.{IsMeant}
 use Rattle.nk_values.specs.Fitting.{actions_len, IsWritable}
 use Rattle.nk_values.specs.Members.{IsIn}
-use Rattle.nk_values.specs.Tables.{Distinct, IsNew}
+use Rattle.nk_values.specs.Tables.{Distinct}
 use Rattle.nk_values.proofs.MemberLaws.{in-left, in-right}
 use Rattle.openflow_wire.specs.declared.flow_stats.FlowStats.{FlowStats}
 use Rattle.openflow_wire.specs.declared.message.Message.{Message}

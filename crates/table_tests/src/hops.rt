@@ -42,9 +42,9 @@ fn entering(alloc: Global, hops: u64) -> Flight {
 }
 
 // A table of one row, which any packet hits.
-fn table(alloc: Global, change: &FlowMod) -> Result<Table, ChangeError>
-    requires { change.now.command ≡ Command.Add }
-    ensures { IfOk result (λ t. (r : Row) → IsIn t.rows r → r ≡ row_of change.now) }
+fn table(alloc: Global, change: &mut FlowMod) -> Result<Table, ChangeError>
+    requires { change.old.command ≡ Command.Add }
+    ensures { IfOk result (λ t. (r : Row) → IsIn t.rows r → r ≡ row_of change.old) }
 {
     let mut table = Table::new(alloc, 1);
     table.change(alloc, change)?;
@@ -73,11 +73,11 @@ fn two_ways(alloc: Global) -> Result<FlowMod, AllocError>
 fn hopped_by<R: Abort>(
     rt: &R,
     alloc: Global,
-    change: &FlowMod,
+    change: &mut FlowMod,
     topology: &Topology,
     flight: &Flight,
 ) -> Result<Hopped, ChangeError>
-    requires { change.now.command ≡ Command.Add }
+    requires { change.old.command ≡ Command.Add }
 {
     let table = table(alloc, change)?;
     assert!(rt; in_range(flight.history.newest()));
@@ -92,9 +92,9 @@ fn hopped(rt: &impl Abort, alloc: Global, hops: u64) -> Option<Hopped> {
         links: &[((1, 2), (2, 1))],
     };
     let topology = topology(rt, alloc, two)?;
-    let change = two_ways(alloc).ok()?;
+    let mut change = two_ways(alloc).ok()?;
     let flight = entering(alloc, hops);
-    hopped_by(rt, alloc, &change, &topology, &flight).ok()
+    hopped_by(rt, alloc, &mut change, &topology, &flight).ok()
 }
 
 #[test]

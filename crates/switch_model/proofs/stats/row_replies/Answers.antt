@@ -2,7 +2,6 @@ use Rattle.std.proofs.Common.{List, ℕ, subst}
 use Rattle.std.proofs.lemmas.Result.{IfOk-weaker}
 use Rattle.nk_values.specs.declared.row.Row.{Row}
 use Rattle.nk_values.specs.Members.{IsIn}
-use Rattle.openflow_wire.specs.declared.message.Message.{Message}
 use Rattle.switch_model.specs.Stats.{AreReplies, AreTold, IsOfTable, deletion}
 use Rattle.switch_model.proofs.StatsLaws.{told, told-few, picked-distinct}
 use Rattle.switch_model.proofs.stats.row_replies.Goals as goal

@@ -1,4 +1,4 @@
-use Rattle.std.proofs.Common.{◌≡◌, List, Vec, Global, ◌∷◌, ◌++◌, [], ◌∙◌, true, false, ap, subst, sym, drop, ◌+◌}
+use Rattle.std.proofs.Common.{◌≡◌, List, Vec, Global, ◌∷◌, ◌++◌, [], ◌∙◌, ap, subst, sym, drop, ◌+◌}
 use Rattle.nk_values.specs.declared.row.Row.{Row}
 use Rattle.switch_model.proofs.StatsLaws.{GoesOn, step-picked, step-past, step-ended}
 use Rattle.switch_model.proofs.stats.rows_meant.Goals.{then-is_meant+in_ok-copy+in_ok-push, else-is_meant}

@@ -1,4 +1,4 @@
-use Rattle.std.proofs.Common.{List, ◌∷◌, ◌++◌, [], ◌∙◌, ap, arith}
+use Rattle.std.proofs.Common.{◌∷◌, ◌++◌, [], ◌∙◌, ap, arith}
 use Rattle.openflow_wire.specs.declared.flow_stats.FlowStats.{FlowStats}
 use Rattle.openflow_wire.specs.FlowStats.{entry_len}
 use Rattle.switch_model.proofs.StatsLaws.{step-tells, step-len}
