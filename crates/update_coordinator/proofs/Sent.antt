@@ -7,7 +7,7 @@ use Rattle.openflow_wire.specs.Writing.{Fits}
 use Rattle.barrier_tracker.specs.declared.tracker.Awaited.TheVariants as awaited
 use Rattle.update_plan.specs.declared.cursor.Cursor.{Cursor}
 use Rattle.update_plan.specs.declared.cursor.Span.{Span}
-use Rattle.update_plan.specs.declared.reading.Read.{Read}
+use Rattle.update_coordinator.specs.declared.batch.Read.{Read}
 use Rattle.update_coordinator.specs.Controls.{Control, Site, Order, Change, Fence, orders_of, unsent, batch_at, unsent_at}
 use Rattle.update_coordinator.specs.Kept.{IsControl}
 use Rattle.update_coordinator.specs.Sending.{went, expected, MaySend, IsSent}

@@ -1,7 +1,7 @@
 //! The batch of a phase, read off the rows of the policies.
 ghost use Rattle.std.specs.Prelude.{◌≡◌, ◌<◌, [], ◌∷◌, ◌+◌, ℕ, Some, drop, length, slice_get, IfOk, IfNone, IfSome, option_map};
 ghost use Rattle.update_plan.specs.declared.cursor.Cursor.{Cursor as CursorValue};
-ghost use Rattle.update_plan.specs.Reading.{cursor_at};
+ghost use Rattle.update_plan.specs.Reading.{cursor_at, left_by};
 ghost use Rattle.update_plan.specs.declared.cursor.Span.{Span as SpanValue};
 ghost use Rattle.update_coordinator.specs.Batches.{version_at, wipe};
 ghost use Rattle.update_coordinator.specs.Reading.{left_in, share_in, coming_in, going_in, begun_again, AreBetween};
@@ -10,9 +10,16 @@ use crate::phase::Phase;
 use nk_values::{ANY_PORT, Actions, Command, FlowMod, Pattern, Rows};
 use session_core::Move;
 use std::alloc::{AllocError, Global};
-use update_plan::{Cursor, Read, Share, Span, read_next};
+use update_plan::{Cursor, Share, Span, mod_of, read_next};
 
-// Reads the next flow mod of a phase's batch at a switch, of which `sent` went out.
+/// The next flow mod of a batch, and the cursor after it.
+#[derive(Drop)]
+pub(crate) struct Read {
+    pub(crate) change: FlowMod,
+    pub(crate) cursor: Cursor,
+}
+
+// Reads the next flow mod of a phase's batch at a switch, of which `next` went out.
 pub(crate) fn read_in(
     alloc: Global,
     versions: &[Rows],
@@ -34,16 +41,38 @@ pub(crate) fn read_in(
         | Phase::Drain(_)
         | Phase::Clean(_)
         | Phase::Tidy(_)
-        | Phase::Sweep(_, _) => read_next(
-            alloc,
-            cursor,
-            share_in(phase),
-            coming_in(versions, phase),
-            going_in(versions, phase),
-            sw,
-            span,
-        ),
+        | Phase::Sweep(_, _) => read_row(alloc, versions, phase, sw, cursor, span),
     }
+}
+
+// Reads the next flow mod of a batch of rows.
+fn read_row(
+    alloc: Global,
+    versions: &[Rows],
+    phase: Phase,
+    sw: u16,
+    cursor: Cursor,
+    span: Span,
+) -> Result<Option<Read>, AllocError>
+    requires { AreBetween versions.now sw span }
+    ensures none { IfOk result (λ r. IfNone r (left_by cursor (share_in phase) (coming_in versions.now phase) (going_in versions.now phase) sw ≡ [])) }
+    ensures some { IfOk result (λ r. IfSome r (λ x. left_by cursor (share_in phase) (coming_in versions.now phase) (going_in versions.now phase) sw ≡ x.change ∷ left_by x.cursor (share_in phase) (coming_in versions.now phase) (going_in versions.now phase) sw)) }
+{
+    let next = read_next(
+        cursor,
+        share_in(phase),
+        coming_in(versions, phase),
+        going_in(versions, phase),
+        sw,
+        span,
+    );
+    let Some(read) = next else {
+        return Ok(None);
+    };
+    Ok(Some(Read {
+        change: mod_of(alloc, read.adds, read.row)?,
+        cursor: read.cursor,
+    }))
 }
 
 // Reads the flow mod that empties a table, where it did not go out yet.

@@ -1,12 +1,11 @@
 //! What goes to a switch, message by message.
 ghost use Rattle.std.specs.Prelude.{IsTrue, ◌↔◌, ◌≡◌, ◌<◌, None, Some, IfOk, OnErr, IfNone, IfSome, length, slice_get};
 
-use crate::batch::read_in;
+use crate::batch::{Read, read_in};
 use crate::coordinator::Coordinator;
 use crate::sites::{change, fence, greet};
 use openflow_wire::Message;
 use std::alloc::{AllocError, Global};
-use update_plan::Read;
 
 impl Coordinator {
     ghost use Rattle.std.specs.Prelude.{false, true};

@@ -12,6 +12,6 @@ mod switch_plan;
 pub use batch::{Batch, Batches};
 pub use cursor::{Cursor, Place, Share, Span};
 pub use places::internal;
-pub use planning::{plan, plan_at, plan_for, round_count};
+pub use planning::{mod_of, plan, plan_at, plan_for, round_count};
 pub use reading::{Read, read_next};
 pub use switch_plan::{Plan, SwitchPlan};

@@ -1,131 +1,127 @@
 //! A batch read off the rows of two policies, one flow mod after another.
-ghost use Rattle.std.specs.Prelude.{◌≡◌, [], ◌∷◌, true, false, IfOk, IfNone, IfSome, option_map};
+ghost use Rattle.std.specs.Prelude.{◌≡◌, [], ◌∷◌, true, false, IfNone, IfSome, option_map};
 ghost use Rattle.openflow_wire.specs.RowChanges.{mod_of};
 ghost use Rattle.update_plan.specs.Reading.{ports_of, side, side_from, left_by, IsSpan};
 
 use crate::cursor::{Cursor, Place, Share, Span};
 use crate::places::{place_from, row_at};
-use crate::planning::mod_of;
-use nk_values::{FlowMod, Rows};
-use std::alloc::{AllocError, Global};
+use nk_values::{Row, Rows};
 
-/// The next flow mod of a batch, and the cursor after it.
-#[derive(Drop)]
-pub struct Read {
-    pub change: FlowMod,
+/// The row that comes or goes next in a batch, and the cursor after it.
+#[derive(Clone, Copy)]
+pub struct Read<'a> {
+    /// Whether the row comes. If not, it goes.
+    pub adds: bool,
+    pub row: &'a Row,
     pub cursor: Cursor,
 }
 
-// The next flow mod of one side of a batch, and the place after it.
-#[derive(Drop)]
-struct SideRead {
-    change: FlowMod,
+// The next row of one side of a batch, and the place after it.
+#[derive(Clone, Copy)]
+struct SideRead<'a> {
+    row: &'a Row,
     at: Place,
 }
 
-/// Reads the next flow mod of a batch, in which these rows come and those go at a switch.
-pub fn read_next(
-    alloc: Global,
+/// Reads the row of the next flow mod of a batch, in which these rows come and those go at a switch.
+pub fn read_next<'a>(
     cursor: Cursor,
     share: Share,
-    new: Option<&Rows>,
-    old: Option<&Rows>,
+    new: Option<&'a Rows>,
+    old: Option<&'a Rows>,
     sw: u16,
     span: Span,
-) -> Result<Option<Read>, AllocError>
+) -> Option<Read<'a>>
     requires new { IsSpan span sw (ports_of (option_map (λ r. r.now) new)) }
     requires old { IsSpan span sw (ports_of (option_map (λ r. r.now) old)) }
-    ensures none { IfOk result (λ r. IfNone r (left_by cursor share (option_map (λ r. r.now) new.entry) (option_map (λ r. r.now) old.entry) sw ≡ [])) }
-    ensures some { IfOk result (λ r. IfSome r (λ x. left_by cursor share (option_map (λ r. r.now) new.entry) (option_map (λ r. r.now) old.entry) sw ≡ x.change ∷ left_by x.cursor share (option_map (λ r. r.now) new.entry) (option_map (λ r. r.now) old.entry) sw)) }
+    ensures none { IfNone result (left_by cursor share (option_map (λ r. r.now) new.entry) (option_map (λ r. r.now) old.entry) sw ≡ []) }
+    ensures some { IfSome result (λ x. left_by cursor share (option_map (λ r. r.now) new.entry) (option_map (λ r. r.now) old.entry) sw ≡ mod_of x.adds x.row.now ∷ left_by x.cursor share (option_map (λ r. r.now) new.entry) (option_map (λ r. r.now) old.entry) sw) }
 {
     if cursor.goes {
-        return read_going(alloc, cursor.at, share, old, sw, span);
+        return read_going(cursor.at, share, old, sw, span);
     }
-    if let Some(read) = read_side(alloc, cursor.at, share, true, new, sw, span)? {
-        return Ok(Some(Read {
-            change: read.change,
+    if let Some(read) = read_side(cursor.at, share, true, new, sw, span) {
+        return Some(Read {
+            adds: true,
+            row: read.row,
             cursor: Cursor {
                 goes: false,
                 at: read.at,
             },
-        }));
+        });
     }
-    read_first_going(alloc, share, old, sw, span)
+    read_first_going(share, old, sw, span)
 }
 
-// Reads the first flow mod of what goes.
+// Reads the row of the first flow mod of what goes.
 #[tactic(auto, using(crate::proofs::Cursors::goes_first))]
-fn read_first_going(
-    alloc: Global,
+fn read_first_going<'a>(
     share: Share,
-    old: Option<&Rows>,
+    old: Option<&'a Rows>,
     sw: u16,
     span: Span,
-) -> Result<Option<Read>, AllocError>
+) -> Option<Read<'a>>
     requires { IsSpan span sw (ports_of (option_map (λ r. r.now) old)) }
-    ensures none { IfOk result (λ r. IfNone r (side share false (option_map (λ r. r.now) old.entry) sw ≡ [])) }
-    ensures some { IfOk result (λ r. IfSome r (λ x. (x.cursor.goes ≡ true) × (side share false (option_map (λ r. r.now) old.entry) sw ≡ x.change ∷ side_from share false (option_map (λ r. r.now) old.entry) sw x.cursor.at))) }
+    ensures none { IfNone result (side share false (option_map (λ r. r.now) old.entry) sw ≡ []) }
+    ensures some { IfSome result (λ x. (x.adds ≡ false) × (x.cursor.goes ≡ true) × (side share false (option_map (λ r. r.now) old.entry) sw ≡ mod_of false x.row.now ∷ side_from share false (option_map (λ r. r.now) old.entry) sw x.cursor.at)) }
 {
     let at = Place {
         port: span.first,
         row: 0,
     };
-    read_going(alloc, at, share, old, sw, span)
+    read_going(at, share, old, sw, span)
 }
 
-// Reads the next flow mod of what goes.
-fn read_going(
-    alloc: Global,
+// Reads the row of the next flow mod of what goes.
+fn read_going<'a>(
     at: Place,
     share: Share,
-    old: Option<&Rows>,
+    old: Option<&'a Rows>,
     sw: u16,
     span: Span,
-) -> Result<Option<Read>, AllocError>
+) -> Option<Read<'a>>
     requires { IsSpan span sw (ports_of (option_map (λ r. r.now) old)) }
-    ensures none { IfOk result (λ r. IfNone r (side_from share false (option_map (λ r. r.now) old.entry) sw at ≡ [])) }
-    ensures some { IfOk result (λ r. IfSome r (λ x. (x.cursor.goes ≡ true) × (side_from share false (option_map (λ r. r.now) old.entry) sw at ≡ x.change ∷ side_from share false (option_map (λ r. r.now) old.entry) sw x.cursor.at))) }
+    ensures none { IfNone result (side_from share false (option_map (λ r. r.now) old.entry) sw at ≡ []) }
+    ensures some { IfSome result (λ x. (x.adds ≡ false) × (x.cursor.goes ≡ true) × (side_from share false (option_map (λ r. r.now) old.entry) sw at ≡ mod_of false x.row.now ∷ side_from share false (option_map (λ r. r.now) old.entry) sw x.cursor.at)) }
 {
-    let Some(read) = read_side(alloc, at, share, false, old, sw, span)? else {
-        return Ok(None);
-    };
-    Ok(Some(Read {
-        change: read.change,
+    let read = read_side(at, share, false, old, sw, span)?;
+    Some(Read {
+        adds: false,
+        row: read.row,
         cursor: Cursor {
             goes: true,
             at: read.at,
         },
-    }))
+    })
 }
 
-// Reads the next flow mod of one side.
-fn read_side(
-    alloc: Global,
+// Reads the row of the next flow mod of one side.
+fn read_side<'a>(
     at: Place,
     share: Share,
     adds: bool,
-    rows: Option<&Rows>,
+    rows: Option<&'a Rows>,
     sw: u16,
     span: Span,
-) -> Result<Option<SideRead>, AllocError>
+) -> Option<SideRead<'a>>
     requires { IsSpan span sw (ports_of (option_map (λ r. r.now) rows)) }
-    ensures none { IfOk result (λ r. IfNone r (side_from share adds (option_map (λ r. r.now) rows.entry) sw at ≡ [])) }
-    ensures some { IfOk result (λ r. IfSome r (λ x. side_from share adds (option_map (λ r. r.now) rows.entry) sw at ≡ x.change ∷ side_from share adds (option_map (λ r. r.now) rows.entry) sw x.at)) }
+    ensures none { IfNone result (side_from share adds (option_map (λ r. r.now) rows.entry) sw at ≡ []) }
+    ensures some { IfSome result (λ x. side_from share adds (option_map (λ r. r.now) rows.entry) sw at ≡ mod_of adds x.row.now ∷ side_from share adds (option_map (λ r. r.now) rows.entry) sw x.at) }
 {
     let Some(rows) = rows else {
-        return Ok(None);
+        return None;
     };
     let Some(found) = place_from(at, share, adds, rows, sw, span) else {
-        return Ok(None);
+        return None;
     };
     let Some(row) = row_at(found, share, adds, rows, sw) else {
-        return Ok(None);
+        return None;
     };
-    Ok(Some(SideRead {
-        change: mod_of(alloc, adds, row)?,
+    Some(SideRead {
+        row,
         at: Place {
             port: found.port,
             row: found.row + 1,
         },
-    }))
+    })
 }
