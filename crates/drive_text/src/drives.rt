@@ -1,5 +1,5 @@
 //! The texts of drives.
-ghost use Rattle.std.specs.Prelude.{◌≡◌, ◌++◌, OnOk, IfOk, option_map, string_bytes};
+ghost use Rattle.std.specs.Prelude.{◌≡◌, ◌++◌, OnOk, IfOk, option_map, string_bytes, codes};
 ghost use Rattle.openflow_wire.specs.Writing.{Fits};
 ghost use Rattle.drive_journal.specs.Journals.{AreWritable, IsWritable};
 ghost use Rattle.drive_text.specs.Drives.{drive_text, message_text, steering_line, steering_text, steerings_text};
@@ -67,12 +67,11 @@ fn put_line(
     requires { IsWritable event.now }
     ensures { OnOk result (string_bytes out.new ≡ string_bytes out.old ++ steering_line switches.now event.now) }
 {
-    out.push_str("e ")?;
     put_event(alloc, out, switches, event)?;
     out.push_str("\n")
 }
 
-// Puts an event at the end.
+// Puts the line of an event at the end, without its end.
 fn put_event(
     alloc: Global,
     out: &mut String,
@@ -80,10 +79,10 @@ fn put_event(
     event: &Steering,
 ) -> Result<(), AllocError>
     requires { IsWritable event.now }
-    ensures { OnOk result (string_bytes out.new ≡ string_bytes out.old ++ steering_text switches.now event.now) }
+    ensures { OnOk result (string_bytes out.new ≡ string_bytes out.old ++ (codes "e " ++ steering_text switches.now event.now)) }
 {
     match event {
-        Steering::Begin => out.push_str(EventWord::Begin.text()),
+        Steering::Begin => out.push_str("e begin"),
         Steering::Send(place, message) => {
             put_named(out, EventWord::Send, switches, *place)?;
             put_message(alloc, out, message)
