@@ -4,6 +4,7 @@
 mod flight;
 mod hopping;
 mod laws;
+mod sending;
 mod walking;
 
 pub use flight::{Flight, Hopped, Walk};
