@@ -1,9 +1,9 @@
 // The texts of histories.
-ghost use Rattle.std.specs.Prelude.{◌≡◌, ◌++◌, OnOk, IfOk, string_bytes};
+ghost use Rattle.std.specs.Prelude.{◌≡◌, ◌++◌, [], true, OnOk, IfOk, string_bytes};
 ghost use Rattle.value_text.specs.Histories.{changed, more_fields, braced, step_text, steps_text, path_text, history_text};
 
 use crate::text::Text;
-use crate::values::{put_field, put_place};
+use crate::values::{put_ascii, put_field, put_place};
 use nk_values::{Field, History, Packet};
 use std::alloc::{AllocError, Global};
 
@@ -69,9 +69,28 @@ fn put_step(
 ) -> Result<(), AllocError>
     ensures { OnOk result (string_bytes out.new ≡ string_bytes out.old ++ step_text before.now packet.now) }
 {
-    out.push_str(">")?;
+    put_ascii(out, b'>')?;
     put_place(out, packet.sw, packet.pt)?;
+    if keeps_header(before, packet) {
+        return Ok(());
+    }
     put_braced(out, packet, &changed(alloc, before, packet)?)
+}
+
+// Whether a packet has the header of the one before.
+fn keeps_header(before: &Packet, packet: &Packet) -> bool
+    ensures { result ≡ true → changed before.now packet.now ≡ [] }
+{
+    let old = &before.header;
+    let new = &packet.header;
+    old.eth_typ == new.eth_typ
+        && old.ip_proto == new.ip_proto
+        && old.eth_src == new.eth_src
+        && old.eth_dst == new.eth_dst
+        && old.ip4_src == new.ip4_src
+        && old.ip4_dst == new.ip4_dst
+        && old.tcp_src_port == new.tcp_src_port
+        && old.tcp_dst_port == new.tcp_dst_port
 }
 
 // The header fields in which a packet differs from the one before.
@@ -92,10 +111,10 @@ fn put_braced(out: &mut String, packet: &Packet, fields: &[Field]) -> Result<(),
     let Some((first, more)) = fields.split_first() else {
         return Ok(());
     };
-    out.push_str("{")?;
+    put_ascii(out, b'{')?;
     put_field(out, *first, packet.get(*first))?;
     put_more_fields(out, packet, more)?;
-    out.push_str("}")
+    put_ascii(out, b'}')
 }
 
 // Puts fields at the end, each after a comma.
@@ -103,7 +122,7 @@ fn put_more_fields(out: &mut String, packet: &Packet, fields: &[Field]) -> Resul
     ensures { OnOk result (string_bytes out.new ≡ string_bytes out.old ++ more_fields packet.now fields.now) }
 {
     for field in fields {
-        out.push_str(",")?;
+        put_ascii(out, b',')?;
         put_field(out, *field, packet.get(*field))?;
     }
     Ok(())

@@ -7,6 +7,7 @@ ghost use Rattle.value_text.specs.Histories.{history_text};
 ghost use Rattle.value_text.specs.Traces.{Ascends, AreLinesOf};
 
 use crate::histories::put_history;
+use crate::values::put_ascii;
 use nk_values::History;
 use std::alloc::{AllocError, Global};
 
@@ -59,7 +60,7 @@ pub fn put_lines(out: &mut String, lines: &[String]) -> Result<(), AllocError>
 {
     for line in lines {
         out.push_str(line)?;
-        out.push_str("\n")?;
+        put_ascii(out, b'\n')?;
     }
     Ok(())
 }

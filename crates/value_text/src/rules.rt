@@ -4,7 +4,7 @@ ghost use Rattle.value_text.specs.Values.{line};
 ghost use Rattle.value_text.specs.Rules.{in_text, vlan_text, fixed_text, address_of, frame_text, network_text, pattern_text, set_text, action_text, more_actions, actions_text, row_text, rows_text, port_text, switch_text, band_text, head_text, version_text, versions_text, rules_text};
 
 use crate::text::Text;
-use crate::values::{put_field, put_number, put_value};
+use crate::values::{put_ascii, put_field, put_number, put_value};
 use nk_values::{Action, Band, Field, Pattern, PortRows, Prefix, Row, Rows, UNTAGGED};
 use policy_rows::Version;
 use std::alloc::{AllocError, Global};
@@ -103,7 +103,7 @@ pub fn put_row(out: &mut String, row: &Row) -> Result<(), AllocError>
     put_pattern(out, &row.pattern)?;
     out.push_str(" : ")?;
     put_actions(out, row.actions.as_slice())?;
-    out.push_str("\n")
+    put_ascii(out, b'\n')
 }
 
 // Puts what a pattern fixes at the end.
@@ -196,7 +196,7 @@ fn put_fixed(out: &mut String, field: Field, number: Option<u64>) -> Result<(), 
     match number {
         None => Ok(()),
         Some(number) => {
-            out.push_str(" ")?;
+            put_ascii(out, b' ')?;
             put_field(out, field, number)
         }
     }
@@ -244,6 +244,6 @@ fn put_set(out: &mut String, field: Field, number: u64) -> Result<(), AllocError
 {
     out.push_str("set ")?;
     out.push_str(field.name())?;
-    out.push_str(" ")?;
+    put_ascii(out, b' ')?;
     put_value(out, field, number)
 }

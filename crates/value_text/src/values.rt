@@ -5,6 +5,14 @@ ghost use Rattle.value_text.specs.Values.{hex_digit, hex_byte, hex_half, colon_t
 use nk_values::{Field, Packet};
 use std::alloc::AllocError;
 
+// Puts an ASCII character at the end.
+pub(crate) fn put_ascii(out: &mut String, character: u8) -> Result<(), AllocError>
+    requires { character < 128 }
+    ensures { OnOk result (string_bytes out.new ≡ string_bytes out.old ++ character ∷ []) }
+{
+    out.push(char::from(character))
+}
+
 /// Puts a number in decimal at the end.
 pub fn put_number(out: &mut String, number: u64) -> Result<(), AllocError>
     ensures { OnOk result (string_bytes out.new ≡ string_bytes out.old ++ decimal number) }
@@ -20,7 +28,7 @@ fn put_digit(out: &mut String, digit: u64) -> Result<(), AllocError>
     requires { digit < 10 }
     ensures { OnOk result (string_bytes out.new ≡ string_bytes out.old ++ (48 + digit) ∷ []) }
 {
-    out.push(char::from(48 + digit as u8))
+    put_ascii(out, 48 + digit as u8)
 }
 
 // A digit below 16.
@@ -36,8 +44,8 @@ fn hex_digit(digit: u8) -> u8
 pub fn put_hex_byte(out: &mut String, number: u64) -> Result<(), AllocError>
     ensures { OnOk result (string_bytes out.new ≡ string_bytes out.old ++ hex_byte number) }
 {
-    out.push(char::from(hex_digit((number / 16 % 16) as u8)))?;
-    out.push(char::from(hex_digit((number % 16) as u8)))
+    put_ascii(out, hex_digit((number / 16 % 16) as u8))?;
+    put_ascii(out, hex_digit((number % 16) as u8))
 }
 
 // Puts the last three at the end.
@@ -45,9 +53,9 @@ fn put_colon_triple(out: &mut String, number: u64) -> Result<(), AllocError>
     ensures { OnOk result (string_bytes out.new ≡ string_bytes out.old ++ colon_triple number) }
 {
     put_hex_byte(out, number / 65536)?;
-    out.push_str(":")?;
+    put_ascii(out, b':')?;
     put_hex_byte(out, number / 256)?;
-    out.push_str(":")?;
+    put_ascii(out, b':')?;
     put_hex_byte(out, number)
 }
 
@@ -55,7 +63,7 @@ fn put_mac(out: &mut String, number: u64) -> Result<(), AllocError>
     ensures { OnOk result (string_bytes out.new ≡ string_bytes out.old ++ mac_text number) }
 {
     put_colon_triple(out, number / 16777216)?;
-    out.push_str(":")?;
+    put_ascii(out, b':')?;
     put_colon_triple(out, number)
 }
 
@@ -64,7 +72,7 @@ fn put_dotted_pair(out: &mut String, number: u64) -> Result<(), AllocError>
     ensures { OnOk result (string_bytes out.new ≡ string_bytes out.old ++ dotted_pair number) }
 {
     put_number(out, number / 256 % 256)?;
-    out.push_str(".")?;
+    put_ascii(out, b'.')?;
     put_number(out, number % 256)
 }
 
@@ -72,7 +80,7 @@ fn put_ip(out: &mut String, number: u64) -> Result<(), AllocError>
     ensures { OnOk result (string_bytes out.new ≡ string_bytes out.old ++ ip_text number) }
 {
     put_dotted_pair(out, number / 65536)?;
-    out.push_str(".")?;
+    put_ascii(out, b'.')?;
     put_dotted_pair(out, number)
 }
 
@@ -106,7 +114,7 @@ pub fn put_field(out: &mut String, field: Field, number: u64) -> Result<(), Allo
     ensures { OnOk result (string_bytes out.new ≡ string_bytes out.old ++ field_text field number) }
 {
     out.push_str(field.name())?;
-    out.push_str("=")?;
+    put_ascii(out, b'=')?;
     put_value(out, field, number)
 }
 
@@ -115,7 +123,7 @@ pub fn put_place(out: &mut String, sw: u64, pt: u64) -> Result<(), AllocError>
     ensures { OnOk result (string_bytes out.new ≡ string_bytes out.old ++ place_text sw pt) }
 {
     put_number(out, sw)?;
-    out.push_str(":")?;
+    put_ascii(out, b':')?;
     put_number(out, pt)
 }
 
@@ -132,7 +140,7 @@ pub fn put_fields(out: &mut String, packet: &Packet, fields: &[Field]) -> Result
     ensures { OnOk result (string_bytes out.new ≡ string_bytes out.old ++ fields_text packet.now fields.now) }
 {
     for field in fields {
-        out.push_str(" ")?;
+        put_ascii(out, b' ')?;
         put_field(out, *field, packet.get(*field))?;
     }
     Ok(())

@@ -9,4 +9,4 @@ returns c =
     let first = string_bytes c.put_colon_triple.new.out in
     let end = string_bytes c.put_colon_triple-2.new.out in
     then_put r (string_bytes c.args.out.now) first end (colon_triple (c.args.number / 16777216)) (codes ":" ++ colon_triple c.args.number) c.in_ok-put_colon_triple.ensures
-    (then_put r first (string_bytes c.push_str.new.self) end (codes ":") (colon_triple c.args.number) c.in_ok-push_str.ensures.bytes c.put_colon_triple-2.ensures)
+    (then_put r first (string_bytes c.put_ascii.new.out) end (codes ":") (colon_triple c.args.number) c.in_ok-put_ascii.ensures c.put_colon_triple-2.ensures)
