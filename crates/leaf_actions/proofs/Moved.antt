@@ -69,6 +69,9 @@ changed_none y z (f ∷ fs) h =
 same_after : (x y : Packet) (c : List Lit) → Same y x → Moves c → Same y (apply c x)
 same_after x y c s m f i = s f i ∙ sym (same_move c x m f i)
 
+pub no_changes : (x : Packet) (c : List Lit) → Moves c → changed x (apply c x) settable ≡ []
+no_changes x c m = changed_none x (apply c x) settable (same_after x x c (λ f i. refl) m)
+
 listed_moved : (v : PortView) (x y : Packet) (k : PortKind) (rs : List Route) → Same y x → ((r : Route) → IsIn rs r → Moves r.copy) → listed v x y k rs ≡ moved v k rs
 listed_moved v x y k [] s m = refl
 listed_moved v x y k (r ∷ rs) s m =

@@ -1,10 +1,13 @@
 // The actions of a leaf with one copy.
-ghost use Rattle.std.specs.Prelude.{◌≡◌, IfOk, [], ◌∷◌};
+ghost use Rattle.std.specs.Prelude.{◌≡◌, ◌++◌, IfOk, OnOk, [], ◌∷◌};
 ghost use Rattle.fdd_nodes.specs.Cells.{IsValid};
-ghost use Rattle.leaf_actions.specs.Listing.{listed};
+ghost use Rattle.fdd_nodes.specs.Trees.{apply};
+ghost use Rattle.leaf_actions.specs.Listing.{changed, listed};
 ghost use Rattle.leaf_actions.specs.Routes.{routes_of};
+ghost use Rattle.leaf_actions.specs.Settable.{settable};
 
 use crate::made::{port_number, push_changes, push_tag};
+use crate::moves::moves;
 use crate::order::out_of;
 use crate::view::PortView;
 use fdd_nodes::{Assignments, Cell};
@@ -25,9 +28,20 @@ pub(crate) fn listed_alone(
         return Ok(Actions::new(alloc));
     };
     let mut actions = Actions::of(Vec::with_capacity(alloc, 2)?);
-    let known = cell.generic();
-    push_changes(&mut actions, known, &copy.apply(known))?;
+    push_changes_of(&mut actions, cell, copy)?;
     push_tag(&mut actions, view.stamp, view.kind, port.kind)?;
     actions.push(Action::Output(port_number(view, port.pt)))?;
     Ok(actions)
+}
+
+// Adds what a copy changes in the packets of a cell. Most copies set no header field.
+fn push_changes_of(actions: &mut Actions, cell: &Cell, copy: &Assignments) -> Result<(), AllocError>
+    requires { IsValid cell.now }
+    ensures { OnOk result (actions.new ≡ actions.old ++ changed cell.now (apply copy.now cell.now) settable) }
+{
+    if moves(copy.lits()) {
+        return Ok(());
+    }
+    let known = cell.generic();
+    push_changes(actions, known, &copy.apply(known))
 }
