@@ -1,5 +1,5 @@
 // The texts of numbers and fields.
-ghost use Rattle.std.specs.Prelude.{◌≡◌, ◌+◌, ◌++◌, ◌<◌, ◌∷◌, [], OnOk, string_bytes, decimal};
+ghost use Rattle.std.specs.Prelude.{◌≡◌, ◌+◌, ◌++◌, ◌<◌, ◌≤◌, ◌∷◌, [], OnOk, string_bytes, decimal};
 ghost use Rattle.value_text.specs.Values.{hex_digit, hex_byte, hex_half, colon_triple, mac_text, dotted_pair, ip_text, value_text, field_text, fields_text, packet_text, place_text};
 
 use nk_values::{Field, Packet};
@@ -18,9 +18,22 @@ pub fn put_number(out: &mut String, number: u64) -> Result<(), AllocError>
     ensures { OnOk result (string_bytes out.new ≡ string_bytes out.old ++ decimal number) }
 {
     if number < 10 {
-        return put_digit(out, number);
+        put_digit(out, number)
+    } else {
+        put_digits(out, number)
     }
-    put_number(out, number / 10)?;
+}
+
+// Puts a number of two digits or more at the end.
+fn put_digits(out: &mut String, number: u64) -> Result<(), AllocError>
+    requires { 10 ≤ number }
+    ensures { OnOk result (string_bytes out.new ≡ string_bytes out.old ++ decimal number) }
+{
+    if number < 100 {
+        put_digit(out, number / 10)?;
+    } else {
+        put_digits(out, number / 10)?;
+    }
     put_digit(out, number % 10)
 }
 
