@@ -7,7 +7,8 @@ use Rattle.nk_values.specs.declared.packet.Packet.{Packet}
 use Rattle.nk_values.specs.declared.lit.Lit.{Lit}
 use Rattle.nk_values.specs.Members.{IsIn}
 use Rattle.nk_values.specs.Packets.{get}
-use Rattle.fdd_nodes.specs.Cells.{free}
+use Rattle.nk_values.specs.Ranges.{IsValue}
+use Rattle.fdd_nodes.specs.Cells.{free, IsValid}
 use Rattle.fdd_nodes.specs.Trees.{apply}
 use Rattle.leaf_actions.specs.declared.route.Route.{Route}
 use Rattle.leaf_actions.specs.declared.made.ActionsFault.{ActionsFault}
@@ -52,6 +53,10 @@ all_kept x y (f ∷ fs) h = let e : loses x y f ≡ false = lost_none (get x f) 
 
 pub of_keeps : (x y : Packet) → Keeps x y → keeps x y ≡ true
 of_keeps x y h = all_kept x y settable h.each
+
+-- what becomes another number is then fixed, and in range
+pub kept_value : (x y : Packet) (f : Field) → keeps x y ≡ true → IsValid y → IsIn settable f → get x f ≢ get y f → IsValue f (get y f)
+kept_value x y f k v i n = v.at f (λ e. (keeps_of x y k).each f i (λ d. n (d ∙ sym e)) e)
 
 -- whether a copy changes a field
 changed_open : (m n : ℕ) → (m == free) && not (n == free) ≡ true → (m ≡ free) × (n ≢ free)

@@ -10,4 +10,5 @@ pub mod LoneCopies
 pub mod Moved
 pub mod Routed
 pub mod SentLaws
+pub mod Stayed
 pub mod Unique

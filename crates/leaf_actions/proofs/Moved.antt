@@ -28,7 +28,7 @@ use Rattle.leaf_actions.proofs.ActionLists.{Ready}
 use Rattle.leaf_actions.proofs.Chained.{of_keeps}
 use Rattle.leaf_actions.proofs.Routed.{listed_known}
 
-not_pt : (f : Field) → IsIn settable f → f ≢ Pt
+pub not_pt : (f : Field) → IsIn settable f → f ≢ Pt
 not_pt f (inl e) d = let k : EthSrc ≡ Pt = e ∙ d in cc
 not_pt f (inr (inl e)) d = let k : EthDst ≡ Pt = e ∙ d in cc
 not_pt f (inr (inr (inl e))) d = let k : Ip4Src ≡ Pt = e ∙ d in cc
@@ -52,7 +52,7 @@ unchanged : (b : Bool) → b && not b ≡ false
 unchanged true = refl
 unchanged false = refl
 
-count_none : (p : Field → Bool) (fs : List Field) → ((f : Field) → IsIn fs f → p f ≡ false) → count_of p fs ≡ 0
+pub count_none : (p : Field → Bool) (fs : List Field) → ((f : Field) → IsIn fs f → p f ≡ false) → count_of p fs ≡ 0
 count_none p [] h = refl
 count_none p (f ∷ fs) h = ap (λ b. bit b + count_of p fs) (h f (inl refl)) ∙ ap (λ n. 0 + n) (count_none p fs (λ g i. h g (inr i)))
 

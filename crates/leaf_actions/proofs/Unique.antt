@@ -27,7 +27,7 @@ use Rattle.leaf_actions.specs.Views.{port_in}
 use Rattle.leaf_actions.proofs.Routed.{IsRouteOf, listed_known, in_contains}
 
 -- what is told apart by an order
-own : {X : Type 0} (R : X → X → Ordering) → IsTotalOrder R → (x : X) → R x x ≡ Equal
+pub own : {X : Type 0} (R : X → X → Ordering) → IsTotalOrder R → (x : X) → R x x ≡ Equal
 own R o x = split (R x x) (o.antisymm x x)
   where
     split : (c : Ordering) → c ≡ ordering_reverse c → c ≡ Equal

@@ -7,4 +7,5 @@ pub mod Moves
 pub mod Orders
 pub mod Routes
 pub mod Settable
+pub mod Staying
 pub mod Views

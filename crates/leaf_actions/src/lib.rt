@@ -10,6 +10,7 @@ mod order;
 mod pairs;
 mod route;
 mod settable;
+mod staying;
 mod view;
 
 pub use laws::{chains_have_no_first_pair, lists_are_one, lists_exclude_faults};

@@ -6,16 +6,16 @@ ghost use Rattle.nk_values.specs.Ranges.{IsValue};
 ghost use Rattle.nk_values.specs.Tags.{IsVlanId};
 ghost use Rattle.fdd_nodes.specs.Cells.{IsValid};
 ghost use Rattle.leaf_actions.specs.Acting.{ActsAs};
-ghost use Rattle.leaf_actions.specs.Chains.{keeps_fields, keeps, Climbs};
+ghost use Rattle.leaf_actions.specs.Chains.{keeps, Climbs};
 ghost use Rattle.leaf_actions.specs.Listing.{setting, change, changed, retagged, port_number, listed, IsActionList, Bars};
 ghost use Rattle.leaf_actions.specs.Settable.{AreSettable, settable};
 
 use crate::alone::listed_alone;
-use crate::fields::SETTABLE;
 use crate::moves::{all_move, moved};
 use crate::order::{climbs, listing};
 use crate::pairs::first_apart;
 use crate::route::Route;
+use crate::staying::{common_port, stayed};
 use crate::view::PortView;
 use fdd_nodes::{Cell, Leaf};
 use nk_values::{Action, Actions, Field, IN_PORT, Packet, PortKind};
@@ -72,6 +72,9 @@ pub fn actions(
     if let [copy] = copies {
         return Ok(listed_alone(alloc, cell, copy, view)?);
     }
+    if let Some(port) = common_port(cell, copies, view) {
+        return Ok(stayed(alloc, cell, copies, view, port)?);
+    }
     let routes = listing(alloc, cell, copies, view)?;
     if all_move(copies) {
         return Ok(moved(alloc, &routes, view)?);
@@ -121,26 +124,27 @@ pub(crate) fn push_changes(
     requires valid { IsValid next.now }
     ensures { OnOk result (actions.new ≡ actions.old ++ changed known.now next.now settable) }
 {
-    push_fields(actions, known, next, &SETTABLE)
-}
-
-fn push_fields(
-    actions: &mut Actions,
-    known: &Packet,
-    next: &Packet,
-    fields: &[Field],
-) -> Result<(), AllocError>
-    requires kept { keeps_fields known.now next.now fields.now ≡ true }
-    requires valid { IsValid next.now }
-    ensures { OnOk result (actions.new ≡ actions.old ++ changed known.now next.now fields.now) }
-{
-    for f in fields {
-        push_change(actions, *f, known.get(*f), next.get(*f))?;
-    }
-    Ok(())
+    let (old, new) = (&known.header, &next.header);
+    push_change(actions, Field::EthSrc, old.eth_src, new.eth_src)?;
+    push_change(actions, Field::EthDst, old.eth_dst, new.eth_dst)?;
+    push_change(actions, Field::Ip4Src, old.ip4_src, new.ip4_src)?;
+    push_change(actions, Field::Ip4Dst, old.ip4_dst, new.ip4_dst)?;
+    push_change(
+        actions,
+        Field::TcpSrcPort,
+        old.tcp_src_port,
+        new.tcp_src_port,
+    )?;
+    push_change(
+        actions,
+        Field::TcpDstPort,
+        old.tcp_dst_port,
+        new.tcp_dst_port,
+    )
 }
 
 // Adds what turns a number of a field into another.
+#[inline]
 fn push_change(actions: &mut Actions, f: Field, old: u64, new: u64) -> Result<(), AllocError>
     requires { old ≢ new → IsValue f new }
     ensures { OnOk result (actions.new ≡ actions.old ++ change f old new) }

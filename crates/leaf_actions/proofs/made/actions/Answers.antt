@@ -3,6 +3,7 @@ use Rattle.leaf_actions.proofs.ActionLists.{Ready, ready, action_list, acts_as, 
 use Rattle.leaf_actions.proofs.LoneCopies.{alone, only}
 use Rattle.leaf_actions.proofs.Moved.{moves_ready}
 use Rattle.leaf_actions.proofs.Fits.{actions_fit}
+use Rattle.leaf_actions.proofs.Stayed.{all_climb, stay_ready}
 use Rattle.leaf_actions.proofs.made.actions.Goals as goal
 
 made_ready : (c : goal.After-drop-routes-then-climbs) → Ready c.args.cell.now c.args.view.now c.args.leaf.now c.in_ok-listed.field-0
@@ -43,3 +44,18 @@ returns-then-all_move-clause-acts c = acts_as _ _ _ _ c.requires.settable c.requ
 
 pub returns-then-all_move-clause-fits : goal.returns-then-all_move-clause-fits
 returns-then-all_move-clause-fits c = actions_fit _ _ _ _ c.requires.stamp c.requires.valid (moved_ready c)
+
+pub stayed-requires-clause-climb : goal.stayed-requires-clause-climb
+stayed-requires-clause-climb c = all_climb c.args.view.now c.args.cell.now c.in-Some.port c.copies-copies.result.now c.in-Some.ensures
+
+stayed_ready : (c : goal.In_ok-stayed) → Ready c.args.cell.now c.args.view.now c.args.leaf.now c.in_ok-stayed.field-0
+stayed_ready c = stay_ready c.args.cell.now c.args.view.now c.in-Some.port c.args.leaf.now c.copies-copies.result.now _ c.copies-copies.ensures.list c.copies-copies.ensures.rising c.in-Some.ensures c.in_ok-stayed.ensures
+
+pub returns-in-Some-clause-list : goal.returns-in-Some-clause-list
+returns-in-Some-clause-list c = action_list _ _ _ _ (stayed_ready c)
+
+pub returns-in-Some-clause-acts : goal.returns-in-Some-clause-acts
+returns-in-Some-clause-acts c = acts_as _ _ _ _ c.requires.settable c.requires.stamp (stayed_ready c)
+
+pub returns-in-Some-clause-fits : goal.returns-in-Some-clause-fits
+returns-in-Some-clause-fits c = actions_fit _ _ _ _ c.requires.stamp c.requires.valid (stayed_ready c)
