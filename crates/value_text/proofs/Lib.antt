@@ -1,3 +1,4 @@
+mod Macs
 pub mod Puts
 pub mod SortLaws
 pub mod TextLaws

@@ -53,6 +53,10 @@ pattern_text p = in_text p.in_port ++ (vlan_text p.dl_vlan ++ (frame_text p ++ n
 abbrev pub set_text : Field → ℕ → List ℕ
 set_text f n = codes "set " ++ (name_of f ++ (codes " " ++ value_text f n))
 
+-- the words of it in front of the value
+abbrev pub set_words : Field → List ℕ
+set_words f = codes "set " ++ (name_of f ++ codes " ")
+
 abbrev pub action_text : Action → List ℕ
 action_text (Output n) = codes "output " ++ decimal n
 action_text (SetVlanVid n) = codes "vlan " ++ decimal n

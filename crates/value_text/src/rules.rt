@@ -1,7 +1,7 @@
 // The texts of rows.
 ghost use Rattle.std.specs.Prelude.{◌≡◌, ◌++◌, OnOk, IfOk, string_bytes};
 ghost use Rattle.value_text.specs.Values.{line};
-ghost use Rattle.value_text.specs.Rules.{in_text, vlan_text, fixed_text, address_of, frame_text, network_text, pattern_text, set_text, action_text, more_actions, actions_text, row_text, rows_text, port_text, switch_text, band_text, head_text, version_text, versions_text, rules_text};
+ghost use Rattle.value_text.specs.Rules.{in_text, vlan_text, fixed_text, address_of, frame_text, network_text, pattern_text, set_text, set_words, action_text, more_actions, actions_text, row_text, rows_text, port_text, switch_text, band_text, head_text, version_text, versions_text, rules_text};
 
 use crate::text::Text;
 use crate::values::{put_ascii, put_field, put_number, put_value};
@@ -239,11 +239,28 @@ fn put_action(out: &mut String, action: &Action) -> Result<(), AllocError>
     }
 }
 
+// Puts the setting of a field at the end.
 fn put_set(out: &mut String, field: Field, number: u64) -> Result<(), AllocError>
     ensures { OnOk result (string_bytes out.new ≡ string_bytes out.old ++ set_text field number) }
 {
-    out.push_str("set ")?;
-    out.push_str(field.name())?;
-    put_ascii(out, b' ')?;
+    out.push_str(set_words(field))?;
     put_value(out, field, number)
+}
+
+// The words in front of the number.
+fn set_words(field: Field) -> &'static str
+    ensures { result.now ≡ set_words field }
+{
+    match field {
+        Field::Sw => "set sw ",
+        Field::Pt => "set pt ",
+        Field::EthTyp => "set ethTyp ",
+        Field::IpProto => "set ipProto ",
+        Field::EthSrc => "set ethSrc ",
+        Field::EthDst => "set ethDst ",
+        Field::Ip4Src => "set ip4Src ",
+        Field::Ip4Dst => "set ip4Dst ",
+        Field::TcpSrcPort => "set tcpSrcPort ",
+        Field::TcpDstPort => "set tcpDstPort ",
+    }
 }

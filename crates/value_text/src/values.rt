@@ -1,6 +1,6 @@
 // The texts of numbers and fields.
-ghost use Rattle.std.specs.Prelude.{◌≡◌, ◌+◌, ◌++◌, ◌<◌, ◌≤◌, ◌∷◌, [], OnOk, string_bytes, decimal};
-ghost use Rattle.value_text.specs.Values.{hex_digit, hex_byte, hex_half, colon_triple, mac_text, dotted_pair, ip_text, value_text, field_text, fields_text, packet_text, place_text};
+ghost use Rattle.std.specs.Prelude.{◌≡◌, ◌+◌, ◌/◌, ◌%◌, ◌++◌, ◌<◌, ◌≤◌, ◌∷◌, [], OnOk, string_bytes, decimal};
+ghost use Rattle.value_text.specs.Values.{hex_digit, hex_byte, hex_half, mac_text, dotted_pair, ip_text, value_text, field_text, fields_text, packet_text, place_text};
 
 use nk_values::{Field, Packet};
 use std::alloc::AllocError;
@@ -57,27 +57,58 @@ fn hex_digit(digit: u8) -> u8
 pub fn put_hex_byte(out: &mut String, number: u64) -> Result<(), AllocError>
     ensures { OnOk result (string_bytes out.new ≡ string_bytes out.old ++ hex_byte number) }
 {
-    put_ascii(out, hex_digit((number / 16 % 16) as u8))?;
-    put_ascii(out, hex_digit((number % 16) as u8))
+    put_ascii(out, high_digit(number))?;
+    put_ascii(out, low_digit(number))
 }
 
-// Puts the last three at the end.
-fn put_colon_triple(out: &mut String, number: u64) -> Result<(), AllocError>
-    ensures { OnOk result (string_bytes out.new ≡ string_bytes out.old ++ colon_triple number) }
-{
-    put_hex_byte(out, number / 65536)?;
-    put_ascii(out, b':')?;
-    put_hex_byte(out, number / 256)?;
-    put_ascii(out, b':')?;
-    put_hex_byte(out, number)
-}
-
+// Puts an Ethernet address at the end: one push for all of it, since a text can have a great many.
 fn put_mac(out: &mut String, number: u64) -> Result<(), AllocError>
     ensures { OnOk result (string_bytes out.new ≡ string_bytes out.old ++ mac_text number) }
 {
-    put_colon_triple(out, number / 16777216)?;
-    put_ascii(out, b':')?;
-    put_colon_triple(out, number)
+    let digits = mac_digits(number);
+    // hexadecimal digits and colons are ASCII
+    out.push_str(unsafe { str::from_utf8_unchecked(&digits) })
+}
+
+// An Ethernet address in hexadecimal digits and colons.
+fn mac_digits(number: u64) -> [u8; 17]
+    ensures { result ≡ mac_text number }
+{
+    let front = number / 16777216;
+    [
+        high_digit(front / 65536),
+        low_digit(front / 65536),
+        b':',
+        high_digit(front / 256),
+        low_digit(front / 256),
+        b':',
+        high_digit(front),
+        low_digit(front),
+        b':',
+        high_digit(number / 65536),
+        low_digit(number / 65536),
+        b':',
+        high_digit(number / 256),
+        low_digit(number / 256),
+        b':',
+        high_digit(number),
+        low_digit(number),
+    ]
+}
+
+// The hexadecimal digits of the last byte of a number.
+fn high_digit(number: u64) -> u8
+    ensures digit { result ≡ hex_digit (number / 16 % 16) }
+    ensures ascii { result < 128 }
+{
+    hex_digit((number / 16 % 16) as u8)
+}
+
+fn low_digit(number: u64) -> u8
+    ensures digit { result ≡ hex_digit (number % 16) }
+    ensures ascii { result < 128 }
+{
+    hex_digit((number % 16) as u8)
 }
 
 // Puts the last two bytes at the end, in decimal.

@@ -1,12 +1,15 @@
-use Rattle.std.proofs.Common.{◌/◌, ◌++◌, string_bytes, codes}
-use Rattle.value_text.specs.Values.{colon_triple}
-use Rattle.value_text.proofs.Puts.{then_put}
+use Rattle.std.proofs.Common.{◌++◌, ◌∙◌, List, ℕ, ap, sym, subst, string_bytes}
+use Rattle.std.specs.Str.{IsAscii}
+use Rattle.std.proofs.lemmas.Result.{on_ok_weaker}
+use Rattle.std.proofs.lemmas.Str.{IsUtf8-from_ascii}
+use Rattle.value_text.proofs.Macs.{mac_ascii}
+use Rattle.value_text.proofs.Puts.{pushed}
 use Rattle.value_text.proofs.values.put_mac.Goals as goal
+
+pub from_utf8_unchecked-requires : goal.from_utf8_unchecked-requires
+from_utf8_unchecked-requires c = IsUtf8-from_ascii _ (subst IsAscii (sym c.mac_digits-digits.ensures) (mac_ascii c.args.number))
 
 pub returns : goal.returns
 returns c =
-    let r = c.put_colon_triple-2.result in
-    let first = string_bytes c.put_colon_triple.new.out in
-    let end = string_bytes c.put_colon_triple-2.new.out in
-    then_put r (string_bytes c.args.out.now) first end (colon_triple (c.args.number / 16777216)) (codes ":" ++ colon_triple c.args.number) c.in_ok-put_colon_triple.ensures
-    (then_put r first (string_bytes c.put_ascii.new.out) end (codes ":") (colon_triple c.args.number) c.in_ok-put_ascii.ensures c.put_colon_triple-2.ensures)
+    on_ok_weaker c.push_str.result (λ g. g ∙ ap (λ (x : List ℕ). string_bytes c.args.out.now ++ x) (c.from_utf8_unchecked.ensures ∙ c.mac_digits-digits.ensures))
+    (pushed _ (string_bytes c.args.out.now) _ c.from_utf8_unchecked.result.now c.push_str.ensures.bytes)
