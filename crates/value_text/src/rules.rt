@@ -5,7 +5,7 @@ ghost use Rattle.value_text.specs.Rules.{in_text, vlan_text, fixed_text, address
 
 use crate::text::Text;
 use crate::values::{put_ascii, put_field, put_number, put_value};
-use nk_values::{Action, Band, Field, Pattern, PortRows, Prefix, Row, Rows, UNTAGGED};
+use nk_values::{Action, Band, Field, IN_PORT, Pattern, PortRows, Prefix, Row, Rows, UNTAGGED};
 use policy_rows::Version;
 use std::alloc::{AllocError, Global};
 use topology_model::{Site, Topology};
@@ -221,6 +221,8 @@ fn put_action(out: &mut String, action: &Action) -> Result<(), AllocError>
     ensures { OnOk result (string_bytes out.new ≡ string_bytes out.old ++ action_text action.now) }
 {
     match action {
+        // a packet's own port, which many rows send to
+        Action::Output(IN_PORT) => out.push_str("output 65528"),
         Action::Output(port) => {
             out.push_str("output ")?;
             put_number(out, u64::from(*port))
