@@ -229,6 +229,13 @@ module _ (xs ys c d : List Lit) (m l : Lit) (hx : xs ≡ m ∷ c) (hy : ys ≡ l
   pub later_step : place (lit_field l) < place (lit_field m) → (out mid new : List Lit) → mid ≡ out ++ l ∷ [] → new ≡ mid ++ after xs d → new ≡ out ++ after xs ys
   later_step n out mid new p q = glued out mid new l _ _ p ((λ i. after (hx i) (hy i)) ∙ after_later m l c d n (subst IsCopy hx h) (subst IsCopy hy k) ∙ ap (λ (z : List Lit). l ∷ after z d) (sym hx)) q
 
+  -- where the rest leaves nothing, nor does the whole
+  pub later_covers : place (lit_field l) < place (lit_field m) → after xs d ≡ d → after xs ys ≡ ys
+  later_covers n e = (λ i. after (hx i) (hy i)) ∙ after_later m l c d n (subst IsCopy hx h) (subst IsCopy hy k) ∙ ap (λ (z : List Lit). l ∷ after z d) (sym hx) ∙ ap (λ (z : List Lit). l ∷ z) e ∙ sym hy
+
+  pub same_covers : place (lit_field m) ≡ place (lit_field l) → after c d ≡ d → after xs ys ≡ ys
+  same_covers n e = (λ i. after (hx i) (hy i)) ∙ after_same m l c d n (subst IsCopy hx h) (subst IsCopy hy k) ∙ ap (λ (z : List Lit). l ∷ z) e ∙ sym hy
+
 empty_list : (xs : List Lit) → length xs ≡ 0 → xs ≡ []
 empty_list [] e = refl
 empty_list (x ∷ xs) e = absurd (omega (arith, e))

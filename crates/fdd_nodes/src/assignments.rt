@@ -5,6 +5,7 @@ ghost use Rattle.fdd_nodes.specs.Copies.{IsCopy, strip, after, assigned};
 ghost use Rattle.fdd_nodes.specs.Makes.{made, IsFreeOf};
 
 use crate::cell::Cell;
+use crate::covering::covers;
 use nk_values::{Field, Lit, Packet};
 use smallvec::SmallVec;
 use std::alloc::{AllocError, Global};
@@ -109,7 +110,7 @@ impl Assignments {
         Assignments::new(alloc, kept)
     }
 
-    /// These assignments, and then others.
+    /// These assignments, and then others. The others are shared if they assign each field that these do.
     pub fn followed_by(&self, alloc: Global, later: &Assignments) -> Result<Assignments, AllocError>
         ensures after { IfOk result (λ r. r ≡ after self.now later.now) }
         ensures copy { IsCopy self.now }
@@ -117,6 +118,9 @@ impl Assignments {
         let (lits, more) = (self.lits(), later.lits());
         if more.is_empty() {
             return self.copy();
+        }
+        if covers(more, lits) {
+            return later.copy();
         }
         let mut both = SmallVec::new(alloc);
         push_after(&mut both, lits, more)?;

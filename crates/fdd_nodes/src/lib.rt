@@ -4,6 +4,7 @@
 mod apart;
 mod assignments;
 mod cell;
+mod covering;
 mod fdd;
 mod leaf;
 mod names;
