@@ -23,6 +23,9 @@ use nk_values::{Field, Lit};
 use std::alloc::{AllocError, Global};
 use std::marker::Model;
 
+// A leaf of more copies is put without a look for it: it is seldom there, and the look hashes all its copies.
+const FEW_COPIES: usize = 8;
+
 /// Diagrams that share their parts: each node and each leaf is kept once, and so is each result of an operation.
 ///
 /// All of them are ordered and reduced, so each of them is the only one that answers as it does.
@@ -258,6 +261,9 @@ impl Store {
         ensures place { IfOk result (λ i. Gives self.new i (λ t. t ≡ trees.Leaf leaf)) }
         ensures err { OnErr result (self.new ≡ self.old) }
     {
+        if leaf.copies().len() > FEW_COPIES {
+            return self.put_copies(alloc, &leaf);
+        }
         let shape = Shape::Copies(leaf);
         if let Some(place) = self.found(&shape) {
             return Ok(place);
