@@ -13,11 +13,10 @@ ghost use Rattle.audit_command.specs.Audit.{HasAudits, IsAuditAnswer};
 ghost use Rattle.audit_command.specs.Told.{AreAuditsOf, IsAuditedAs};
 
 use crate::lines::put_audit;
-use document_text::Document;
 use outside_io::Source;
 use plain_commands::schedule_outcome;
 use policy_rows::Version;
-use program_answer::{Answer, AnswerError, read_input, world_answer};
+use program_answer::{Answer, AnswerError, ReadyDocument, read_input, world_answer};
 use std::alloc::{AllocError, Global};
 use table_audit::audit_switch;
 use value_text::Text;
@@ -36,7 +35,11 @@ pub fn audit_answer<S: Source>(alloc: Global, source: &mut S) -> Result<Answer, 
 }
 
 // The report of what the schedule of a document comes to, with the audits of its world.
-fn audited(alloc: Global, document: Document, versions: Vec<Version>) -> Result<Answer, AnswerError>
+fn audited(
+    alloc: Global,
+    document: ReadyDocument,
+    versions: Vec<Version>,
+) -> Result<Answer, AnswerError>
     requires sound { IsSound (doc_of document) }
     requires versions { AreVersions document.topology document.settings 0 (policies_of document) versions.items }
     ensures answer { IfOk result (IsAuditedAs document versions.items) }

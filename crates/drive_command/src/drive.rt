@@ -10,14 +10,14 @@ ghost use Rattle.program_answer.specs.Versions.{AreVersions};
 ghost use Rattle.drive_command.specs.Drive.{DriveStops, IsDriveAnswer, IsDrivenAs, IsToldAs, TellsDriveCut};
 
 use crate::beginning::begin;
-use document_text::{Document, Site};
+use document_text::Site;
 use drive_journal::{Steering, starts_halt_at_loss};
 use drive_text::drive_text;
 use drive_workers::{DriveFault, Gate, Onlooker, drive_over};
 use outside_io::Source;
 use outside_net::{Net, Reporter, Spawner};
 use policy_rows::Version;
-use program_answer::{Answer, AnswerError, Fault, Status, read_input};
+use program_answer::{Answer, AnswerError, Fault, ReadyDocument, Status, read_input};
 use std::alloc::{AllocError, Global};
 use std::sync::{Arc, Wait};
 use std::time::Clock;
@@ -76,7 +76,7 @@ fn drive_document<
 >(
     rt: &R,
     alloc: Global,
-    document: Document,
+    document: ReadyDocument,
     versions: Vec<Version>,
     first: u16,
     net: &mut N,
@@ -92,7 +92,7 @@ where
     ensures driven { IfOk result (IsDrivenAs Q.Receipt.stamped (change N.broken net.old net.new) (doc_of document) versions.items) }
     ensures cut { IfErr result (TellsDriveCut (change N.faults net.old net.new) (change T.faults threads.old threads.new) (change Q.faults reporter.old reporter.new)) }
 {
-    let topology = document.topology;
+    let topology = document.into_parts().topology;
     starts_halt_at_loss();
     let coordinator = begin(alloc, &topology, versions)?;
     match drive_over(rt, alloc, coordinator, first, net, reporter, threads, gate) {

@@ -8,9 +8,8 @@ ghost use Rattle.plain_commands.specs.Simulate.{IsOutcomeOf};
 ghost use Rattle.plain_commands.specs.Told.{TellsStopIn};
 
 use crate::schedule::carry_out;
-use document_text::Document;
 use policy_rows::Version;
-use program_answer::{AnswerError, world_settings};
+use program_answer::{AnswerError, Parts, ReadyDocument, world_settings};
 use std::alloc::Global;
 use world_core::{Event, World};
 
@@ -25,7 +24,7 @@ pub struct Outcome {
 /// happen.
 pub fn schedule_outcome(
     alloc: Global,
-    document: Document,
+    document: ReadyDocument,
     versions: Vec<Version>,
 ) -> Result<Outcome, AnswerError>
     requires sound { IsSound (doc_of document) }
@@ -33,13 +32,12 @@ pub fn schedule_outcome(
     ensures outcome { IfOk result (λ o. IsOutcomeOf (doc_of document) versions.items o.events.items o.world) }
     ensures stop { IfErr result (TellsStopIn document versions.items) }
 {
-    let Document {
+    let Parts {
         topology,
         packets,
         settings,
         schedule,
-        ..
-    } = document;
+    } = document.into_parts();
     let mut world = World::start(alloc, versions, topology, world_settings(settings))?;
     world.kept();
     let events = carry_out(alloc, &mut world, &packets, &schedule)?;

@@ -18,7 +18,7 @@ pub fn rules_answer<S: Source>(alloc: Global, source: &mut S) -> Result<Answer, 
     ensures at_most { TakesAtMost 4194305 (S.left source.old) (S.left source.new) }
 {
     let Input { document, versions } = read_input(alloc, source)?;
-    let text = rules_text(alloc, &versions, &document.topology)?;
+    let text = rules_text(alloc, &versions, document.topology())?;
     Ok(Answer {
         status: Status::Done,
         text,

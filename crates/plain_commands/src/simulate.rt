@@ -12,10 +12,9 @@ ghost use Rattle.plain_commands.specs.Simulate.{IsSimulateAnswer, IsSimulateRefu
 ghost use Rattle.plain_commands.specs.Told.{IsSimulatedAs, TellsStopIn};
 
 use crate::outcome::schedule_outcome;
-use document_text::Document;
 use outside_io::Source;
 use policy_rows::Version;
-use program_answer::{Answer, AnswerError, read_input, world_answer};
+use program_answer::{Answer, AnswerError, ReadyDocument, read_input, world_answer};
 use std::alloc::Global;
 
 /// The report of the schedule of a source's document, or the first line whose event cannot happen.
@@ -31,7 +30,7 @@ pub fn simulate_answer<S: Source>(alloc: Global, source: &mut S) -> Result<Answe
 // The report of what the schedule of a document comes to.
 fn simulation(
     alloc: Global,
-    document: Document,
+    document: ReadyDocument,
     versions: Vec<Version>,
 ) -> Result<Answer, AnswerError>
     requires sound { IsSound (doc_of document) }

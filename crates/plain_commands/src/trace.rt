@@ -11,12 +11,12 @@ ghost use Rattle.program_answer.specs.Sound.{IsSound, IsSoundPacket};
 ghost use Rattle.program_answer.specs.Versions.{AreVersions};
 ghost use Rattle.plain_commands.specs.Trace.{IsTraceAnswer, IsWalkOf, AreWalksOf, AreTraces};
 
-use document_text::{Document, PacketLine};
+use document_text::PacketLine;
 use nk_values::Rows;
 use outside_io::Source;
 use packet_tracer::{Walk, walk};
 use policy_rows::Version;
-use program_answer::{Answer, AnswerError, Input, Status, read_input};
+use program_answer::{Answer, AnswerError, Input, ReadyDocument, Status, read_input};
 use report_text::trace_text;
 use std::alloc::{AllocError, Global};
 
@@ -38,7 +38,7 @@ pub fn trace_answer<S: Source>(alloc: Global, source: &mut S) -> Result<Answer, 
 // For each policy, the walks of the packet lines in order.
 fn walks(
     alloc: Global,
-    document: &Document,
+    document: &ReadyDocument,
     versions: &[Version],
 ) -> Result<Vec<Vec<Walk>>, AllocError>
     requires sound { IsSound (doc_of document.now) }
@@ -53,14 +53,14 @@ fn walks(
 }
 
 // The walks of the packet lines by some rows.
-fn walks_of(alloc: Global, document: &Document, rows: &Rows) -> Result<Vec<Walk>, AllocError>
+fn walks_of(alloc: Global, document: &ReadyDocument, rows: &Rows) -> Result<Vec<Walk>, AllocError>
     requires sound { IsSound (doc_of document.now) }
     requires means { (p : Term) × RowsMean rows.now p document.now.topology }
     ensures { (p : Term) → RowsMean rows.now p document.now.topology →
         IfOk result (λ ws. AreWalksOf (doc_of document.now) p document.now.packets.items ws.items) }
 {
     let mut walks = Vec::new(alloc);
-    for line in &document.packets {
+    for line in document.packets() {
         walks.push(walk_of(alloc, document, rows, line)?)?;
     }
     Ok(walks)
@@ -69,7 +69,7 @@ fn walks_of(alloc: Global, document: &Document, rows: &Rows) -> Result<Vec<Walk>
 // The walk of one.
 fn walk_of(
     alloc: Global,
-    document: &Document,
+    document: &ReadyDocument,
     rows: &Rows,
     line: &PacketLine,
 ) -> Result<Walk, AllocError>
@@ -78,11 +78,11 @@ fn walk_of(
     requires hops { 0 < document.now.settings.hops }
     ensures { (p : Term) → RowsMean rows.now p document.now.topology → IfOk result (IsWalkOf (doc_of document.now) p line.now) }
 {
-    let hops = u64::from(document.settings.hops);
+    let hops = u64::from(document.settings().hops);
     walk(
         alloc,
         rows,
-        &document.topology,
+        document.topology(),
         &line.packet,
         line.tag,
         hops,

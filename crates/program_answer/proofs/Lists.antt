@@ -68,3 +68,10 @@ versions_step t s ps i vs p v h e a b =
 pub first_told : (t : Layout) (s : Settings) (ps : List Term) (i : ℕ) (p : Term) (vs : List Version) (e : AnswerError) → i < length ps → p ≡ get_or ps i p → AreVersions t s 0 (take i ps) vs → TellsFault t s i p e → TellsFirst t s ps e
 first_told t s ps i p vs error.Memory h g a b = tt
 first_told t s ps i p vs (error.Fault f) h g a b = first_fault t s ps i p vs f h g a b
+
+-- versions of the same policies in the same topology and settings
+pub versions_as : (t u : Layout) (s r : Settings) (ps qs : List Term) (vs : List Version) → t ≡ u → s ≡ r → ps ≡ qs → AreVersions t s 0 ps vs → AreVersions u r 0 qs vs
+versions_as t u s r ps qs vs e f g a = subst (λ x. AreVersions x r 0 qs vs) e (subst (λ x. AreVersions t x 0 qs vs) f (subst (λ xs. AreVersions t s 0 xs vs) g a))
+
+pub told_as : (t u : Layout) (s r : Settings) (ps qs : List Term) (e : AnswerError) → t ≡ u → s ≡ r → ps ≡ qs → TellsFirst t s ps e → TellsFirst u r qs e
+told_as t u s r ps qs e f g h a = subst (λ x. TellsFirst x r qs e) f (subst (λ x. TellsFirst t x qs e) g (subst (λ xs. TellsFirst t s xs e) h a))

@@ -10,8 +10,8 @@ ghost use Rattle.program_answer.specs.Versions.{AreVersions};
 
 use crate::answer::AnswerError;
 use crate::reading::read_source;
+use crate::ready::{Apart, ReadyDocument};
 use crate::versions::versions;
-use document_text::Document;
 use outside_io::Source;
 use policy_rows::Version;
 use std::alloc::Global;
@@ -19,7 +19,7 @@ use std::alloc::Global;
 /// A document with a version for each of its policies.
 #[derive(Drop)]
 pub struct Input {
-    pub document: Document,
+    pub document: ReadyDocument,
     pub versions: Vec<Version>,
 }
 
@@ -34,7 +34,7 @@ pub fn read_input<S: Source>(alloc: Global, source: &mut S) -> Result<Input, Ans
     ensures at_most { TakesAtMost 4194305 (S.left source.old) (S.left source.new) }
 {
     let read = read_source(alloc, source)?;
-    let document = read.document;
-    let versions = versions(alloc, &document)?;
+    let Apart { document, policies } = ReadyDocument::apart(alloc, read.document)?;
+    let versions = versions(alloc, document.topology(), document.settings(), policies)?;
     Ok(Input { document, versions })
 }

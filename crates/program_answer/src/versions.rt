@@ -1,14 +1,13 @@
 //! The policies of a document, compiled and put into rows.
-ghost use Rattle.std.specs.Prelude.{◌<◌, ◌-◌, ◌^◌, IfOk, IfErr};
+ghost use Rattle.std.specs.Prelude.{◌<◌, ◌-◌, ◌^◌, map, IfOk, IfErr};
 ghost use Rattle.nk_syntax.specs.Views.{term_of};
-ghost use Rattle.document_text.specs.Answers.{doc_of};
 ghost use Rattle.fdd_compile.specs.Named.{AreFewNamed, TermNames};
-ghost use Rattle.program_answer.specs.Sound.{IsSound, AreStamps};
+ghost use Rattle.program_answer.specs.Sound.{AreFewNamedIn, AreStamps};
 ghost use Rattle.program_answer.specs.Versions.{IsVersion, AreVersions};
-ghost use Rattle.program_answer.specs.Input.{policies_of, TellsFault, TellsFirst};
+ghost use Rattle.program_answer.specs.Input.{TellsFault, TellsFirst};
 
 use crate::answer::AnswerError;
-use document_text::{Document, Settings};
+use document_text::Settings;
 use fdd_compile::{CompileError, Compiler};
 use nk_syntax::Pol;
 use policy_rows::{Version, band_of, stamp_of};
@@ -17,23 +16,23 @@ use std::alloc::Global;
 use table_emitter::{EmitError, emit};
 use topology_model::Topology;
 
-/// Each policy of a document with its rows, or the fault of the first policy that has one.
-pub fn versions(alloc: Global, document: &Document) -> Result<Vec<Version>, AnswerError>
-    requires { IsSound (doc_of document.now) }
-    ensures all { IfOk result (λ vs. AreVersions document.now.topology document.now.settings 0 (policies_of document.now) vs.items) }
-    ensures fault { IfErr result (TellsFirst document.now.topology document.now.settings (policies_of document.now)) }
+/// Each of the policies of a document with its rows in its topology, or the fault of the first policy that has one.
+pub fn versions(
+    alloc: Global,
+    topology: &Topology,
+    settings: Settings,
+    policies: Vec<Pol>,
+) -> Result<Vec<Version>, AnswerError>
+    requires few { AreFewNamedIn (map term_of policies.items) }
+    requires stamps { AreStamps settings }
+    ensures all { IfOk result (λ vs. AreVersions topology.now settings 0 (map term_of policies.items) vs.items) }
+    ensures fault { IfErr result (TellsFirst topology.now settings (map term_of policies.items)) }
 {
     let mut compiler = Compiler::new(alloc);
     let mut versions = Vec::new(alloc);
-    for (place, pol) in document.policies.iter().enumerate() {
-        match version(
-            alloc,
-            &mut compiler,
-            &document.topology,
-            &document.settings,
-            place,
-            pol,
-        ) {
+    for pol in policies {
+        let place = versions.len();
+        match version(alloc, &mut compiler, topology, settings, place, pol) {
             Ok(version) => versions.push(version)?,
             Err(error) => return Err(error),
         }
@@ -46,18 +45,18 @@ fn version(
     alloc: Global,
     compiler: &mut Compiler,
     topology: &Topology,
-    settings: &Settings,
+    settings: Settings,
     place: usize,
-    pol: &Pol,
+    pol: Pol,
 ) -> Result<Version, AnswerError>
-    requires few { AreFewNamed (TermNames (term_of pol.now)) }
-    requires stamps { AreStamps settings.now }
+    requires few { AreFewNamed (TermNames (term_of pol)) }
+    requires stamps { AreStamps settings }
     requires place { place < 2 ^ 64 - 1 }
-    ensures version { IfOk result (IsVersion topology.now settings.now place (term_of pol.now)) }
-    ensures fault { IfErr result (TellsFault topology.now settings.now place (term_of pol.now)) }
+    ensures version { IfOk result (IsVersion topology.now settings place (term_of pol)) }
+    ensures fault { IfErr result (TellsFault topology.now settings place (term_of pol)) }
 {
     let policy = place as u64 + 1;
-    let compiled = match compiler.compile(alloc, pol) {
+    let compiled = match compiler.compile(alloc, &pol) {
         Ok(compiled) => compiled,
         Err(CompileError::Fault(fault)) => {
             return Err(AnswerError::Fault(Fault::Compile { policy, fault }));
@@ -66,8 +65,7 @@ fn version(
     };
     let (low, high) = settings.stamps;
     let stamp = stamp_of(low, high, place);
-    let own = pol.copy(alloc)?;
-    match emit(alloc, &compiled, own, topology, stamp, band_of(place)) {
+    match emit(alloc, &compiled, pol, topology, stamp, band_of(place)) {
         Ok(version) => Ok(version),
         Err(EmitError::Fault(fault)) => Err(AnswerError::Fault(Fault::Emit { policy, fault })),
         Err(EmitError::Memory) => Err(AnswerError::Memory),

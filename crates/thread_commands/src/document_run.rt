@@ -11,11 +11,11 @@ ghost use Rattle.thread_commands.specs.Run.{IsRunBy, TellsCut, line_of};
 ghost use Rattle.thread_commands.specs.Watch.{IsSeenAnswer};
 
 use crate::kept::{events_of, take_back};
-use document_text::{Document, PacketLine};
+use document_text::PacketLine;
 use fleet_workers::{Lookout, Onlooker, Post, make_pairs, run_world};
 use outside_net::{Net, NetFault, Spawner};
 use policy_rows::Version;
-use program_answer::{Answer, AnswerError, world_answer, world_settings};
+use program_answer::{Answer, AnswerError, Parts, ReadyDocument, world_answer, world_settings};
 use std::alloc::{AllocError, Global};
 use std::sync::{Arc, Wait};
 use std::time::Clock;
@@ -65,7 +65,7 @@ pub(crate) fn run_document<
 >(
     rt: &R,
     alloc: Global,
-    document: Document,
+    document: ReadyDocument,
     versions: Vec<Version>,
     watched: bool,
     net: &mut N,
@@ -80,12 +80,12 @@ where
     ensures seen { IfOk result (λ r. IsWatched (start_of (doc_of document) versions.items) r.events.items r.seen.items) }
     ensures cut { IfErr result (TellsCut (change N.faults net.old net.new) (change T.faults threads.old threads.new)) }
 {
-    let Document {
+    let Parts {
         topology,
         packets,
         settings,
         ..
-    } = document;
+    } = document.into_parts();
     let lines = lines_of(alloc, &packets)?;
     let count = topology.switches().len() as u32;
     let lookout = Lookout {

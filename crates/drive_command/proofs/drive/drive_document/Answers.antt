@@ -8,7 +8,7 @@ use Rattle.drive_command.specs.Drive.{TellsDriveCut}
 use Rattle.drive_command.proofs.drive.drive_document.Goals as goal
 
 pub begin-requires : goal.begin-requires
-begin-requires g c = versions-start-alone _ _ _ _ c.requires.sound.stamps c.requires.sound.policies c.requires.versions
+begin-requires g c = rw c.into_parts.ensures.topology (versions-start-alone c.args.document.topology c.args.document.settings _ _ c.requires.sound.stamps c.requires.sound.policies c.requires.versions)
 
 pub drive_over-requires-clause-losses : goal.drive_over-requires-clause-losses
 drive_over-requires-clause-losses g c κs within = subst HaltsAtLoss (sym c.in_ok-coordinator.ensures) (c.starts_halt_at_loss.ensures _ _)

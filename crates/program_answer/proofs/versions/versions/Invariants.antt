@@ -1,7 +1,10 @@
-use Rattle.std.proofs.Common.{take}
+use Rattle.std.proofs.Common.{◌≡◌, length, take, map}
+use Rattle.nk_syntax.specs.Views.{term_of}
 use Rattle.program_answer.specs.Versions.{AreVersions}
-use Rattle.program_answer.specs.Input.{policies_of}
 use Rattle.program_answer.proofs.versions.versions.Given as goal
 
-abbrev pub invariant-loop-place : goal.invariant-loop-place
-invariant-loop-place l = AreVersions l.document.topology l.document.settings 0 (take l.place (policies_of l.document)) l.versions.items
+abbrev pub invariant-loop-pol : goal.invariant-loop-pol
+invariant-loop-pol l = record {
+  made : AreVersions l.topology l.settings 0 (take (length l.yielded) (map term_of l.fn.policies.items)) l.versions.items;
+  count : length l.versions.items ≡ length l.yielded;
+}

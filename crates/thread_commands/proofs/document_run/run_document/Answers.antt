@@ -2,6 +2,8 @@ use Rattle.std.proofs.Common.{◌≡◌, ◌∙◌, List, map, ap, sym, subst, r
 use Rattle.std.proofs.lemmas.Result.{err_from_is_err_and}
 use Rattle.document_text.specs.declared.document.PacketLine.{PacketLine}
 use Rattle.document_text.specs.Answers.{doc_of}
+use Rattle.world_core.specs.Worlds.{start}
+use Rattle.program_answer.specs.Worlds.{world_settings}
 use Rattle.outside_io.specs.Causes.{Rose}
 use Rattle.program_answer.specs.declared.answer.AnswerError.{AnswerError}
 use Rattle.program_answer.specs.Called.{change, net_of}
@@ -11,13 +13,15 @@ use Rattle.thread_commands.proofs.RunLaws.{ran_by, starts_as}
 use Rattle.thread_commands.proofs.document_run.run_document.Goals as goal
 
 pub start-requires-clause-versions : goal.start-requires-clause-versions
-start-requires-clause-versions g c = world-versions _ _ _ _ _ c.world_settings.ensures c.requires.sound.stamps c.requires.sound.policies c.requires.versions
+start-requires-clause-versions g c =
+    let parts = c.into_parts-topology.ensures in
+    rw parts.topology (world-versions c.args.document.topology c.args.document.settings c.world_settings.result _ _ (c.world_settings.ensures ∙ ap world_settings parts.settings) c.requires.sound.stamps c.requires.sound.policies c.requires.versions)
 
 pub start-requires-clause-hops : goal.start-requires-clause-hops
-start-requires-clause-hops g c = world-hops _ _ c.world_settings.ensures c.requires.sound.hops
+start-requires-clause-hops g c = world-hops c.args.document.settings _ (c.world_settings.ensures ∙ ap world_settings c.into_parts-topology.ensures.settings) c.requires.sound.hops
 
 pub start-requires-clause-rejoins : goal.start-requires-clause-rejoins
-start-requires-clause-rejoins g c = world-rejoins _ _ c.world_settings.ensures c.requires.sound.rejoins
+start-requires-clause-rejoins g c = world-rejoins c.args.document.settings _ (c.world_settings.ensures ∙ ap world_settings c.into_parts-topology.ensures.settings) c.requires.sound.rejoins
 
 pub returns-in-Ok-run_world-clause-ran : goal.returns-in-Ok-run_world-clause-ran
 returns-in-Ok-run_world-clause-ran g c =
@@ -29,8 +33,8 @@ returns-in-Ok-run_world-clause-ran g c =
     let kept = record'.kept.items in
     let journal = record'.journal.items in
     let net = net_of N.faults N.broken N.gathered c.args.net.now c.take_back.new.net in
-    let is = starts_as d vs c.in_ok-world.world _ c.in_ok-world.ensures.world c.world_settings.ensures in
-    let lines : c.in_ok-lines.lines.items ≡ lines_of (doc_of d) = c.in_ok-lines.ensures ∙ ap (λ (ls : List PacketLine). map line_of ls) c.deref.ensures.value in
+    let is = starts_as d vs c.in_ok-world.world _ (c.in_ok-world.ensures.world ∙ ap (λ t. start t vs c.world_settings.result) c.into_parts-topology.ensures.topology) (c.world_settings.ensures ∙ ap world_settings c.into_parts-topology.ensures.settings) in
+    let lines : c.in_ok-lines.lines.items ≡ lines_of (doc_of d) = c.in_ok-lines.ensures ∙ ap (λ (ls : List PacketLine). map line_of ls) (c.deref.ensures.value ∙ c.into_parts-topology.ensures.packets) in
     let first_broken = c.run_world.ensures.net.1 ∙ c.make_pairs.ensures.broken in
     let first_gathered = c.run_world.ensures.net.2 ∙ c.make_pairs.ensures.gathered in
     let gathered = subst (λ o. AreGathered E.received kept (record { before = o; after = N.gathered c.take_back.new.net })) first_gathered c.take_back.ensures.gathered in

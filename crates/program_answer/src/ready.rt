@@ -1,0 +1,158 @@
+//! A document of which the policies were taken, in the layer of what commands share. `read_input` makes it, and commands
+//! read it.
+ghost use Rattle.std.specs.Prelude.{◌≡◌, IfOk};
+ghost use Rattle.document_text.specs.Answers.{doc_of};
+
+use document_text::{Document, PacketLine, ScheduleLine, Settings};
+use nk_syntax::Pol;
+use std::alloc::{AllocError, Global};
+use std::marker::Model;
+use std::snapshot::Snapshot;
+use topology_model::Topology;
+
+/// A policy as clauses see it. No code reads it, so it takes no memory.
+#[derive(Drop)]
+struct Intent {
+    policy: Snapshot<Pol>,
+}
+
+impl Model for Intent {
+    ghost use Rattle.nk_syntax.specs.declared.pol.Pol.{Pol};
+    ghost use Rattle.nk_syntax.specs.contracts.pol.Pol as pols;
+    ghost use Rattle.std.specs.Coded.{codes};
+
+    ghost Value = { Pol };
+
+    // a policy holds itself, so its code is named
+    ghost coded = { Prim.hlevel (codes, pols.the_row.coded) };
+
+    ghost view = { λ i. i.policy.value };
+}
+
+impl Intent {
+    // What is meant by a policy.
+    fn of(pol: &Pol) -> Intent
+        ensures { result ≡ pol.now }
+    {
+        Intent {
+            policy: Snapshot::of(pol),
+        }
+    }
+}
+
+/// A document whose policies were handed over, to be kept by their versions. Clauses see it as the document.
+#[derive(Drop)]
+pub struct ReadyDocument {
+    topology: Topology,
+    policies: Vec<Intent>,
+    packets: Vec<PacketLine>,
+    settings: Settings,
+    schedule: Vec<ScheduleLine>,
+}
+
+impl Model for ReadyDocument {
+    ghost use Rattle.document_text.specs.declared.document.Document.{Document};
+    ghost use Rattle.document_text.specs.contracts.document.Document as documents;
+
+    ghost Value = { Document };
+
+    // a policy holds itself, so the code of documents is named
+    ghost coded = { documents.the_row.coded };
+
+    ghost view = { λ d. record { topology = d.topology; policies = d.policies; packets = d.packets; settings = d.settings; schedule = d.schedule } };
+}
+
+/// What a document has beside its policies.
+#[derive(Drop)]
+pub struct Parts {
+    pub topology: Topology,
+    pub packets: Vec<PacketLine>,
+    pub settings: Settings,
+    pub schedule: Vec<ScheduleLine>,
+}
+
+// A document, and its policies apart.
+#[derive(Drop)]
+pub(crate) struct Apart {
+    pub(crate) document: ReadyDocument,
+    pub(crate) policies: Vec<Pol>,
+}
+
+impl ReadyDocument {
+    // Takes the policies out of a document.
+    pub(crate) fn apart(alloc: Global, document: Document) -> Result<Apart, AllocError>
+        ensures document { IfOk result (λ a. doc_of a.document ≡ doc_of document) }
+        ensures policies { IfOk result (λ a. a.document.policies.items ≡ a.policies.items) }
+    {
+        let Document {
+            topology,
+            policies,
+            packets,
+            settings,
+            schedule,
+        } = document;
+        let intents = intents_of(alloc, &policies)?;
+        let document = ReadyDocument {
+            topology,
+            policies: intents,
+            packets,
+            settings,
+            schedule,
+        };
+        Ok(Apart { document, policies })
+    }
+
+    /// The topology.
+    pub fn topology(&self) -> &Topology
+        ensures { result.now ≡ self.now.topology }
+    {
+        &self.topology
+    }
+
+    /// The packets.
+    pub fn packets(&self) -> &[PacketLine]
+        ensures { result.now ≡ self.now.packets.items }
+    {
+        &self.packets
+    }
+
+    /// The settings.
+    pub fn settings(&self) -> Settings
+        ensures { result ≡ self.now.settings }
+    {
+        self.settings
+    }
+
+    /// All but the policies.
+    pub fn into_parts(self) -> Parts
+        ensures topology { result.topology ≡ self.topology }
+        ensures packets { result.packets.items ≡ self.packets.items }
+        ensures settings { result.settings ≡ self.settings }
+        ensures schedule { result.schedule.items ≡ self.schedule.items }
+    {
+        let ReadyDocument {
+            topology,
+            policies: _policies,
+            packets,
+            settings,
+            schedule,
+        } = self;
+        Parts {
+            topology,
+            packets,
+            settings,
+            schedule,
+        }
+    }
+}
+
+// What is meant by policies.
+fn intents_of(alloc: Global, policies: &[Pol]) -> Result<Vec<Intent>, AllocError>
+    ensures { IfOk result (λ v. v.items ≡ policies.now) }
+{
+    let mut intents = Vec::new(alloc);
+    for pol in policies {
+        intents.push(Intent::of(pol))?;
+    }
+    Ok(intents)
+}
