@@ -32,7 +32,7 @@ pub(crate) fn list_port(
     ensures rows { IfOk result (AreRows view.now top (entries no_tests (tree part.now))) }
     ensures bars { IfErr result (Bars view.now 0 (entries no_tests (tree part.now))) }
 {
-    let mut rows = RowList::new(alloc);
+    let mut rows = Vec::new(alloc);
     walk(
         alloc,
         part,
@@ -42,7 +42,9 @@ pub(crate) fn list_port(
         top,
         &mut rows,
     )?;
-    Ok(rows)
+    // The vector grew by doubling, so it may have room for twice as many. The next port takes what is given back.
+    rows.shrink_to_fit();
+    Ok(RowList::of(rows))
 }
 
 // Adds the rows of a part, on each path that fixes this cell and says these kinds. A branch that no well-shaped packet
@@ -54,16 +56,16 @@ fn walk(
     kinds: Kinds,
     view: &PortView,
     top: u16,
-    rows: &mut RowList,
+    rows: &mut Vec<Row>,
 ) -> Result<(), EmitError>
     requires made { CanBeMade (tree part.now) }
     requires valid { IsValid cell.now }
     requires stamp { IsVlanId view.now.stamp }
     requires top { 16000 ≤ top }
-    requires few { length rows.old ≤ 16000 }
-    ensures few { OnOk result (length rows.new ≤ 16000) }
-    ensures rows { OnOk result (AddsFrom view.now top cell.now kinds (tree part.now) rows.old rows.new) }
-    ensures bars { IfErr result (BarsFrom view.now (length rows.old) cell.now kinds (tree part.now)) }
+    requires few { length rows.old.items ≤ 16000 }
+    ensures few { OnOk result (length rows.new.items ≤ 16000) }
+    ensures rows { OnOk result (AddsFrom view.now top cell.now kinds (tree part.now) rows.old.items rows.new.items) }
+    ensures bars { IfErr result (BarsFrom view.now (length rows.old.items) cell.now kinds (tree part.now)) }
 {
     let mut node = part;
     let mut known = kinds;
@@ -91,16 +93,16 @@ fn list_leaf(
     kinds: Kinds,
     view: &PortView,
     top: u16,
-    rows: &mut RowList,
+    rows: &mut Vec<Row>,
 ) -> Result<(), EmitError>
     requires made { AreSettable leaf.now }
     requires valid { IsValid cell.now }
     requires stamp { IsVlanId view.now.stamp }
     requires top { 16000 ≤ top }
-    requires few { length rows.old ≤ 16000 }
-    ensures few { OnOk result (length rows.new ≤ 16000) }
-    ensures rows { OnOk result (AddsFrom view.now top cell.now kinds (TreeLeaf leaf.now) rows.old rows.new) }
-    ensures bars { IfErr result (BarsFrom view.now (length rows.old) cell.now kinds (TreeLeaf leaf.now)) }
+    requires few { length rows.old.items ≤ 16000 }
+    ensures few { OnOk result (length rows.new.items ≤ 16000) }
+    ensures rows { OnOk result (AddsFrom view.now top cell.now kinds (TreeLeaf leaf.now) rows.old.items rows.new.items) }
+    ensures bars { IfErr result (BarsFrom view.now (length rows.old.items) cell.now kinds (TreeLeaf leaf.now)) }
 {
     match cells_of(kinds, cell) {
         RowCells::None => Ok(()),
@@ -164,12 +166,12 @@ fn push_row(
     actions: Actions,
     view: &PortView,
     top: u16,
-    rows: &mut RowList,
+    rows: &mut Vec<Row>,
 ) -> Result<(), EmitError>
     requires top { 16000 ≤ top }
-    ensures row { OnOk result (rows.new ≡ rows.old ++ record { pattern = pattern; priority = top - length rows.old; actions = actions } ∷ []) }
-    ensures room { OnOk result (length rows.old < 16000) }
-    ensures bars { IfErr result (BarsRow view.now (length rows.old)) }
+    ensures row { OnOk result (rows.new.items ≡ rows.old.items ++ record { pattern = pattern; priority = top - length rows.old.items; actions = actions } ∷ []) }
+    ensures room { OnOk result (length rows.old.items < 16000) }
+    ensures bars { IfErr result (BarsRow view.now (length rows.old.items)) }
 {
     let count = rows.len();
     if count >= MOST_PORT_ROWS {
@@ -178,10 +180,13 @@ fn push_row(
             pt: view.pt,
         }));
     }
-    rows.push(Row {
+    let row = Row {
         pattern,
         priority: top - count as u16,
         actions,
-    })?;
-    Ok(())
+    };
+    match rows.push(row) {
+        Ok(()) => Ok(()),
+        Err(_) => Err(EmitError::Memory),
+    }
 }
