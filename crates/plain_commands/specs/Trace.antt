@@ -7,7 +7,7 @@ use Rattle.document_text.specs.Documents.{Doc}
 use Rattle.packet_tracer.specs.declared.flight.Walk.{Walk}
 use Rattle.packet_tracer.specs.Walks.{IsWalk}
 use Rattle.policy_rows.specs.declared.version.Version.{Version}
-use Rattle.report_text.specs.Traces.{IsTraceText}
+use Rattle.report_text.specs.Traces.{IsPacketText, IsPolicyText, IsTraceText}
 use Rattle.program_answer.specs.declared.status.Status.{Status}
 use Rattle.program_answer.specs.declared.status.Status.TheVariants.{Done}
 use Rattle.program_answer.specs.Answers.{Reads}
@@ -31,6 +31,14 @@ AreTraces d [] [] = Unit {0}
 AreTraces d [] (ws ∷ wss) = ⊥
 AreTraces d (p ∷ ps) [] = ⊥
 AreTraces d (p ∷ ps) (ws ∷ wss) = AreWalksOf d p d.packets ws × AreTraces d ps wss
+
+-- the text of the n-th packet, by a walk of it
+abbrev pub IsPacketLineText : Doc → Term → ℕ → PacketLine → List ℕ → Type 0
+IsPacketLineText d p n l text = (walk : Walk) × IsWalkOf d p l walk × IsPacketText n walk text
+
+-- the text of the n-th policy, by walks of all packets
+abbrev pub IsTracedPolicyText : Doc → ℕ → Term → List ℕ → Type 0
+IsTracedPolicyText d n p text = (walks : List Walk) × AreWalksOf d p d.packets walks × IsPolicyText n walks text
 
 -- the walks of all packets under each policy
 pub record IsTrace (xs text : List ℕ) : Type 0 where

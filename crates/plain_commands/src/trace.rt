@@ -1,5 +1,5 @@
 //! `nkctl trace`: the complete hop histories that each policy gives each packet (POPL 2014, sections 2 and 3).
-ghost use Rattle.std.specs.Prelude.{◌<◌, IfOk, IfErr, map};
+ghost use Rattle.std.specs.Prelude.{◌≡◌, ◌<◌, ◌++◌, IfOk, IfErr, OnOk, string_bytes, decimal, codes};
 ghost use Rattle.document_text.specs.Terms.{Term};
 ghost use Rattle.document_text.specs.Answers.{doc_of};
 ghost use Rattle.outside_io.specs.Lists.{TakesAtMost};
@@ -9,64 +9,84 @@ ghost use Rattle.program_answer.specs.Called.{source_of};
 ghost use Rattle.program_answer.specs.Input.{IsRefused, policies_of};
 ghost use Rattle.program_answer.specs.Sound.{IsSound, IsSoundPacket};
 ghost use Rattle.program_answer.specs.Versions.{AreVersions};
-ghost use Rattle.plain_commands.specs.Trace.{IsTraceAnswer, IsWalkOf, AreWalksOf, AreTraces};
+ghost use Rattle.report_text.specs.Traces.{Adds, AreTexts, IsPacketText};
+ghost use Rattle.value_text.specs.Values.{line};
+ghost use Rattle.plain_commands.specs.Trace.{IsTraceAnswer, IsWalkOf, IsPacketLineText, IsTracedPolicyText};
 
 use document_text::PacketLine;
 use nk_values::Rows;
 use outside_io::Source;
 use packet_tracer::{Walk, walk};
 use policy_rows::Version;
-use program_answer::{Answer, AnswerError, Input, ReadyDocument, Status, read_input};
-use report_text::trace_text;
+use program_answer::{Answer, AnswerError, ReadyDocument, Status, read_input};
 use std::alloc::{AllocError, Global};
+use std::fmt::Write;
+use value_text::{Text, history_lines, put_lines};
 
-/// The walks of all packets of a source's document under each of its policies.
+/// What becomes of all packets of a source's document under each of its policies.
 pub fn trace_answer<S: Source>(alloc: Global, source: &mut S) -> Result<Answer, AnswerError>
     ensures answer { IfOk result (λ a. IsTraceAnswer (source_of S.left S.faults source.old source.new) a.status a.text) }
     ensures stops { IfErr result (Stops IsRefused (source_of S.left S.faults source.old source.new)) }
     ensures at_most { TakesAtMost 4194305 (S.left source.old) (S.left source.new) }
 {
-    let Input { document, versions } = read_input(alloc, source)?;
-    let walks = walks(alloc, &document, &versions)?;
-    let text = trace_text(alloc, &walks)?;
+    let input = read_input(alloc, source)?;
+    let text = traces(alloc, &input.document, &input.versions)?;
     Ok(Answer {
         status: Status::Done,
-        text,
+        text: Text::new(text),
     })
 }
 
-// For each policy, the walks of the packet lines in order.
-fn walks(
-    alloc: Global,
-    document: &ReadyDocument,
-    versions: &[Version],
-) -> Result<Vec<Vec<Walk>>, AllocError>
+// The texts of the policies. A walk is let go once its text is there, so that no two are held at once.
+fn traces(alloc: Global, document: &ReadyDocument, versions: &[Version]) -> Result<String, AllocError>
     requires sound { IsSound (doc_of document.now) }
     requires versions { AreVersions document.now.topology document.now.settings 0 (policies_of document.now) versions.now }
-    ensures { IfOk result (λ wss. AreTraces (doc_of document.now) (policies_of document.now) (map (λ ws. ws.items) wss.items)) }
+    ensures { IfOk result (λ out. AreTexts (IsTracedPolicyText (doc_of document.now)) 0 (policies_of document.now) (string_bytes out)) }
 {
-    let mut walks = Vec::new(alloc);
-    for version in versions {
-        walks.push(walks_of(alloc, document, &version.rows)?)?;
+    let mut out = String::new(alloc);
+    for (before, version) in versions.iter().enumerate() {
+        put_policy(alloc, &mut out, before as u64 + 1, document, &version.rows)?;
     }
-    Ok(walks)
+    Ok(out)
 }
 
-// The walks of the packet lines by some rows.
-fn walks_of(alloc: Global, document: &ReadyDocument, rows: &Rows) -> Result<Vec<Walk>, AllocError>
+// Puts what becomes of the packets under a policy at the end.
+fn put_policy(
+    alloc: Global,
+    out: &mut String,
+    policy: u64,
+    document: &ReadyDocument,
+    rows: &Rows,
+) -> Result<(), AllocError>
     requires sound { IsSound (doc_of document.now) }
     requires means { (p : Term) × RowsMean rows.now p document.now.topology }
     ensures { (p : Term) → RowsMean rows.now p document.now.topology →
-        IfOk result (λ ws. AreWalksOf (doc_of document.now) p document.now.packets.items ws.items) }
+        OnOk result (Adds (IsTracedPolicyText (doc_of document.now) policy p) (string_bytes out.old) (string_bytes out.new)) }
 {
-    let mut walks = Vec::new(alloc);
-    for line in document.packets() {
-        walks.push(walk_of(alloc, document, rows, line)?)?;
-    }
-    Ok(walks)
+    put_policy_line(out, policy)?;
+    put_packets(alloc, out, document, rows)
 }
 
-// The walk of one.
+// Puts what becomes of each packet by some rows at the end.
+fn put_packets(
+    alloc: Global,
+    out: &mut String,
+    document: &ReadyDocument,
+    rows: &Rows,
+) -> Result<(), AllocError>
+    requires sound { IsSound (doc_of document.now) }
+    requires means { (p : Term) × RowsMean rows.now p document.now.topology }
+    ensures { (p : Term) → RowsMean rows.now p document.now.topology →
+        OnOk result (Adds (AreTexts (IsPacketLineText (doc_of document.now) p) 0 document.now.packets.items) (string_bytes out.old) (string_bytes out.new)) }
+{
+    for (before, line) in document.packets().iter().enumerate() {
+        let walk = walk_of(alloc, document, rows, line)?;
+        put_walk(alloc, out, before as u64 + 1, &walk)?;
+    }
+    Ok(())
+}
+
+// What becomes of one.
 fn walk_of(
     alloc: Global,
     document: &ReadyDocument,
@@ -87,4 +107,23 @@ fn walk_of(
         line.tag,
         hops,
     )
+}
+
+// Puts the line of a policy, by its number from 1, at the end.
+fn put_policy_line(out: &mut String, policy: u64) -> Result<(), AllocError>
+    ensures { OnOk result (string_bytes out.new ≡ string_bytes out.old ++ line (codes "policy " ++ decimal policy)) }
+{
+    write!(out, "policy {policy}\n")?;
+    Ok(())
+}
+
+// Puts what becomes of a packet, by its number from 1, at the end.
+fn put_walk(alloc: Global, out: &mut String, packet: u64, walk: &Walk) -> Result<(), AllocError>
+    ensures { OnOk result (Adds (IsPacketText packet walk.now) (string_bytes out.old) (string_bytes out.new)) }
+{
+    let done = history_lines(alloc, "done ", &walk.finished)?;
+    let open = history_lines(alloc, "open ", &walk.in_flight)?;
+    write!(out, "packet {packet}\n")?;
+    put_lines(out, &done)?;
+    put_lines(out, &open)
 }
