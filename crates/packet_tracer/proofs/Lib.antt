@@ -2,10 +2,12 @@ pub mod Bare
 pub mod FutureLaws
 pub mod HopLaws
 pub mod Links
+pub mod OrderLaws
 pub mod Parting
 pub mod Parts
 pub mod Placing
 pub mod Reaching
+pub mod Readings
 pub mod Stepping
 pub mod WalkLaws
 pub mod Walked

@@ -4,10 +4,13 @@
 mod flight;
 mod hopping;
 mod laws;
+mod order;
+mod ordered;
 mod sending;
 mod walking;
 
 pub use flight::{Flight, Hopped, Walk};
 pub use hopping::hop;
 pub use laws::{hops_keep_futures, hops_part, walks_are_ways};
+pub use ordered::OrderedRows;
 pub use walking::walk;

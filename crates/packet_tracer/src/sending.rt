@@ -2,25 +2,41 @@
 ghost use Rattle.std.specs.Prelude.{◌≡◌, false, IfOk, option_map};
 ghost use Rattle.nk_values.specs.Patterns.{Incoming, hits};
 ghost use Rattle.nk_values.specs.Tables.{first};
+ghost use Rattle.packet_tracer.specs.Orders.{IsStart};
 ghost use Rattle.packet_tracer.specs.Turns.{sent_by};
 
 use flow_index::{act, hits};
-use nk_values::{Header, Pattern, PortRows, Row, Sent, Tag};
+use nk_values::{Header, Pattern, Row, Sent, Tag};
 use std::alloc::{AllocError, Global};
 
-// What is sent of a packet at a port, by the first row that hits.
-pub(crate) fn sent(
+// What a row sends of a packet that came in by a port, if there is one.
+pub(crate) fn sent_by(
     alloc: Global,
-    port: &PortRows,
+    row: Option<&Row>,
+    port: u16,
     header: &Header,
     tag: Tag,
 ) -> Result<Vec<Sent>, AllocError>
-    ensures { IfOk result (λ v. v.items ≡ sent_by (first (record { port = port.now.pt; header = header.now; tag = tag }) port.now.rows) (record { port = port.now.pt; header = header.now; tag = tag })) }
+    ensures { IfOk result (λ v. v.items ≡ sent_by (option_map (λ r. r.now) row.entry) (record { port = port; header = header.now; tag = tag })) }
 {
-    match first_hit(port.rows.as_slice(), port.pt, header, tag) {
+    match row {
         None => Ok(Vec::new(alloc)),
-        Some(row) => act(alloc, row.actions.as_slice(), port.pt, header, tag),
+        Some(row) => act(alloc, row.actions.as_slice(), port, header, tag),
     }
+}
+
+// The first row that hits, looked for from a place on before which none hits.
+pub(crate) fn first_from<'a>(
+    rows: &'a [Row],
+    start: usize,
+    port: u16,
+    header: &Header,
+    tag: Tag,
+) -> Option<&'a Row>
+    requires { IsStart rows.now header.now start }
+    ensures { option_map (λ r. r.now) result ≡ first (record { port = port; header = header.now; tag = tag }) rows.now }
+{
+    first_hit(&rows[start..], port, header, tag)
 }
 
 // The first row that hits.

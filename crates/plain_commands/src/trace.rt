@@ -1,5 +1,5 @@
 //! `nkctl trace`: the complete hop histories that each policy gives each packet (POPL 2014, sections 2 and 3).
-ghost use Rattle.std.specs.Prelude.{◌≡◌, ◌<◌, ◌++◌, IfOk, IfErr, OnOk, string_bytes, decimal, codes};
+ghost use Rattle.std.specs.Prelude.{◌<◌, IfOk, IfErr, OnOk, string_bytes};
 ghost use Rattle.document_text.specs.Terms.{Term};
 ghost use Rattle.document_text.specs.Answers.{doc_of};
 ghost use Rattle.outside_io.specs.Lists.{TakesAtMost};
@@ -9,19 +9,17 @@ ghost use Rattle.program_answer.specs.Called.{source_of};
 ghost use Rattle.program_answer.specs.Input.{IsRefused, policies_of};
 ghost use Rattle.program_answer.specs.Sound.{IsSound, IsSoundPacket};
 ghost use Rattle.program_answer.specs.Versions.{AreVersions};
-ghost use Rattle.report_text.specs.Traces.{Adds, AreTexts, IsPacketText};
-ghost use Rattle.value_text.specs.Values.{line};
+ghost use Rattle.report_text.specs.Traces.{Adds, AreTexts};
 ghost use Rattle.plain_commands.specs.Trace.{IsTraceAnswer, IsWalkOf, IsPacketLineText, IsTracedPolicyText};
 
 use document_text::PacketLine;
 use nk_values::Rows;
 use outside_io::Source;
-use packet_tracer::{Walk, walk};
+use packet_tracer::{OrderedRows, Walk, walk};
 use policy_rows::Version;
 use program_answer::{Answer, AnswerError, ReadyDocument, Status, read_input};
 use std::alloc::{AllocError, Global};
-use std::fmt::Write;
-use value_text::{Text, history_lines, put_lines};
+use value_text::{Text, put_policy_line, put_walk};
 
 /// What becomes of all packets of a source's document under each of its policies.
 pub fn trace_answer<S: Source>(alloc: Global, source: &mut S) -> Result<Answer, AnswerError>
@@ -38,7 +36,11 @@ pub fn trace_answer<S: Source>(alloc: Global, source: &mut S) -> Result<Answer, 
 }
 
 // The texts of the policies. A walk is let go once its text is there, so that no two are held at once.
-fn traces(alloc: Global, document: &ReadyDocument, versions: &[Version]) -> Result<String, AllocError>
+fn traces(
+    alloc: Global,
+    document: &ReadyDocument,
+    versions: &[Version],
+) -> Result<String, AllocError>
     requires sound { IsSound (doc_of document.now) }
     requires versions { AreVersions document.now.topology document.now.settings 0 (policies_of document.now) versions.now }
     ensures { IfOk result (λ out. AreTexts (IsTracedPolicyText (doc_of document.now)) 0 (policies_of document.now) (string_bytes out)) }
@@ -64,7 +66,8 @@ fn put_policy(
         OnOk result (Adds (IsTracedPolicyText (doc_of document.now) policy p) (string_bytes out.old) (string_bytes out.new)) }
 {
     put_policy_line(out, policy)?;
-    put_packets(alloc, out, document, rows)
+    let ordered = OrderedRows::new(alloc, rows)?;
+    put_packets(alloc, out, document, &ordered)
 }
 
 // Puts what becomes of each packet by some rows at the end.
@@ -72,7 +75,7 @@ fn put_packets(
     alloc: Global,
     out: &mut String,
     document: &ReadyDocument,
-    rows: &Rows,
+    rows: &OrderedRows,
 ) -> Result<(), AllocError>
     requires sound { IsSound (doc_of document.now) }
     requires means { (p : Term) × RowsMean rows.now p document.now.topology }
@@ -90,7 +93,7 @@ fn put_packets(
 fn walk_of(
     alloc: Global,
     document: &ReadyDocument,
-    rows: &Rows,
+    rows: &OrderedRows,
     line: &PacketLine,
 ) -> Result<Walk, AllocError>
     requires means { (p : Term) × RowsMean rows.now p document.now.topology }
@@ -107,23 +110,4 @@ fn walk_of(
         line.tag,
         hops,
     )
-}
-
-// Puts the line of a policy, by its number from 1, at the end.
-fn put_policy_line(out: &mut String, policy: u64) -> Result<(), AllocError>
-    ensures { OnOk result (string_bytes out.new ≡ string_bytes out.old ++ line (codes "policy " ++ decimal policy)) }
-{
-    write!(out, "policy {policy}\n")?;
-    Ok(())
-}
-
-// Puts what becomes of a packet, by its number from 1, at the end.
-fn put_walk(alloc: Global, out: &mut String, packet: u64, walk: &Walk) -> Result<(), AllocError>
-    ensures { OnOk result (Adds (IsPacketText packet walk.now) (string_bytes out.old) (string_bytes out.new)) }
-{
-    let done = history_lines(alloc, "done ", &walk.finished)?;
-    let open = history_lines(alloc, "open ", &walk.in_flight)?;
-    write!(out, "packet {packet}\n")?;
-    put_lines(out, &done)?;
-    put_lines(out, &open)
 }

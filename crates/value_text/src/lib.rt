@@ -18,5 +18,5 @@ pub use histories::{history_text, put_history};
 pub use lines::{history_lines, line_of, put_lines, sort_lines};
 pub use rules::{put_row, rules_text};
 pub use text::Text;
-pub use traces::trace_text;
+pub use traces::{put_policy_line, put_walk, trace_text};
 pub use values::{put_fields, put_hex_byte, put_number, put_place};

@@ -1,6 +1,7 @@
 // The texts of traces.
-ghost use Rattle.std.specs.Prelude.{◌≡◌, OnOk, IfOk, map, string_bytes};
+ghost use Rattle.std.specs.Prelude.{◌≡◌, ◌++◌, OnOk, IfOk, map, string_bytes, decimal, codes};
 ghost use Rattle.value_text.specs.Traces.{Adds, IsPacketText, AreTexts, IsPolicyText, IsTraceText};
+ghost use Rattle.value_text.specs.Values.{line};
 
 use crate::lines::{history_lines, put_lines};
 use crate::text::Text;
@@ -30,8 +31,16 @@ fn put_policy(
 ) -> Result<(), AllocError>
     ensures { OnOk result (Adds (IsPolicyText policy walks.now) (string_bytes out.old) (string_bytes out.new)) }
 {
-    write!(out, "policy {policy}\n")?;
+    put_policy_line(out, policy)?;
     put_packets(alloc, out, walks)
+}
+
+/// Puts the line of a policy, by its number from 1, at the end. What becomes of its packets follows.
+pub fn put_policy_line(out: &mut String, policy: u64) -> Result<(), AllocError>
+    ensures { OnOk result (string_bytes out.new ≡ string_bytes out.old ++ line (codes "policy " ++ decimal policy)) }
+{
+    write!(out, "policy {policy}\n")?;
+    Ok(())
 }
 
 // Puts the lines of packets at the end.
@@ -39,13 +48,14 @@ fn put_packets(alloc: Global, out: &mut String, walks: &[Walk]) -> Result<(), Al
     ensures { OnOk result (Adds (AreTexts IsPacketText 0 walks.now) (string_bytes out.old) (string_bytes out.new)) }
 {
     for (before, walk) in walks.iter().enumerate() {
-        put_packet(alloc, out, before as u64 + 1, walk)?;
+        put_walk(alloc, out, before as u64 + 1, walk)?;
     }
     Ok(())
 }
 
-// Puts the lines of a packet at the end.
-fn put_packet(alloc: Global, out: &mut String, packet: u64, walk: &Walk) -> Result<(), AllocError>
+/// Puts what becomes of a packet, by its number from 1, at the end: a line `done` for each finished history, and
+/// then a line `open` for each copy in flight, sorted by bytes, equal lines once.
+pub fn put_walk(alloc: Global, out: &mut String, packet: u64, walk: &Walk) -> Result<(), AllocError>
     ensures { OnOk result (Adds (IsPacketText packet walk.now) (string_bytes out.old) (string_bytes out.new)) }
 {
     let done = history_lines(alloc, "done ", &walk.finished)?;

@@ -12,7 +12,7 @@ loop-before-preserved c =
     let walks = c.args.walks.now in
     let k = c.loop-before.before in
     next_text IsPacketText walks (drop k walks) (drop (k + 1) walks) k c.index-walks-before.result _ _ _
-    (drop_next walks k c.index-walks-before.result c.loop-before-test.true c.index-walks-before.is) c.loop-before.invariant c.in_ok-put_packet.ensures
+    (drop_next walks k c.index-walks-before.result c.loop-before-test.true c.index-walks-before.is) c.loop-before.invariant c.in_ok-put_walk.ensures
 
 pub returns : goal.returns
 returns c =
