@@ -20,7 +20,7 @@ use program_answer::{Answer, AnswerError, ReadyDocument, read_input, world_answe
 use std::alloc::{AllocError, Global};
 use table_audit::audit_switch;
 use value_text::Text;
-use world_core::{Event, World};
+use world_core::{Events, World};
 
 /// The report of the schedule of a source's document and, switch by switch, how the table differs from the rows that
 /// the switch holds once the batch of the phase is done; or the first line whose event cannot happen. Each switch is
@@ -52,8 +52,8 @@ fn audited(
 
 // The report of the events that led to a world, with its audits. The call ends as halted if the updates are halted
 // there.
-fn audits_answer(alloc: Global, world: &World, events: &[Event]) -> Result<Answer, AllocError>
-    ensures { IfOk result (AreAuditsOf world.now events.now) }
+fn audits_answer(alloc: Global, world: &World, events: &Events) -> Result<Answer, AllocError>
+    ensures { IfOk result (AreAuditsOf world.now events.now.items) }
 {
     let answer = world_answer(alloc, world, events)?;
     let text = with_audits(alloc, world, &answer.text)?;

@@ -11,13 +11,13 @@ use crate::schedule::carry_out;
 use policy_rows::Version;
 use program_answer::{AnswerError, Parts, ReadyDocument, world_settings};
 use std::alloc::Global;
-use world_core::{Event, World};
+use world_core::{Events, World};
 
 /// A world, and the events that led to it.
 #[derive(Drop)]
 pub struct Outcome {
     pub world: World,
-    pub events: Vec<Event>,
+    pub events: Events,
 }
 
 /// Carries out the schedule of a document in the world of its policies, or tells the first line whose event cannot

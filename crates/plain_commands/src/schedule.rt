@@ -10,7 +10,7 @@ use program_answer::AnswerError;
 use report_text::Fault;
 use std::alloc::{AllocError, Global};
 use topology_model::Topology;
-use world_core::{ControllerEvent, Event, PacketEvent, StepFault, SwitchEvent, World};
+use world_core::{ControllerEvent, Event, Events, PacketEvent, StepFault, SwitchEvent, World};
 
 /// Carries out a schedule line by line, and gives the events that were done; or the first line whose event cannot
 /// happen.
@@ -19,11 +19,11 @@ pub fn carry_out(
     world: &mut World,
     packets: &[PacketLine],
     schedule: &[ScheduleLine],
-) -> Result<Vec<Event>, AnswerError>
+) -> Result<Events, AnswerError>
     ensures done { IfOk result (λ events. CarriedOut world.old.topology.switches packets.now world.old schedule.now events.items world.new) }
     ensures stop { IfErr result (TellsStop world.old.topology.switches packets.now world.old schedule.now) }
 {
-    let mut events = Vec::new(alloc);
+    let mut events = Events::new(alloc);
     for line in schedule {
         match carry(alloc, world, packets, line.event, &mut events) {
             Ok(()) => {}
@@ -42,27 +42,21 @@ fn carry(
     world: &mut World,
     packets: &[PacketLine],
     order: Order,
-    events: &mut Vec<Event>,
+    events: &mut Events,
 ) -> Result<(), StepFault>
     ensures done { OnOk result ((more : List EventValue) × Does world.old.topology.switches packets.now order world.old more world.new × (events.new.items ≡ events.old.items ++ more)) }
     ensures topology { OnOk result (world.new.topology ≡ world.old.topology) }
     ensures refused { result ≡ Err faults.NotEnabled → CannotHappen world.old.topology.switches packets.now order world.old }
 {
     match order {
-        Order::Settle => {
-            let mut more = world.settle(alloc)?;
-            events.append(&mut more)?;
-        }
-        Order::Flow => {
-            let mut more = world.flow(alloc)?;
-            events.append(&mut more)?;
-        }
+        Order::Settle => world.settle(alloc, events)?,
+        Order::Flow => world.flow(alloc, events)?,
         _ => {
             let named = event_of(alloc, world.topology(), packets, order)?;
             let Some(event) = named else {
                 return Err(StepFault::NotEnabled);
             };
-            events.reserve(1)?;
+            events.reserve()?;
             world.step(alloc, &event)?;
             events.push_reserved(event);
         }

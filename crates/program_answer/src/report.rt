@@ -6,11 +6,11 @@ use crate::answer::Answer;
 use crate::status::Status;
 use report_text::world_report;
 use std::alloc::{AllocError, Global};
-use world_core::{Event, World};
+use world_core::{Events, World};
 
 /// The report of the events that led to a world. The call ends as halted if the updates are halted there.
-pub fn world_answer(alloc: Global, world: &World, events: &[Event]) -> Result<Answer, AllocError>
-    ensures { IfOk result (IsWorldAnswer world.now events.now) }
+pub fn world_answer(alloc: Global, world: &World, events: &Events) -> Result<Answer, AllocError>
+    ensures { IfOk result (IsWorldAnswer world.now events.now.items) }
 {
     let text = world_report(alloc, world, events)?;
     if world.coordinator().halt().is_some() {

@@ -9,7 +9,7 @@ use std::alloc::{AllocError, Global};
 use std::test::Fail;
 use topology_model::{Ports, Site};
 use update_coordinator::{Cause, Phase, Side};
-use world_core::{ControllerEvent, Event, PacketEvent, SwitchEvent};
+use world_core::{ControllerEvent, Event, Events, PacketEvent, SwitchEvent};
 
 // Events of each kind at switches 1 and 7.
 const CONTROLLER: [ControllerEvent; 6] = [
@@ -45,7 +45,7 @@ fn push_switches(alloc: Global, switches: &mut Vec<Site>) -> Result<(), AllocErr
 // Puts bytes from nobody at the end.
 fn push_foreign(
     alloc: Global,
-    events: &mut Vec<Event>,
+    events: &mut Events,
     place: usize,
     side: Side,
 ) -> Result<(), AllocError> {
@@ -54,7 +54,7 @@ fn push_foreign(
     Ok(())
 }
 
-fn push_events(alloc: Global, events: &mut Vec<Event>) -> Result<(), AllocError> {
+fn push_events(alloc: Global, events: &mut Events) -> Result<(), AllocError> {
     for event in CONTROLLER {
         events.push(Event::Controller(event))?;
     }
@@ -79,7 +79,7 @@ fn report_over(
     switches: &[Site],
     flights: &Flights,
     (phase, halt): (Phase, Option<&Cause>),
-    events: &[Event],
+    events: &Events,
 ) -> Result<Text, AllocError> {
     let standing = Standing {
         switches,
@@ -99,7 +99,7 @@ fn report_over(
 fn report(
     alloc: Global,
     state: (Phase, Option<&Cause>),
-    events: &[Event],
+    events: &Events,
     text: &str,
 ) -> Result<bool, AllocError> {
     let mut switches = Vec::new(alloc);
@@ -110,7 +110,7 @@ fn report(
 
 // Whether each kind of event is told.
 fn tells_events(alloc: Global) -> Result<bool, AllocError> {
-    let mut events = Vec::new(alloc);
+    let mut events = Events::new(alloc);
     push_events(alloc, &mut events)?;
     report(alloc, (Phase::Idle(2), None), &events, EVENTS)
 }
@@ -123,7 +123,7 @@ fn events_of_each_kind(rt: HostRuntime) -> Result<(), Fail> {
 
 // Whether an update that is halted for this cause is told so.
 fn tells(alloc: Global, phase: Phase, cause: Cause, text: &str) -> Result<bool, AllocError> {
-    report(alloc, (phase, Some(&cause)), &[], text)
+    report(alloc, (phase, Some(&cause)), &Events::new(alloc), text)
 }
 
 #[test]

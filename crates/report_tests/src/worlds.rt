@@ -9,7 +9,7 @@ use std::process::Abort;
 use std::test::Fail;
 use topology_model::{TopoError, Topology};
 use update_coordinator::Side;
-use world_core::{ControllerEvent, Event, Settings, World};
+use world_core::{ControllerEvent, Event, Events, Settings, World};
 
 // The switch's HELLO was due.
 const REPORT: &str =
@@ -33,12 +33,12 @@ fn empty(alloc: Global, topology: Topology, rejoins: usize) -> Result<World, All
 }
 
 // Does an event that can happen, and notes it.
-fn step(alloc: Global, world: &mut World, events: &mut Vec<Event>, event: Event) -> bool {
+fn step(alloc: Global, world: &mut World, events: &mut Events, event: Event) -> bool {
     world.enabled(&event) && world.step(alloc, &event).is_ok() && events.push(event).is_ok()
 }
 
 // The same for an event of the controller.
-fn does(alloc: Global, world: &mut World, events: &mut Vec<Event>, event: ControllerEvent) -> bool {
+fn does(alloc: Global, world: &mut World, events: &mut Events, event: ControllerEvent) -> bool {
     step(alloc, world, events, Event::Controller(event))
 }
 
@@ -48,12 +48,12 @@ fn may(world: &World, event: ControllerEvent) -> bool {
 }
 
 // Whether that is the report.
-fn tells(alloc: Global, world: &World, events: &[Event], text: &str) -> bool {
+fn tells(alloc: Global, world: &World, events: &Events, text: &str) -> bool {
     world_report(alloc, world, events).is_ok_and(|told| told.as_str() == text)
 }
 
 // Bytes come from outside, once.
-fn foreign(alloc: Global, world: &mut World, events: &mut Vec<Event>) -> bool {
+fn foreign(alloc: Global, world: &mut World, events: &mut Events) -> bool {
     let Ok(came) = Octets::from_slice(alloc, &[0x01, 0x2f]) else {
         return false;
     };
@@ -62,25 +62,15 @@ fn foreign(alloc: Global, world: &mut World, events: &mut Vec<Event>) -> bool {
         world,
         events,
         Event::Foreign(0, Side::Controller, came),
-    ) && events.first().is_some_and(|event| !world.enabled(event))
+    ) && events
+        .iter()
+        .next()
+        .is_some_and(|event| !world.enabled(event.event()))
         && tells(alloc, world, events, REPORT)
 }
 
-// Does all that can happen, and notes it.
-fn settle(alloc: Global, world: &mut World, events: &mut Vec<Event>) -> bool {
-    let Ok(settled) = world.settle(alloc) else {
-        return false;
-    };
-    for event in settled {
-        if events.push(event).is_err() {
-            return false;
-        }
-    }
-    true
-}
-
 // The switch is lost in its handshake and returns, and then lost once more.
-fn returns(alloc: Global, world: &mut World, events: &mut Vec<Event>) -> bool {
+fn returns(alloc: Global, world: &mut World, events: &mut Events) -> bool {
     does(alloc, world, events, ControllerEvent::Heard(0))
         && does(alloc, world, events, ControllerEvent::Send(0))
         && !may(world, ControllerEvent::Rejoin(0))
@@ -88,7 +78,7 @@ fn returns(alloc: Global, world: &mut World, events: &mut Vec<Event>) -> bool {
         && !may(world, ControllerEvent::Lost(0))
         && !may(world, ControllerEvent::Send(0))
         && does(alloc, world, events, ControllerEvent::Rejoin(0))
-        && settle(alloc, world, events)
+        && world.settle(alloc, events).is_ok()
         && tells(alloc, world, events, RETURNED)
         && does(alloc, world, events, ControllerEvent::Lost(0))
         && world.coordinator().halt().is_some()
@@ -107,7 +97,7 @@ fn goes(rt: &impl Abort, alloc: Global, rejoins: usize, course: Course) -> Resul
 {
     let one = topology(rt, alloc, 1)?;
     let mut world = empty(alloc, one, rejoins)?;
-    let mut events = Vec::new(alloc);
+    let mut events = Events::new(alloc);
     Ok(match course {
         Course::Foreign => foreign(alloc, &mut world, &mut events),
         Course::Returns => returns(alloc, &mut world, &mut events),

@@ -5,7 +5,7 @@ ghost use Rattle.report_text.specs.Generated.{finished_count, IsGeneratedText, c
 use std::alloc::{AllocError, Global};
 use std::fmt::Write;
 use value_text::Text;
-use world_core::{Arrival, Event, World};
+use world_core::{Arrival, Events, World};
 
 /// How much there is of a workload that was driven to its end: `switches S policies K packets P events E finished F`.
 /// The packets are those of its document, the events those that were done, and the finished histories those of all
@@ -14,9 +14,9 @@ pub fn generated_text(
     alloc: Global,
     packets: usize,
     world: &World,
-    events: &[Event],
+    events: &Events,
 ) -> Result<Text, AllocError>
-    ensures { IfOk result (λ t. IsGeneratedText packets world.now events.now t) }
+    ensures { IfOk result (λ t. IsGeneratedText packets world.now events.now.items t) }
 {
     let finished = count_finished(world.arrivals());
     let switches = world.topology().switches().len();

@@ -13,7 +13,7 @@ use std::alloc::{AllocError, Global};
 use std::fmt::Write;
 use topology_model::Site;
 use value_text::{Text, history_lines, put_lines, put_place, sort_lines};
-use world_core::{Arrival, Event, World};
+use world_core::{Arrival, Events, World};
 
 /// How a network stands: its switches, how far the updates are, the copies in flight, and the packets that came in.
 #[derive(Clone, Copy)]
@@ -31,9 +31,9 @@ pub struct Standing<'a> {
 pub fn report_text(
     alloc: Global,
     standing: &Standing<'_>,
-    events: &[Event],
+    events: &Events,
 ) -> Result<Text, AllocError>
-    ensures { IfOk result (λ t. IsReportText standing.now.switches.now events.now (state_text standing.now.updates.stamps.now standing.now.updates.draining.now standing.now.updates.phase (option_map (λ c. c.now) standing.now.updates.halt)) standing.now.flights.now standing.now.arrivals.now t) }
+    ensures { IfOk result (λ t. IsReportText standing.now.switches.now events.now.items (state_text standing.now.updates.stamps.now standing.now.updates.draining.now standing.now.updates.phase (option_map (λ c. c.now) standing.now.updates.halt)) standing.now.flights.now standing.now.arrivals.now t) }
 {
     let mut out = String::new(alloc);
     put_events(&mut out, standing.switches, events)?;
@@ -43,8 +43,8 @@ pub fn report_text(
 }
 
 /// The report of a world and of the events that led to it.
-pub fn world_report(alloc: Global, world: &World, events: &[Event]) -> Result<Text, AllocError>
-    ensures { IfOk result (λ t. IsWorldReport world.now events.now t) }
+pub fn world_report(alloc: Global, world: &World, events: &Events) -> Result<Text, AllocError>
+    ensures { IfOk result (λ t. IsWorldReport world.now events.now.items t) }
 {
     let coordinator = world.coordinator();
     let standing = Standing {

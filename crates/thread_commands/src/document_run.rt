@@ -22,14 +22,14 @@ use std::time::Clock;
 use value_text::Fault;
 use watch_text::watch_text;
 use worker_desk::Gate;
-use world_core::{Event, World, halts_stay, losses_count};
+use world_core::{Events, World, halts_stay, losses_count};
 use world_journal::{Line, RunFault};
 
 // What a run came to: its world, the events that led to it, and what was seen of it.
 #[derive(Drop)]
 pub(crate) struct DocumentRun {
     pub world: World,
-    pub events: Vec<Event>,
+    pub events: Events,
     pub seen: Vec<Post>,
 }
 

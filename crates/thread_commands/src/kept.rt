@@ -8,7 +8,7 @@ ghost use Rattle.thread_commands.specs.Run.{AreGathered, HasRisenBy, many_broken
 
 use outside_net::Net;
 use std::alloc::{AllocError, Global};
-use world_core::Event;
+use world_core::Events;
 use world_journal::Entry;
 
 /// Gives ends back to their net, the last one first.
@@ -26,10 +26,10 @@ pub fn take_back<N: Net>(net: &mut N, ends: Vec<N::End>)
 }
 
 /// The events of a journal.
-pub fn events_of(alloc: Global, journal: Vec<Entry>) -> Result<Vec<Event>, AllocError>
+pub fn events_of(alloc: Global, journal: Vec<Entry>) -> Result<Events, AllocError>
     ensures { IfOk result (λ events. events.items ≡ events_of journal.items) }
 {
-    let mut events = Vec::new(alloc);
+    let mut events = Events::new(alloc);
     for entry in journal {
         events.push(entry.event)?;
     }

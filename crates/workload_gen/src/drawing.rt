@@ -14,7 +14,7 @@ use crate::words::next_word;
 use document_text::PacketLine;
 use rand_pcg::Lcg64Xsh32;
 use std::alloc::{AllocError, Global};
-use world_core::{Event, PacketEvent, StepFault, World};
+use world_core::{Event, Events, PacketEvent, StepFault, World};
 
 /// Lets these packets come in and does the updates of a world by drawn events, until none can happen, and gives the
 /// events. In each turn one word is drawn, and of the events that can happen the one with the number that the word
@@ -27,13 +27,13 @@ pub fn draw(
     world: &mut World,
     packets: &[PacketLine],
     rng: &mut Lcg64Xsh32,
-) -> Result<Vec<Event>, AllocError>
+) -> Result<Events, AllocError>
     ensures draws { IfOk result (λ events. Draws packets.now rng.old world.old events.items world.new) }
     ensures runs { IfOk result (λ events. Runs world.old events.items world.new) }
     ensures words { IfOk result (λ events. rng.new ≡ behind (length events.items) rng.old) }
     ensures err { IfErr result (λ e. (events : List EventValue) × Drawn packets.now rng.old world.old events world.new) }
 {
-    let mut events = Vec::new(alloc);
+    let mut events = Events::new(alloc);
     let mut tally = Tally::new(alloc, world)?;
     let mut left = packets;
     for _ in 0..u64::MAX {
@@ -90,7 +90,7 @@ fn do_next(
     world: &mut World,
     tally: &mut Tally,
     event: Event,
-    events: &mut Vec<Event>,
+    events: &mut Events,
 ) -> Result<(), AllocError>
     requires can { IsEnabled world.old event }
     requires counts { AreCounts world.old tally.old }
@@ -98,7 +98,7 @@ fn do_next(
     ensures counts { OnOk result (AreCounts world.new tally.new) }
     ensures err { OnErr result (world.new ≡ world.old) }
 {
-    events.reserve(1)?;
+    events.reserve()?;
     match world.step(alloc, &event) {
         Ok(()) => {
             tally.recount(world, &event);

@@ -8,14 +8,14 @@ use crate::drawing::draw;
 use crate::laws::runs_end;
 use document_text::Document;
 use std::alloc::{AllocError, Global};
-use world_core::{Event, Settings, World};
+use world_core::{Events, Settings, World};
 
 /// A workload that was driven to its end: how many packets it has, the world then, and the events that led to it.
 #[derive(Drop)]
 pub struct Driven {
     pub packets: usize,
     pub world: World,
-    pub events: Vec<Event>,
+    pub events: Events,
 }
 
 /// Makes the document of a number and the world of its policies, and drives it by drawn events until none can happen.

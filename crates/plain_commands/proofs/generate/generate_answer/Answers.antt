@@ -1,6 +1,4 @@
-use Rattle.std.proofs.Common.{List, refl, subst}
-use Rattle.report_text.specs.Generated.{IsGeneratedText}
-use Rattle.world_core.specs.declared.event.Event.{Event}
+use Rattle.std.proofs.Common.{refl}
 use Rattle.plain_commands.proofs.generate.generate_answer.Goals as goal
 
 pub returns-clause-answer : goal.returns-clause-answer
@@ -12,6 +10,6 @@ returns-clause-answer c =
         world = driven.world;
         events = driven.events.items;
         run = c.in_ok-driven.ensures;
-        text_is = subst (λ (es : List Event). IsGeneratedText driven.packets driven.world es c.in_ok-text.text) c.deref.ensures.value c.in_ok-text.ensures;
+        text_is = c.in_ok-text.ensures;
       };
     }

@@ -6,13 +6,13 @@ use Rattle.world_core.specs.Settling.{settling, flowing}
 use Rattle.plain_commands.proofs.Scheduling.{step-topology, followed-runs, runs-topology, does-one}
 use Rattle.plain_commands.proofs.schedule.carry.Goals as goal
 
-pub returns-in_ok-append-in-Settle-clause-topology :
-    goal.returns-in_ok-append-in-Settle-clause-topology
-returns-in_ok-append-in-Settle-clause-topology c = runs-topology c.args.world.now c.in_ok-more-in-Settle.more.items c.settle.new.self (followed-runs settling _ _ _ c.in_ok-more-in-Settle.ensures.ok.done)
+pub returns-in_ok-settle-in-Settle-clause-topology :
+    goal.returns-in_ok-settle-in-Settle-clause-topology
+returns-in_ok-settle-in-Settle-clause-topology c = runs-topology c.args.world.now c.in_ok-settle-in-Settle.ensures.ok.0 c.settle.new.self (followed-runs settling _ _ _ c.in_ok-settle-in-Settle.ensures.ok.1.done)
 
-pub returns-in_ok-append-in-Flow-clause-topology :
-    goal.returns-in_ok-append-in-Flow-clause-topology
-returns-in_ok-append-in-Flow-clause-topology c = runs-topology c.args.world.now c.in_ok-more-in-Flow.more.items c.flow.new.self (followed-runs flowing _ _ _ c.in_ok-more-in-Flow.ensures.ok.done)
+pub returns-in_ok-flow-in-Flow-clause-topology :
+    goal.returns-in_ok-flow-in-Flow-clause-topology
+returns-in_ok-flow-in-Flow-clause-topology c = runs-topology c.args.world.now c.in_ok-flow-in-Flow.ensures.ok.0 c.flow.new.self (followed-runs flowing _ _ _ c.in_ok-flow-in-Flow.ensures.ok.1.done)
 
 pub returns-in_ok-step-in_default : goal.returns-in_ok-step-in_default
 returns-in_ok-step-in_default c = record {
