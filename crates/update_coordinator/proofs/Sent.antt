@@ -1,5 +1,5 @@
 -- What goes out is what comes first, and fits.
-use Rattle.std.proofs.Common.{◌≡◌, ◌<◌, ◌+◌, ◌^◌, inl, inr, ℕ, Bool, true, false, List, [], ◌∷◌, drop, slice_get, slice_set, Option, Some, None, Result, Ok, Err, IfOk, IfNone, IfSome, refl, sym, ◌∙◌, ap, subst, arith}
+use Rattle.std.proofs.Common.{◌≡◌, ◌<◌, ◌+◌, ◌^◌, inl, inr, ℕ, Bool, true, false, List, [], ◌∷◌, drop, slice_get, slice_set, Option, Some, None, IfNone, IfSome, refl, sym, ◌∙◌, ap, subst, arith}
 use Rattle.nk_values.specs.declared.row.FlowMod.{FlowMod}
 use Rattle.openflow_wire.specs.declared.message.Message.{Message}
 use Rattle.openflow_wire.specs.declared.message.Message.TheVariants as to
@@ -12,6 +12,7 @@ use Rattle.update_coordinator.specs.Controls.{Control, Site, Order, Change, Fenc
 use Rattle.update_coordinator.specs.Kept.{IsControl}
 use Rattle.update_coordinator.specs.Sending.{went, expected, MaySend, IsSent}
 use Rattle.update_coordinator.specs.Sites.{in_batch, GreetsBy, GreetsAt, SendsAt, FencesAt}
+use Rattle.update_coordinator.specs.Drafts.{drafted}
 use Rattle.update_coordinator.specs.Reading.{left_in, IsAtEnd, IsAtChange, AreRead}
 use Rattle.update_coordinator.proofs.Counting.{short_batch}
 use Rattle.update_coordinator.proofs.Kept.{went_keeps, fence_keeps, one_site}
@@ -171,14 +172,12 @@ greet_sends (Some m) c place sites now e running g = subst (λ (zs : List Site).
 
 -- ---- what is read for a switch
 
-pub read_none : {E : Type 0} {R : Type 0} (r : Result (Option R) E) (c : Control) (place : ℕ) (s : Site) (x : Cursor) (spans : List Span) (cursors : List Cursor) → AreRead c spans cursors → slice_get c.sites place ≡ Some s → slice_get cursors place ≡ Some x →
-    IfOk r (λ o. IfNone o (left_in c.versions c.phase s.sw s.next x ≡ [])) → IfOk r (λ o. IfNone o (IsAtEnd place c))
-read_none (Err e) c place s x spans cursors a p q h = tt
-read_none (Ok (Some y)) c place s x spans cursors a p q h = tt
-read_none (Ok None) c place s x spans cursors a p q h = record { site = s; here = p; left = a.each place s x p q ∙ h }
+pub read_none : {R : Type 0} (r : Option R) (c : Control) (place : ℕ) (s : Site) (x : Cursor) (spans : List Span) (cursors : List Cursor) → AreRead c spans cursors → slice_get c.sites place ≡ Some s → slice_get cursors place ≡ Some x →
+    IfNone r (left_in c.versions c.phase s.sw s.next x ≡ []) → IfNone r (IsAtEnd place c)
+read_none (Some y) c place s x spans cursors a p q h = tt
+read_none None c place s x spans cursors a p q h = record { site = s; here = p; left = a.each place s x p q ∙ h }
 
-pub read_some : {E : Type 0} (r : Result (Option Read) E) (c : Control) (place : ℕ) (s : Site) (x : Cursor) (spans : List Span) (cursors : List Cursor) → AreRead c spans cursors → slice_get c.sites place ≡ Some s → slice_get cursors place ≡ Some x →
-    IfOk r (λ o. IfSome o (λ y. left_in c.versions c.phase s.sw s.next x ≡ y.change ∷ left_in c.versions c.phase s.sw (s.next + 1) y.cursor)) → IfOk r (λ o. IfSome o (λ y. IsAtChange place y.change y.cursor c))
-read_some (Err e) c place s x spans cursors a p q h = tt
-read_some (Ok None) c place s x spans cursors a p q h = tt
-read_some (Ok (Some y)) c place s x spans cursors a p q h = record { site = s; here = p; left = a.each place s x p q ∙ h }
+pub read_some : (r : Option Read) (c : Control) (place : ℕ) (s : Site) (x : Cursor) (spans : List Span) (cursors : List Cursor) → AreRead c spans cursors → slice_get c.sites place ≡ Some s → slice_get cursors place ≡ Some x →
+    IfSome r (λ y. left_in c.versions c.phase s.sw s.next x ≡ drafted y.draft ∷ left_in c.versions c.phase s.sw (s.next + 1) y.cursor) → IfSome r (λ y. IsAtChange place (drafted y.draft) y.cursor c)
+read_some None c place s x spans cursors a p q h = tt
+read_some (Some y) c place s x spans cursors a p q h = record { site = s; here = p; left = a.each place s x p q ∙ h }

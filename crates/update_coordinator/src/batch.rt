@@ -4,93 +4,113 @@ ghost use Rattle.update_plan.specs.declared.cursor.Cursor.{Cursor as CursorValue
 ghost use Rattle.update_plan.specs.Reading.{cursor_at, left_by};
 ghost use Rattle.update_plan.specs.declared.cursor.Span.{Span as SpanValue};
 ghost use Rattle.update_coordinator.specs.Batches.{version_at, wipe};
+ghost use Rattle.update_coordinator.specs.Drafts.{drafted};
 ghost use Rattle.update_coordinator.specs.Reading.{left_in, share_in, coming_in, going_in, begun_again, AreBetween};
 
 use crate::phase::Phase;
-use nk_values::{ANY_PORT, Actions, Command, FlowMod, Pattern, Rows};
+use nk_values::{ANY_PORT, Actions, Command, FlowMod, Pattern, Row, Rows};
 use session_core::Move;
 use std::alloc::{AllocError, Global};
 use update_plan::{Cursor, Share, Span, mod_of, read_next};
 
-/// The next flow mod of a batch, and the cursor after it.
-#[derive(Drop)]
-pub(crate) struct Read {
-    pub(crate) change: FlowMod,
+/// The next flow mod of a batch, which is not made yet, and the cursor after it.
+#[derive(Clone, Copy)]
+pub(crate) struct Read<'a> {
+    pub(crate) draft: Draft<'a>,
     pub(crate) cursor: Cursor,
+}
+
+/// A flow mod that is not made yet.
+#[derive(Clone, Copy)]
+pub(crate) enum Draft<'a> {
+    /// It empties the table.
+    Wipe,
+    /// This row comes, or goes.
+    Row { adds: bool, row: &'a Row },
+}
+
+impl<'a> Draft<'a> {
+    /// The flow mod.
+    pub(crate) fn make(self, alloc: Global) -> Result<FlowMod, AllocError>
+        ensures { IfOk result (λ m. m ≡ drafted self.entry) }
+    {
+        match self {
+            Draft::Wipe => Ok(FlowMod {
+                command: Command::Delete,
+                pattern: Pattern::any(),
+                priority: 0,
+                out_port: ANY_PORT,
+                actions: Actions::new(alloc),
+            }),
+            Draft::Row { adds, row } => mod_of(alloc, adds, row),
+        }
+    }
 }
 
 // Reads the next flow mod of a phase's batch at a switch, of which `next` went out.
 pub(crate) fn read_in(
-    alloc: Global,
     versions: &[Rows],
     phase: Phase,
     sw: u16,
     next: usize,
     cursor: Cursor,
     span: Span,
-) -> Result<Option<Read>, AllocError>
+) -> Option<Read<'_>>
     requires { AreBetween versions.now sw span }
-    ensures none { IfOk result (λ r. IfNone r (left_in versions.now phase sw next cursor ≡ [])) }
-    ensures some { IfOk result (λ r. IfSome r (λ x. left_in versions.now phase sw next cursor ≡ x.change ∷ left_in versions.now phase sw (next + 1) x.cursor)) }
+    ensures none { IfNone result (left_in versions.now phase sw next cursor ≡ []) }
+    ensures some { IfSome result (λ x. left_in versions.now phase sw next cursor ≡ drafted x.draft ∷ left_in versions.now phase sw (next + 1) x.cursor) }
 {
     match phase {
-        Phase::Opening => Ok(wiping(alloc, next, cursor)),
+        Phase::Opening => wiping(next, cursor),
         Phase::Idle(_)
         | Phase::Install(_)
         | Phase::Flip(_, _)
         | Phase::Drain(_)
         | Phase::Clean(_)
         | Phase::Tidy(_)
-        | Phase::Sweep(_, _) => read_row(alloc, versions, phase, sw, cursor, span),
+        | Phase::Sweep(_, _) => read_row(versions, phase, sw, cursor, span),
     }
 }
 
 // Reads the next flow mod of a batch of rows.
 fn read_row(
-    alloc: Global,
     versions: &[Rows],
     phase: Phase,
     sw: u16,
     cursor: Cursor,
     span: Span,
-) -> Result<Option<Read>, AllocError>
+) -> Option<Read<'_>>
     requires { AreBetween versions.now sw span }
-    ensures none { IfOk result (λ r. IfNone r (left_by cursor (share_in phase) (coming_in versions.now phase) (going_in versions.now phase) sw ≡ [])) }
-    ensures some { IfOk result (λ r. IfSome r (λ x. left_by cursor (share_in phase) (coming_in versions.now phase) (going_in versions.now phase) sw ≡ x.change ∷ left_by x.cursor (share_in phase) (coming_in versions.now phase) (going_in versions.now phase) sw)) }
+    ensures none { IfNone result (left_by cursor (share_in phase) (coming_in versions.now phase) (going_in versions.now phase) sw ≡ []) }
+    ensures some { IfSome result (λ x. left_by cursor (share_in phase) (coming_in versions.now phase) (going_in versions.now phase) sw ≡ drafted x.draft ∷ left_by x.cursor (share_in phase) (coming_in versions.now phase) (going_in versions.now phase) sw) }
 {
-    let next = read_next(
+    let read = read_next(
         cursor,
         share_in(phase),
         coming_in(versions, phase),
         going_in(versions, phase),
         sw,
         span,
-    );
-    let Some(read) = next else {
-        return Ok(None);
-    };
-    Ok(Some(Read {
-        change: mod_of(alloc, read.adds, read.row)?,
+    )?;
+    Some(Read {
+        draft: Draft::Row {
+            adds: read.adds,
+            row: read.row,
+        },
         cursor: read.cursor,
-    }))
+    })
 }
 
 // Reads the flow mod that empties a table, where it did not go out yet.
-fn wiping(alloc: Global, next: usize, cursor: Cursor) -> Option<Read>
+fn wiping<'a>(next: usize, cursor: Cursor) -> Option<Read<'a>>
     ensures none { IfNone result (drop next (wipe ∷ []) ≡ []) }
-    ensures some { IfSome result (λ x. drop next (wipe ∷ []) ≡ x.change ∷ drop (next + 1) (wipe ∷ [])) }
+    ensures some { IfSome result (λ x. drop next (wipe ∷ []) ≡ drafted x.draft ∷ drop (next + 1) (wipe ∷ [])) }
 {
     if next > 0 {
         return None;
     }
     Some(Read {
-        change: FlowMod {
-            command: Command::Delete,
-            pattern: Pattern::any(),
-            priority: 0,
-            out_port: ANY_PORT,
-            actions: Actions::new(alloc),
-        },
+        draft: Draft::Wipe,
         cursor,
     })
 }

@@ -3,14 +3,17 @@ ghost use Rattle.std.specs.Prelude.{IsTrue, ◌↔◌, ◌≡◌, ◌<◌, None,
 
 use crate::batch::{Read, read_in};
 use crate::coordinator::Coordinator;
-use crate::sites::{change, fence, greet};
+use crate::sites::{self, fence, greet};
+use nk_values::FlowMod;
 use openflow_wire::Message;
 use std::alloc::{AllocError, Global};
+use update_plan::Cursor;
 
 impl Coordinator {
     ghost use Rattle.std.specs.Prelude.{false, true};
     ghost use Rattle.openflow_wire.specs.Writing.{Fits};
     ghost use Rattle.update_coordinator.specs.Controls.{Site as SiteValue};
+    ghost use Rattle.update_coordinator.specs.Drafts.{drafted};
     ghost use Rattle.update_coordinator.specs.Hearing.{IsAway};
     ghost use Rattle.update_coordinator.specs.Reading.{IsAtEnd, IsAtChange};
     ghost use Rattle.update_coordinator.specs.Sending.{IsSent, MaySend, Owes};
@@ -40,8 +43,11 @@ impl Coordinator {
         if !self.sites[place].is_in_batch() {
             return Ok(self.greet(place));
         }
-        match self.read(alloc, place)? {
-            Some(read) => Ok(Some(self.send_change(place, read))),
+        match self.read(place) {
+            Some(Read { draft, cursor }) => {
+                let change = draft.make(alloc)?;
+                Ok(Some(self.send_change(place, change, cursor)))
+            }
             None => Ok(Some(self.send_fence(place))),
         }
     }
@@ -69,14 +75,13 @@ impl Coordinator {
     }
 
     // The next flow mod of the batch of the switch at a place.
-    fn read(&self, alloc: Global, place: usize) -> Result<Option<Read>, AllocError>
+    fn read(&self, place: usize) -> Option<Read<'_>>
         requires within { place < length self.now.sites }
-        ensures none { IfOk result (λ r. IfNone r (IsAtEnd place self.now)) }
-        ensures some { IfOk result (λ r. IfSome r (λ x. IsAtChange place x.change x.cursor self.now)) }
+        ensures none { IfNone result (IsAtEnd place self.now) }
+        ensures some { IfSome result (λ x. IsAtChange place (drafted x.draft) x.cursor self.now) }
     {
         let site = &self.sites[place];
         read_in(
-            alloc,
             &self.versions,
             self.phase,
             site.sw(),
@@ -87,16 +92,16 @@ impl Coordinator {
     }
 
     // A flow mod goes to the switch at a place.
-    fn send_change(&mut self, place: usize, read: Read) -> Message
+    fn send_change(&mut self, place: usize, change: FlowMod, cursor: Cursor) -> Message
         requires within { place < length self.old.sites }
         requires running { self.old.halt ≡ None }
         requires turn { (s : SiteValue) → slice_get self.old.sites place ≡ Some s → in_batch s.greets s.asks s.sends ≡ true }
-        requires change { IsAtChange place read.change read.cursor self.old }
+        requires change { IsAtChange place change cursor self.old }
         ensures sent { IsSent place self.old self.new result }
         ensures fits { Fits result }
     {
-        let message = change(&mut self.sites, place, read.change);
-        self.cursors[place] = read.cursor;
+        let message = sites::change(&mut self.sites, place, change);
+        self.cursors[place] = cursor;
         message
     }
 

@@ -3,7 +3,8 @@ use Rattle.update_plan.specs.declared.cursor.Cursor.{Cursor}
 use Rattle.update_coordinator.specs.Controls.{Site, Control}
 use Rattle.nk_values.specs.declared.rows.Rows.{Rows}
 use Rattle.std.proofs.lemmas.Option.{slice_get-get_or}
-use Rattle.std.proofs.Common.{IfOk, IfNone, IfSome, [], ◌∷◌}
+use Rattle.std.proofs.Common.{IfNone, IfSome, [], ◌∷◌}
+use Rattle.update_coordinator.specs.Drafts.{drafted}
 use Rattle.update_coordinator.specs.Reading.{left_in}
 use Rattle.update_coordinator.proofs.Sent.{read_none, read_some}
 use Rattle.update_coordinator.proofs.coordinator.Coordinator.read.Goals as goal
@@ -18,10 +19,10 @@ returns-clause-none c =
     let here : slice_get old.sites.items c.args.place ≡ Some s = slice_get-get_or old.sites.items c.args.place s within ∙ ap (λ (z : Site). Some z) (sym c.index-site.ensures) in
     let cursor : c.args.place < length old.cursors.items = omega (arith, within, c.self.invariant.2.count) in
     let there : slice_get old.cursors.items c.args.place ≡ Some x = slice_get-get_or old.cursors.items c.args.place x cursor ∙ ap (λ (z : Cursor). Some z) (sym c.index.ensures) in
-    let at : IfOk c.read_in.result (λ r. IfNone r (left_in old.versions.items old.phase s.sw s.next x ≡ [])) =
-    subst (λ (vs : List Rows). IfOk c.read_in.result (λ r. IfNone r (left_in vs old.phase s.sw s.next x ≡ []))) c.deref.ensures.value
-    (subst (λ (n : ℕ). IfOk c.read_in.result (λ r. IfNone r (left_in c.deref.result.now old.phase n s.next x ≡ []))) c.sw.ensures
-    (subst (λ (n : ℕ). IfOk c.read_in.result (λ r. IfNone r (left_in c.deref.result.now old.phase c.sw.result n x ≡ []))) c.next.ensures c.read_in.ensures.none)) in
+    let at : IfNone c.read_in.result (left_in old.versions.items old.phase s.sw s.next x ≡ []) =
+    subst (λ (vs : List Rows). IfNone c.read_in.result (left_in vs old.phase s.sw s.next x ≡ [])) c.deref.ensures.value
+    (subst (λ (n : ℕ). IfNone c.read_in.result (left_in c.deref.result.now old.phase n s.next x ≡ [])) c.sw.ensures
+    (subst (λ (n : ℕ). IfNone c.read_in.result (left_in c.deref.result.now old.phase c.sw.result n x ≡ [])) c.next.ensures c.read_in.ensures.none)) in
     rw (← c.self.view_is) (read_none c.read_in.result c0 c.args.place s x old.spans.items old.cursors.items c.self.invariant.2 here there at)
 
 pub returns-clause-some : goal.returns-clause-some
@@ -34,8 +35,8 @@ returns-clause-some c =
     let here : slice_get old.sites.items c.args.place ≡ Some s = slice_get-get_or old.sites.items c.args.place s within ∙ ap (λ (z : Site). Some z) (sym c.index-site.ensures) in
     let cursor : c.args.place < length old.cursors.items = omega (arith, within, c.self.invariant.2.count) in
     let there : slice_get old.cursors.items c.args.place ≡ Some x = slice_get-get_or old.cursors.items c.args.place x cursor ∙ ap (λ (z : Cursor). Some z) (sym c.index.ensures) in
-    let at : IfOk c.read_in.result (λ r. IfSome r (λ y. left_in old.versions.items old.phase s.sw s.next x ≡ y.change ∷ left_in old.versions.items old.phase s.sw (s.next + 1) y.cursor)) =
-    subst (λ (vs : List Rows). IfOk c.read_in.result (λ r. IfSome r (λ y. left_in vs old.phase s.sw s.next x ≡ y.change ∷ left_in vs old.phase s.sw (s.next + 1) y.cursor))) c.deref.ensures.value
-    (subst (λ (n : ℕ). IfOk c.read_in.result (λ r. IfSome r (λ y. left_in c.deref.result.now old.phase n s.next x ≡ y.change ∷ left_in c.deref.result.now old.phase n (s.next + 1) y.cursor))) c.sw.ensures
-    (subst (λ (n : ℕ). IfOk c.read_in.result (λ r. IfSome r (λ y. left_in c.deref.result.now old.phase c.sw.result n x ≡ y.change ∷ left_in c.deref.result.now old.phase c.sw.result (n + 1) y.cursor))) c.next.ensures c.read_in.ensures.some)) in
+    let at : IfSome c.read_in.result (λ y. left_in old.versions.items old.phase s.sw s.next x ≡ drafted y.draft ∷ left_in old.versions.items old.phase s.sw (s.next + 1) y.cursor) =
+    subst (λ (vs : List Rows). IfSome c.read_in.result (λ y. left_in vs old.phase s.sw s.next x ≡ drafted y.draft ∷ left_in vs old.phase s.sw (s.next + 1) y.cursor)) c.deref.ensures.value
+    (subst (λ (n : ℕ). IfSome c.read_in.result (λ y. left_in c.deref.result.now old.phase n s.next x ≡ drafted y.draft ∷ left_in c.deref.result.now old.phase n (s.next + 1) y.cursor)) c.sw.ensures
+    (subst (λ (n : ℕ). IfSome c.read_in.result (λ y. left_in c.deref.result.now old.phase c.sw.result n x ≡ drafted y.draft ∷ left_in c.deref.result.now old.phase c.sw.result (n + 1) y.cursor)) c.next.ensures c.read_in.ensures.some)) in
     rw (← c.self.view_is) (read_some c.read_in.result c0 c.args.place s x old.spans.items old.cursors.items c.self.invariant.2 here there at)

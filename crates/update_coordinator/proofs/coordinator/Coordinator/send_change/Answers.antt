@@ -12,8 +12,8 @@ pub change-message-requires-clause-small : goal.change-message-requires-clause-s
 change-message-requires-clause-small c =
     let old = c.self.inside in
     let c0 : Control = (record { phase = old.phase; halt = old.halt; versions = old.versions.items; sites = old.sites.items; replies = old.replies; rejoins = old.rejoins; overlap = old.overlap; swept = old.swept }) in
-    let at : IsAtChange c.args.place c.args.read.change c.args.read.cursor c0 = subst (λ (v : Control). IsAtChange c.args.place c.args.read.change c.args.read.cursor v) (sym c.self.view_is) c.requires.change in
-    λ s e. change_small c0 c.args.place c.args.read.change c.args.read.cursor c.self.invariant.0 at s (ap (λ (xs : List Site). slice_get xs c.args.place) (sym c.deref_mut.ensures.value) ∙ e)
+    let at : IsAtChange c.args.place c.args.change c.args.cursor c0 = subst (λ (v : Control). IsAtChange c.args.place c.args.change c.args.cursor v) (sym c.self.view_is) c.requires.change in
+    λ s e. change_small c0 c.args.place c.args.change c.args.cursor c.self.invariant.0 at s (ap (λ (xs : List Site). slice_get xs c.args.place) (sym c.deref_mut.ensures.value) ∙ e)
 
 pub invariant_of-self : goal.invariant_of-self
 invariant_of-self c =
@@ -22,11 +22,11 @@ invariant_of-self c =
     let new = c.change-message.new.sites in
     let sites : take old.sites.len (new ++ drop (length new) old.sites.items) ≡ new = whole old.sites.len old.sites.items new (omega (arith, old.sites.ok)) (omega arith) in
     let turn : (s : Site) → slice_get old.sites.items c.args.place ≡ Some s → in_batch s.greets s.asks s.sends ≡ true = subst (λ (v : Control). (s : Site) → slice_get v.sites c.args.place ≡ Some s → in_batch s.greets s.asks s.sends ≡ true) (sym c.self.view_is) c.requires.turn in
-    let sends : SendsAt c.args.place (Change c.args.read.change) old.sites.items new c.change-message.result = subst (λ (xs : List Site). SendsAt c.args.place (Change c.args.read.change) xs new c.change-message.result) c.deref_mut.ensures.value c.change-message.ensures in
-    let at : IsAtChange c.args.place c.args.read.change c.args.read.cursor c0 = subst (λ (v : Control). IsAtChange c.args.place c.args.read.change c.args.read.cursor v) (sym c.self.view_is) c.requires.change in (
-      subst (λ (zs : List Site). IsControl (record { phase = old.phase; halt = old.halt; versions = old.versions.items; sites = zs; replies = old.replies; rejoins = old.rejoins; overlap = old.overlap; swept = old.swept })) (sym sites) (change_keeps c0 c.args.place c.args.read.change c.args.read.cursor new c.change-message.result c.self.invariant.0 turn at sends),
+    let sends : SendsAt c.args.place (Change c.args.change) old.sites.items new c.change-message.result = subst (λ (xs : List Site). SendsAt c.args.place (Change c.args.change) xs new c.change-message.result) c.deref_mut.ensures.value c.change-message.ensures in
+    let at : IsAtChange c.args.place c.args.change c.args.cursor c0 = subst (λ (v : Control). IsAtChange c.args.place c.args.change c.args.cursor v) (sym c.self.view_is) c.requires.change in (
+      subst (λ (zs : List Site). IsControl (record { phase = old.phase; halt = old.halt; versions = old.versions.items; sites = zs; replies = old.replies; rejoins = old.rejoins; overlap = old.overlap; swept = old.swept })) (sym sites) (change_keeps c0 c.args.place c.args.change c.args.cursor new c.change-message.result c.self.invariant.0 turn at sends),
       c.self.invariant.1,
-      subst (λ (zs : List Site). AreRead (record { phase = old.phase; halt = old.halt; versions = old.versions.items; sites = zs; replies = old.replies; rejoins = old.rejoins; overlap = old.overlap; swept = old.swept }) old.spans.items (slice_set old.cursors.items c.args.place c.args.read.cursor)) (sym sites) (changes_read c0 c.args.place c.args.read.change c.args.read.cursor new c.change-message.result old.spans.items old.cursors.items c.self.invariant.2 at sends),
+      subst (λ (zs : List Site). AreRead (record { phase = old.phase; halt = old.halt; versions = old.versions.items; sites = zs; replies = old.replies; rejoins = old.rejoins; overlap = old.overlap; swept = old.swept }) old.spans.items (slice_set old.cursors.items c.args.place c.args.cursor)) (sym sites) (changes_read c0 c.args.place c.args.change c.args.cursor new c.change-message.result old.spans.items old.cursors.items c.self.invariant.2 at sends),
     )
 
 pub returns-clause-sent : goal.returns-clause-sent
@@ -36,10 +36,10 @@ returns-clause-sent c =
     let new = c.change-message.new.sites in
     let sites : take old.sites.len (new ++ drop (length new) old.sites.items) ≡ new = whole old.sites.len old.sites.items new (omega (arith, old.sites.ok)) (omega arith) in
     let turn : (s : Site) → slice_get old.sites.items c.args.place ≡ Some s → in_batch s.greets s.asks s.sends ≡ true = subst (λ (v : Control). (s : Site) → slice_get v.sites c.args.place ≡ Some s → in_batch s.greets s.asks s.sends ≡ true) (sym c.self.view_is) c.requires.turn in
-    let sends : SendsAt c.args.place (Change c.args.read.change) old.sites.items new c.change-message.result = subst (λ (xs : List Site). SendsAt c.args.place (Change c.args.read.change) xs new c.change-message.result) c.deref_mut.ensures.value c.change-message.ensures in
-    let at : IsAtChange c.args.place c.args.read.change c.args.read.cursor c0 = subst (λ (v : Control). IsAtChange c.args.place c.args.read.change c.args.read.cursor v) (sym c.self.view_is) c.requires.change in
+    let sends : SendsAt c.args.place (Change c.args.change) old.sites.items new c.change-message.result = subst (λ (xs : List Site). SendsAt c.args.place (Change c.args.change) xs new c.change-message.result) c.deref_mut.ensures.value c.change-message.ensures in
+    let at : IsAtChange c.args.place c.args.change c.args.cursor c0 = subst (λ (v : Control). IsAtChange c.args.place c.args.change c.args.cursor v) (sym c.self.view_is) c.requires.change in
     rw (← c.self.view_is) (subst (λ (zs : List Site). IsSent c.args.place c0 (record { phase = old.phase; halt = old.halt; versions = old.versions.items; sites = zs; replies = old.replies; rejoins = old.rejoins; overlap = old.overlap; swept = old.swept }) c.change-message.result) (sym sites)
-    (change_sent c0 c.args.place c.args.read.change c.args.read.cursor new c.change-message.result (ap (λ (v : Control). v.halt) c.self.view_is ∙ c.requires.running) turn at sends))
+    (change_sent c0 c.args.place c.args.change c.args.cursor new c.change-message.result (ap (λ (v : Control). v.halt) c.self.view_is ∙ c.requires.running) turn at sends))
 
 pub returns-clause-fits : goal.returns-clause-fits
 returns-clause-fits c =
@@ -47,9 +47,9 @@ returns-clause-fits c =
     let c0 : Control = (record { phase = old.phase; halt = old.halt; versions = old.versions.items; sites = old.sites.items; replies = old.replies; rejoins = old.rejoins; overlap = old.overlap; swept = old.swept }) in
     let new = c.change-message.new.sites in
     let sites : take old.sites.len (new ++ drop (length new) old.sites.items) ≡ new = whole old.sites.len old.sites.items new (omega (arith, old.sites.ok)) (omega arith) in
-    let sends : SendsAt c.args.place (Change c.args.read.change) old.sites.items new c.change-message.result = subst (λ (xs : List Site). SendsAt c.args.place (Change c.args.read.change) xs new c.change-message.result) c.deref_mut.ensures.value c.change-message.ensures in
-    let at : IsAtChange c.args.place c.args.read.change c.args.read.cursor c0 = subst (λ (v : Control). IsAtChange c.args.place c.args.read.change c.args.read.cursor v) (sym c.self.view_is) c.requires.change in
-    change_fits c0 c.args.place c.args.read.change c.args.read.cursor new c.change-message.result c.self.invariant.0 at sends
+    let sends : SendsAt c.args.place (Change c.args.change) old.sites.items new c.change-message.result = subst (λ (xs : List Site). SendsAt c.args.place (Change c.args.change) xs new c.change-message.result) c.deref_mut.ensures.value c.change-message.ensures in
+    let at : IsAtChange c.args.place c.args.change c.args.cursor c0 = subst (λ (v : Control). IsAtChange c.args.place c.args.change c.args.cursor v) (sym c.self.view_is) c.requires.change in
+    change_fits c0 c.args.place c.args.change c.args.cursor new c.change-message.result c.self.invariant.0 at sends
 
 pub index_mut-requires : goal.index_mut-requires
 index_mut-requires c =
