@@ -52,6 +52,14 @@ fn tells(alloc: Global, world: &World, events: &Events, text: &str) -> bool {
     world_report(alloc, world, events).is_ok_and(|told| told.as_str() == text)
 }
 
+// Whether the first of these events cannot happen any more.
+fn is_over(world: &World, events: &Events) -> bool {
+    match events.iter().next() {
+        Some(first) => !world.enabled(first.event()),
+        None => false,
+    }
+}
+
 // Bytes come from outside, once.
 fn foreign(alloc: Global, world: &mut World, events: &mut Events) -> bool {
     let Ok(came) = Octets::from_slice(alloc, &[0x01, 0x2f]) else {
@@ -62,10 +70,7 @@ fn foreign(alloc: Global, world: &mut World, events: &mut Events) -> bool {
         world,
         events,
         Event::Foreign(0, Side::Controller, came),
-    ) && events
-        .iter()
-        .next()
-        .is_some_and(|event| !world.enabled(event.event()))
+    ) && is_over(world, events)
         && tells(alloc, world, events, REPORT)
 }
 
