@@ -8,7 +8,7 @@ ghost use Rattle.embed_example.specs.Refusals.{IsReason};
 use fdd_compile::{CompileError, compile, names_few};
 use nk_syntax::Pol;
 use nk_values::{Band, CompileFault, EmitFault};
-use policy_rows::Version;
+use policy_rows::{Intent, Version};
 use std::alloc::{AllocError, Global};
 use table_emitter::{EmitError, emit};
 use topology_model::Topology;
@@ -58,7 +58,7 @@ pub fn version(alloc: Global, pol: &Pol, topology: &Topology) -> Result<Version,
     match emit(
         alloc,
         &compiled,
-        pol.copy(alloc)?,
+        Intent::of(pol),
         topology,
         STAMP,
         Band::High,

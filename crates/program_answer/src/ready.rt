@@ -5,42 +5,12 @@ ghost use Rattle.document_text.specs.Answers.{doc_of};
 
 use document_text::{Document, PacketLine, ScheduleLine, Settings};
 use nk_syntax::Pol;
+use policy_rows::Intent;
 use std::alloc::{AllocError, Global};
 use std::marker::Model;
-use std::snapshot::Snapshot;
 use topology_model::Topology;
 
-/// A policy as clauses see it. No code reads it, so it takes no memory.
-#[derive(Drop)]
-struct Intent {
-    policy: Snapshot<Pol>,
-}
-
-impl Model for Intent {
-    ghost use Rattle.nk_syntax.specs.declared.pol.Pol.{Pol};
-    ghost use Rattle.nk_syntax.specs.contracts.pol.Pol as pols;
-    ghost use Rattle.std.specs.Coded.{codes};
-
-    ghost Value = { Pol };
-
-    // a policy holds itself, so its code is named
-    ghost coded = { Prim.hlevel (codes, pols.the_row.coded) };
-
-    ghost view = { λ i. i.policy.value };
-}
-
-impl Intent {
-    // What is meant by a policy.
-    fn of(pol: &Pol) -> Intent
-        ensures { result ≡ pol.now }
-    {
-        Intent {
-            policy: Snapshot::of(pol),
-        }
-    }
-}
-
-/// A document whose policies were handed over, to be kept by their versions. Clauses see it as the document.
+/// A document whose policies were put into rows, and let go. Clauses see it as the document.
 #[derive(Drop)]
 pub struct ReadyDocument {
     topology: Topology,

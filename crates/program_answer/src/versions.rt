@@ -10,7 +10,7 @@ use crate::answer::AnswerError;
 use document_text::Settings;
 use fdd_compile::{CompileError, Compiler};
 use nk_syntax::Pol;
-use policy_rows::{Version, band_of, stamp_of};
+use policy_rows::{Intent, Version, band_of, stamp_of};
 use report_text::Fault;
 use std::alloc::Global;
 use table_emitter::{EmitError, emit};
@@ -40,7 +40,7 @@ pub fn versions(
     Ok(versions)
 }
 
-// The policy at a place with its rows.
+// The policy at a place with its rows. It is let go before they are made, so that they may take its memory.
 fn version(
     alloc: Global,
     compiler: &mut Compiler,
@@ -63,9 +63,11 @@ fn version(
         }
         Err(CompileError::Memory) => return Err(AnswerError::Memory),
     };
+    let intent = Intent::of(&pol);
+    drop(pol);
     let (low, high) = settings.stamps;
     let stamp = stamp_of(low, high, place);
-    match emit(alloc, &compiled, pol, topology, stamp, band_of(place)) {
+    match emit(alloc, &compiled, intent, topology, stamp, band_of(place)) {
         Ok(version) => Ok(version),
         Err(EmitError::Fault(fault)) => Err(AnswerError::Fault(Fault::Emit { policy, fault })),
         Err(EmitError::Memory) => Err(AnswerError::Memory),

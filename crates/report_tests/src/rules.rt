@@ -3,7 +3,7 @@ use nk_syntax::{Pol, Pred};
 use nk_values::{
     Action, Actions, Band, Pattern, PortKind, PortLists, PortRows, Row, RowList, Rows, UNTAGGED,
 };
-use policy_rows::Version;
+use policy_rows::{Intent, Version};
 use report_text::{Text, rules_text};
 use std::alloc::{AllocError, Global};
 use std::process::Abort;
@@ -89,7 +89,7 @@ fn version(band: Band, ports: PortLists) -> Version {
         band,
         ports,
     };
-    Version::new(Pol::Filter(Pred::One), rows)
+    Version::new(Intent::of(&Pol::Filter(Pred::One)), rows)
 }
 
 // The pattern of a port, for packets with this number as dl_vlan.

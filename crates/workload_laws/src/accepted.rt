@@ -13,7 +13,7 @@ use fdd_compile::{CompileError, Compiled, compile};
 use fdd_nodes::{Leaf, Node};
 use nk_syntax::Pol;
 use nk_values::Band;
-use policy_rows::Version;
+use policy_rows::{Intent, Version};
 use std::alloc::{AllocError, Global};
 use table_emitter::{EmitError, emit};
 use topology_model::Topology;
@@ -35,7 +35,7 @@ pub fn version_of(
     let compiled = diagram_of(alloc, pol)?;
     see_node(compiled.diagram().root());
     let _switches = topology.switches();
-    match emit(alloc, &compiled, pol.copy(alloc)?, topology, stamp, band) {
+    match emit(alloc, &compiled, Intent::of(pol), topology, stamp, band) {
         Ok(version) => Ok(version),
         Err(EmitError::Memory) => Err(AllocError),
         Err(EmitError::Fault(_)) => unreachable!(),
