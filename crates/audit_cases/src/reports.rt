@@ -44,7 +44,7 @@ fn addition(alloc: Global, row: &Row) -> Result<FlowMod, AllocError> {
         pattern: row.pattern,
         priority: row.priority,
         out_port: ANY_PORT,
-        actions: row.actions.copy(alloc)?,
+        actions: row.actions.copy()?,
     })
 }
 

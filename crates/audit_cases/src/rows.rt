@@ -61,13 +61,13 @@ fn row_of(alloc: Global, key: &str, ports: &str) -> Result<Row, AllocError> {
 }
 
 fn actions_of(alloc: Global, ports: &str) -> Result<Actions, AllocError> {
-    let mut actions = Actions::new(alloc);
+    let mut actions = List::new(alloc);
     for port in ports.split(' ') {
         if let Ok(port) = port.parse::<u16>() {
             actions.push(Action::Output(port))?;
         }
     }
-    Ok(actions)
+    Actions::of(alloc, actions)
 }
 
 // A word of a key: all other words are left out.

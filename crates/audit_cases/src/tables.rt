@@ -45,8 +45,7 @@ fn add_row(alloc: Global, switch: &mut Switch, port: u16) -> Result<(), AllocErr
 fn addition(alloc: Global, port: u16) -> Result<Message, AllocError>
     ensures { IfOk result Fits }
 {
-    let mut actions = Actions::new(alloc);
-    actions.push(Action::Output(2))?;
+    let actions = Actions::one(Action::Output(2));
     let change = FlowMod {
         command: Command::Add,
         pattern: Pattern {

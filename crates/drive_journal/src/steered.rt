@@ -90,7 +90,7 @@ impl<L: DriveName, E: Link, Q: Receipt> Steered<L, E, Q> {
         let Ok(()) = self.journal.reserve(1) else {
             return Err(Refused::Memory(()));
         };
-        let message = match self.coordinator.next_out(alloc, place) {
+        let message = match self.coordinator.next_out(place) {
             Ok(Some(message)) => message,
             Ok(None) => return Err(Refused::NotEnabled(())),
             Err(AllocError) => return Err(Refused::Memory(())),

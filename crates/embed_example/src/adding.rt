@@ -50,7 +50,7 @@ fn addition(alloc: Global, row: &Row) -> Result<BytesMut, AllocError>
         pattern: row.pattern,
         priority: row.priority,
         out_port: ANY_PORT,
-        actions: row.actions.copy(alloc)?,
+        actions: row.actions.copy()?,
     };
     let message = Message::FlowMod { xid: XID, change };
     let mut bytes = BytesMut::new(alloc);

@@ -30,10 +30,11 @@ fn change(
     out: u16,
     out_port: u16,
 ) -> Result<(), ChangeError> {
-    let mut actions = Actions::new(alloc);
-    if out > 0 {
-        actions.push(Action::Output(out))?;
-    }
+    let actions = if out > 0 {
+        Actions::one(Action::Output(out))
+    } else {
+        Actions::none()
+    };
     let change = FlowMod {
         command,
         pattern,

@@ -57,8 +57,7 @@ fn add(
     priority: u16,
     out: u16,
 ) -> Result<(), ChangeError> {
-    let mut actions = Actions::new(alloc);
-    actions.push(Action::Output(out))?;
+    let actions = Actions::one(Action::Output(out));
     let mut change = FlowMod {
         command: Command::Add,
         pattern,
@@ -140,7 +139,7 @@ fn remove(
         pattern,
         priority,
         out_port: ANY_PORT,
-        actions: Actions::new(alloc),
+        actions: Actions::none(),
     };
     table.change(alloc, &mut change)
 }

@@ -11,7 +11,7 @@ use crate::moves::moves;
 use crate::order::out_of;
 use crate::view::PortView;
 use fdd_nodes::{Assignments, Cell};
-use nk_values::{Action, Actions};
+use nk_values::{Action, Actions, List};
 use std::alloc::{AllocError, Global};
 
 // The actions of a copy that is alone.
@@ -25,17 +25,25 @@ pub(crate) fn listed_alone(
     ensures { IfOk result (λ as'. as' ≡ listed view.now cell.now cell.now view.now.kind (routes_of view.now cell.now (copy.now ∷ []))) }
 {
     let Some(port) = view.port(out_of(view, copy)) else {
-        return Ok(Actions::new(alloc));
+        return Ok(Actions::none());
     };
-    let mut actions = Actions::of(Vec::with_capacity(alloc, 2)?);
+    let output = Action::Output(port_number(view, port.pt));
+    if port.kind == view.kind && moves(copy.lits()) {
+        return Ok(Actions::one(output));
+    }
+    let mut actions = List::of(Vec::with_capacity(alloc, 2)?);
     push_changes_of(&mut actions, cell, copy)?;
     push_tag(&mut actions, view.stamp, view.kind, port.kind)?;
-    actions.push(Action::Output(port_number(view, port.pt)))?;
-    Ok(actions)
+    actions.push(output)?;
+    Actions::of(alloc, actions)
 }
 
 // Adds what a copy changes in the packets of a cell. Most copies set no header field.
-fn push_changes_of(actions: &mut Actions, cell: &Cell, copy: &Assignments) -> Result<(), AllocError>
+fn push_changes_of(
+    actions: &mut List<Action>,
+    cell: &Cell,
+    copy: &Assignments,
+) -> Result<(), AllocError>
     requires { IsValid cell.now }
     ensures { OnOk result (actions.new ≡ actions.old ++ changed cell.now (apply copy.now cell.now) settable) }
 {

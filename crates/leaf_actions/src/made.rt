@@ -18,7 +18,7 @@ use crate::route::Route;
 use crate::staying::{common_port, stayed};
 use crate::view::PortView;
 use fdd_nodes::{Cell, Leaf};
-use nk_values::{Action, Actions, Field, IN_PORT, Packet, PortKind};
+use nk_values::{Action, Actions, Field, IN_PORT, List, Packet, PortKind};
 use std::alloc::{AllocError, Global};
 
 /// Why no list of actions makes all copies: no action gives a field back its original number. The copies `a` and `b`, in
@@ -100,7 +100,7 @@ fn listed(
     ensures { IfOk result (λ as'. as' ≡ listed view.now cell.now cell.now view.now.kind routes.now) }
 {
     // room for a tag and an output each
-    let mut actions = Actions::of(Vec::with_capacity(alloc, 2 * routes.len())?);
+    let mut actions = List::of(Vec::with_capacity(alloc, 2 * routes.len())?);
     let mut known = *cell.generic();
     let mut kind = view.kind;
     for route in routes {
@@ -111,12 +111,12 @@ fn listed(
         known = next;
         kind = route.kind;
     }
-    Ok(actions)
+    Actions::of(alloc, actions)
 }
 
 // Adds what turns the header fields of one packet into those of another.
 pub(crate) fn push_changes(
-    actions: &mut Actions,
+    actions: &mut List<Action>,
     known: &Packet,
     next: &Packet,
 ) -> Result<(), AllocError>
@@ -145,7 +145,7 @@ pub(crate) fn push_changes(
 
 // Adds what turns a number of a field into another.
 #[inline]
-fn push_change(actions: &mut Actions, f: Field, old: u64, new: u64) -> Result<(), AllocError>
+fn push_change(actions: &mut List<Action>, f: Field, old: u64, new: u64) -> Result<(), AllocError>
     requires { old ≢ new → IsValue f new }
     ensures { OnOk result (actions.new ≡ actions.old ++ change f old new) }
 {
@@ -172,7 +172,7 @@ fn setting(f: Field, n: u64) -> Action
 
 // Adds what turns the tag of one kind of port into that of another.
 pub(crate) fn push_tag(
-    actions: &mut Actions,
+    actions: &mut List<Action>,
     stamp: u16,
     from: PortKind,
     to: PortKind,

@@ -6,7 +6,7 @@ use crate::made::{port_number, push_tag};
 use crate::route::Route;
 use crate::view::PortView;
 use fdd_nodes::Assignments;
-use nk_values::{Action, Actions, Field, Lit};
+use nk_values::{Action, Actions, Field, List, Lit};
 use std::alloc::{AllocError, Global};
 
 // Whether no copy sets a header field.
@@ -38,12 +38,12 @@ pub(crate) fn moved(alloc: Global, routes: &[Route], view: &PortView) -> Result<
     ensures { IfOk result (λ as'. as' ≡ moved view.now view.now.kind routes.now) }
 {
     // room for a tag and an output each
-    let mut actions = Actions::of(Vec::with_capacity(alloc, 2 * routes.len())?);
+    let mut actions = List::of(Vec::with_capacity(alloc, 2 * routes.len())?);
     let mut kind = view.kind;
     for route in routes {
         push_tag(&mut actions, view.stamp, kind, route.kind)?;
         actions.push(Action::Output(port_number(view, route.port)))?;
         kind = route.kind;
     }
-    Ok(actions)
+    Actions::of(alloc, actions)
 }

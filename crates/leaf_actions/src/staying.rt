@@ -7,7 +7,7 @@ use crate::made::{port_number, push_changes, push_tag};
 use crate::order::out_of;
 use crate::view::{PortView, SwitchPort};
 use fdd_nodes::{Assignments, Cell};
-use nk_values::{Action, Actions, Field, Lit};
+use nk_values::{Action, Actions, Field, List, Lit};
 use std::alloc::{AllocError, Global};
 
 // The port by which all copies leave, if there is one and they set only header fields that the cell fixes.
@@ -66,7 +66,7 @@ pub(crate) fn stayed(
     let output = Action::Output(port_number(view, port.pt));
     // room for a changed field and an output each, and for some copies that change two
     let room = 2 * copies.len() + copies.len() / 8;
-    let mut actions = Actions::of(Vec::with_capacity(alloc, room)?);
+    let mut actions = List::of(Vec::with_capacity(alloc, room)?);
     let mut known = *cell.generic();
     let mut kind = view.kind;
     for copy in copies {
@@ -77,5 +77,5 @@ pub(crate) fn stayed(
         known = next;
         kind = port.kind;
     }
-    Ok(actions)
+    Actions::of(alloc, actions)
 }

@@ -1,7 +1,8 @@
 // The text of rows.
 use nk_syntax::{Pol, Pred};
 use nk_values::{
-    Action, Actions, Band, Pattern, PortKind, PortLists, PortRows, Row, RowList, Rows, UNTAGGED,
+    Action, Actions, Band, List, Pattern, PortKind, PortLists, PortRows, Row, RowList, Rows,
+    UNTAGGED,
 };
 use policy_rows::{Intent, Version};
 use report_text::{Text, rules_text};
@@ -46,11 +47,11 @@ pub(crate) fn topology(
 
 // These actions.
 fn actions_of(alloc: Global, list: &[Action]) -> Result<Actions, AllocError> {
-    let mut actions = Actions::new(alloc);
+    let mut actions = List::new(alloc);
     for action in list {
         actions.push(*action)?;
     }
-    Ok(actions)
+    Actions::of(alloc, actions)
 }
 
 // A list of one row.

@@ -81,7 +81,7 @@ fn rows_of_deletion(
         pattern: *pattern,
         priority: 0,
         out_port,
-        actions: Actions::new(alloc),
+        actions: Actions::none(),
     };
     rows_meant(alloc, rows, &change)
 }

@@ -12,8 +12,7 @@ use switch_model::Switch;
 pub fn add(alloc: Global, xid: u32, priority: u16) -> Result<Message, AllocError>
     ensures { IfOk result Fits }
 {
-    let mut actions = Actions::new(alloc);
-    actions.push(Action::Output(2))?;
+    let actions = Actions::one(Action::Output(2));
     let change = FlowMod {
         command: Command::Add,
         pattern: Pattern {

@@ -112,7 +112,7 @@ fn list_leaf(
         }
         RowCells::Both(tcp, udp) => {
             let made = row_actions(alloc, cell, leaf, view)?;
-            let copied = made.copy(alloc)?;
+            let copied = made.copy()?;
             push_row(pattern_of(view, &tcp), copied, view, top, rows)?;
             push_row(pattern_of(view, &udp), made, view, top, rows)
         }

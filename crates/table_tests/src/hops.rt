@@ -7,8 +7,8 @@ ghost use Rattle.nk_values.specs.Changes.{row_of};
 use crate::networks::{Net, topology};
 use flow_index::{ChangeError, Table};
 use nk_values::{
-    ANY_PORT, Action, Actions, Command, FlowMod, Header, History, IN_PORT, Packet, Pattern, Tag,
-    in_range,
+    ANY_PORT, Action, Actions, Command, FlowMod, Header, History, IN_PORT, List, Packet, Pattern,
+    Tag, in_range,
 };
 use packet_tracer::{Flight, Hopped, hop};
 use std::alloc::{AllocError, Global};
@@ -55,7 +55,7 @@ fn table(alloc: Global, change: &mut FlowMod) -> Result<Table, ChangeError>
 fn two_ways(alloc: Global) -> Result<FlowMod, AllocError>
     ensures { IfOk result (λ change. change.command ≡ Command.Add) }
 {
-    let mut actions = Actions::new(alloc);
+    let mut actions = List::new(alloc);
     actions.push(Action::Output(IN_PORT))?;
     actions.push(Action::SetVlanVid(1))?;
     actions.push(Action::SetDlDst(5))?;
@@ -65,7 +65,7 @@ fn two_ways(alloc: Global) -> Result<FlowMod, AllocError>
         pattern: Pattern::any(),
         priority: 1,
         out_port: ANY_PORT,
-        actions,
+        actions: Actions::of(alloc, actions)?,
     })
 }
 

@@ -31,7 +31,7 @@ pub(crate) enum Draft<'a> {
 
 impl<'a> Draft<'a> {
     /// The flow mod.
-    pub(crate) fn make(self, alloc: Global) -> Result<FlowMod, AllocError>
+    pub(crate) fn make(self) -> Result<FlowMod, AllocError>
         ensures { IfOk result (λ m. m ≡ drafted self.entry) }
     {
         match self {
@@ -40,9 +40,9 @@ impl<'a> Draft<'a> {
                 pattern: Pattern::any(),
                 priority: 0,
                 out_port: ANY_PORT,
-                actions: Actions::new(alloc),
+                actions: Actions::none(),
             }),
-            Draft::Row { adds, row } => mod_of(alloc, adds, row),
+            Draft::Row { adds, row } => mod_of(adds, row),
         }
     }
 }

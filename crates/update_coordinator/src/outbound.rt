@@ -6,7 +6,7 @@ use crate::coordinator::Coordinator;
 use crate::sites::{self, fence, greet};
 use nk_values::FlowMod;
 use openflow_wire::Message;
-use std::alloc::{AllocError, Global};
+use std::alloc::AllocError;
 use update_plan::Cursor;
 
 impl Coordinator {
@@ -30,7 +30,7 @@ impl Coordinator {
     }
 
     /// Gives the next message to the switch at a place. After an `Err` all is as it was.
-    pub fn next_out(&mut self, alloc: Global, place: usize) -> Result<Option<Message>, AllocError>
+    pub fn next_out(&mut self, place: usize) -> Result<Option<Message>, AllocError>
         requires { place < length self.old.sites }
         ensures none { IfOk result (λ m. IfNone m (¬ (MaySend place self.old) × (self.new ≡ self.old))) }
         ensures some { IfOk result (λ m. IfSome m (IsSent place self.old self.new)) }
@@ -45,7 +45,7 @@ impl Coordinator {
         }
         match self.read(place) {
             Some(Read { draft, cursor }) => {
-                let change = draft.make(alloc)?;
+                let change = draft.make()?;
                 Ok(Some(self.send_change(place, change, cursor)))
             }
             None => Ok(Some(self.send_fence(place))),

@@ -16,8 +16,7 @@ use update_coordinator::Coordinator;
 fn port(alloc: Global, sw: u16, priority: u16) -> Result<PortRows, AllocError>
     ensures { IfOk result (λ p. p.rows ≡ one_row priority ∷ []) }
 {
-    let mut actions = Actions::new(alloc);
-    actions.push(Action::Output(2))?;
+    let actions = Actions::one(Action::Output(2));
     let mut rows = RowList::new(alloc);
     rows.push(Row {
         pattern: Pattern {
@@ -113,13 +112,13 @@ pub fn full(alloc: Global) -> Option<Message> {
 }
 
 // The next message to the switch at a place.
-pub fn next_out(alloc: Global, c: &mut Coordinator, place: usize) -> Option<Message>
+pub fn next_out(c: &mut Coordinator, place: usize) -> Option<Message>
     ensures { IfSome result Fits }
 {
     if place >= c.switch_count() {
         return None;
     }
-    c.next_out(alloc, place).ok()?
+    c.next_out(place).ok()?
 }
 
 // The move of a message that was heard.
@@ -146,7 +145,7 @@ pub fn may_send(c: &Coordinator, place: usize) -> bool {
 // Sends all that may go to a switch, which answers at once. Gives how many messages went.
 pub fn serve(alloc: Global, c: &mut Coordinator, place: usize, sw: u64) -> u32 {
     for sent in 0..100 {
-        let Some(message) = next_out(alloc, c, place) else {
+        let Some(message) = next_out(c, place) else {
             return sent;
         };
         let reply = answer(alloc, sw, &message);

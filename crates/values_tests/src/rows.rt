@@ -7,22 +7,20 @@ use std::alloc::{AllocError, Global};
 use std::test::Fail;
 
 // An addition with one output.
-fn change(alloc: Global) -> Result<FlowMod, AllocError> {
-    let mut actions = Actions::new(alloc);
-    actions.push(Action::Output(2))?;
-    Ok(FlowMod {
+fn change() -> FlowMod {
+    FlowMod {
         command: Command::Add,
         pattern: Pattern::any(),
         priority: 7,
         out_port: ANY_PORT,
-        actions,
-    })
+        actions: Actions::one(Action::Output(2)),
+    }
 }
 
 // The rows of one port, with the row of a copied flow mod.
 fn rows(alloc: Global) -> Result<Rows, AllocError> {
     let mut list = RowList::new(alloc);
-    list.push(change(alloc)?.copy(alloc)?.row(alloc)?)?;
+    list.push(change().copy(alloc)?.row()?)?;
     let mut ports = PortLists::new(alloc);
     ports.push(PortRows {
         sw: 1,

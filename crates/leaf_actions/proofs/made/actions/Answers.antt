@@ -21,17 +21,19 @@ returns-then-climbs-clause-fits c = actions_fit _ _ _ _ c.requires.stamp c.requi
 pub unreachable-requires : goal.unreachable-requires
 unreachable-requires c = some_apart c.args.view.now _ _ _ _ _ _ c.deref-2.ensures.value c.deref-3.ensures.value c.in_ok-routes.ensures (λ h. let t = c.climbs.ensures.1 h in let f = c.if-climbs.false in cc) c.in_ok-fault.ensures c.in-None.is
 
+lone_ready : (c : goal.In_ok-listed_alone) → Ready c.args.cell.now c.args.view.now c.args.leaf.now c.in_ok-listed_alone.field-0
+lone_ready c =
+    alone c.args.cell.now c.args.view.now c.copy-item.result c.args.leaf.now _ (sym c.copies-copies.ensures.list ∙ only c.copies-copies.result.now c.copy-item.result _ c.in-len1.len_at_least c.in-len1.len_below c.copy-item.is)
+    c.in_ok-listed_alone.ensures
+
+pub returns-in-len1-clause-list : goal.returns-in-len1-clause-list
+returns-in-len1-clause-list c = action_list _ _ _ _ (lone_ready c)
+
 pub returns-in-len1-clause-acts : goal.returns-in-len1-clause-acts
-returns-in-len1-clause-acts c =
-    acts_as _ _ _ _ c.requires.settable c.requires.stamp
-    (alone c.args.cell.now c.args.view.now c.copy-item.result c.args.leaf.now _ (sym c.copies-copies.ensures.list ∙ only c.copies-copies.result.now c.copy-item.result _ c.in-len1.len_at_least c.in-len1.len_below c.copy-item.is)
-    c.in_ok-listed_alone.ensures)
+returns-in-len1-clause-acts c = acts_as _ _ _ _ c.requires.settable c.requires.stamp (lone_ready c)
 
 pub returns-in-len1-clause-fits : goal.returns-in-len1-clause-fits
-returns-in-len1-clause-fits c =
-    actions_fit _ _ _ _ c.requires.stamp c.requires.valid
-    (alone c.args.cell.now c.args.view.now c.copy-item.result c.args.leaf.now _ (sym c.copies-copies.ensures.list ∙ only c.copies-copies.result.now c.copy-item.result _ c.in-len1.len_at_least c.in-len1.len_below c.copy-item.is)
-    c.in_ok-listed_alone.ensures)
+returns-in-len1-clause-fits c = actions_fit _ _ _ _ c.requires.stamp c.requires.valid (lone_ready c)
 
 moved_ready : (c : goal.After-drop-routes-then-all_move) → Ready c.args.cell.now c.args.view.now c.args.leaf.now c.in_ok-moved.field-0
 moved_ready c = moves_ready c.args.cell.now c.args.view.now c.args.leaf.now _ _ _ _ c.copies-copies.ensures.list c.deref.ensures.value (c.all_move.ensures.0 c.if-all_move.true) c.in_ok-routes.ensures c.in_ok-moved.ensures
