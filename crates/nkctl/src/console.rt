@@ -28,6 +28,10 @@ impl<R> Console<R> {
 
 impl<R: Drop> Gate for Console<R> {
     fn pass(&self, _worker: usize, _place: Place) {}
+
+    fn is_open(&self) -> bool {
+        true
+    }
 }
 
 impl<R: Eprint> Onlooker for Console<R> {

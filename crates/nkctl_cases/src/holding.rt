@@ -101,4 +101,8 @@ impl<R: Wait + Drop> Gate for Holding<R> {
         }
         self.seen.lock(&self.rt).late = true;
     }
+
+    fn is_open(&self) -> bool {
+        self.hold.is_none()
+    }
 }

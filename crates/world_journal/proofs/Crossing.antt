@@ -1,27 +1,16 @@
--- A run may go to another thread: so may its world, with policies whose terms hold terms.
-use mathlib.Core.Logic.{inl, inr}
+-- A run may go to another thread: so may its world.
 use denote.RattleType.{RattleType}
-use denote.Enum.Enum.{Enum}
-use denote.Enum.Declared as E
 use denote.Struct.Declared as S
 use denote.Builtin.{bool, u16, u32, u64}
 use denote.Struct.Field.{row_field, bool-field, u64-field, usize-field}
 use denote.Param.Send.{IsSend, SendAt, LiveAt, enum_send_at, recorded_send_of, sendable, view_send}
 use denote.Param.SendFields.{variants_send, declared_send, as_row_send}
-use denote.Hole.FixLaws.{layer_row}
-use denote.Hole.{as_row}
-use denote.Hole.Fix.{holes}
-use denote.Hole.FixSend.{fix_send, Sends}
-use Rattle.std.specs.contracts.boxed.Box as boxes
 use Rattle.std.specs.contracts.vec.Vec as vecs
 use Rattle.std.specs.contracts.alloc.Global as global
 use Rattle.std.specs.contracts.impls.GlobalAllocator.TheImpl as heap
-use Rattle.std.proofs.boxed.Box.TheSendSync as boxed
 use Rattle.std.proofs.vec.Vec.TheSendSync as listed
 use Rattle.std.proofs.alloc.Global.TheSendSync as globals
 use Rattle.std.below.std_heap.proofs.GlobalAllocator.TheSendSync as heaps
-use Rattle.nk_values.specs.contracts.lit.Lit as lit
-use Rattle.nk_values.proofs.lit.Lit.TheSendSync as lits
 use Rattle.topology_model.proofs.topology.Topology.TheSendSync as topologies
 use Rattle.update_coordinator.proofs.Crossing.{coordinator-send}
 use Rattle.world_journal.proofs.Passing.{flights-send, arrival-send}
@@ -43,6 +32,7 @@ use Rattle.world_journal.specs.contracts.line.Line as line
 use Rattle.world_journal.proofs.line.Line.TheSendSync as lines
 use Rattle.world_journal.specs.contracts.run_desk.Bells as bell
 use Rattle.world_journal.proofs.run_desk.Bells.TheSendSync as bells
+use Rattle.world_journal.proofs.ahead.Ahead.TheSendSync as aheads
 use Rattle.world_journal.specs.declared.name.RunName as RunName
 use Rattle.world_journal.specs.declared.poster.Poster as Poster
 use Rattle.status_board.specs.declared.history.BoardName as BoardName
@@ -55,99 +45,27 @@ use Rattle.std.proofs.sync.ledger.Book.TheSendSync as books
 use Rattle.std.proofs.sync.ledger.Share.TheSendSync as shares
 use Rattle.std.specs.contracts.sync.Mutex as mutex
 use Rattle.std.specs.contracts.option.Option as option
-use Rattle.nk_syntax.specs.contracts.pred.Pred as pred
-use Rattle.nk_syntax.specs.contracts.pred.Preds as preds
-use Rattle.nk_syntax.specs.contracts.pred.Pred.TheKnot as knot
 use Rattle.nk_syntax.specs.contracts.pol.Pol as pol
-use Rattle.nk_syntax.specs.contracts.pol.Pols as pols
-use Rattle.nk_syntax.specs.contracts.pol.Pol.TheKnot as ring
-
-box-send : (R : RattleType) → IsSend R → IsSend (boxes.the_row R global.the_row heap.ghosts)
-box-send R s = boxed.the_send R global.the_row heap.ghosts s globals.the_send heaps.the_frees
+use Rattle.policy_rows.specs.contracts.version.Intent as intent
+use Rattle.policy_rows.specs.contracts.version.Intent.TheInside as intent_inside
+use Rattle.std.below.core.proofs.snapshot.Sent.{snapshot_send}
 
 vec-send : (R : RattleType) → IsSend R → IsSend (vecs.the_row R global.the_row heap.ghosts)
 vec-send R s = listed.the_send R global.the_row heap.ghosts s globals.the_send heaps.the_frees
 
-at : (R : RattleType) → IsSend R → (x : R.Denot) → SendAt R x
-at R s x = (s.owned x, λ k. s.leaving k x)
+-- ---- what is meant by a policy, which is nothing in memory
+intent-inside : IsSend intent_inside.the_row
+intent-inside = declared_send intent_inside.the_type (snapshot_send pol.the_row, tt)
 
-lit-send : IsSend (as_row lit.the_field)
-lit-send = as_row_send lit.the_field lits.the_field_send
-
--- ---- predicates: each layer, and so the whole
-pred-live : (h : knot.the_members → RattleType) → ((j : knot.the_members) → IsSend (h j)) → (d : (pred.the_layer h).D) → LiveAt SendAt (E.shape (pred.the_layer h)).variants ((pred.the_layer h).to d)
-pred-live h all (inl x) = tt
-pred-live h all (inr (inl x)) = tt
-pred-live h all (inr (inr (inl x))) = (at (as_row lit.the_field) lit-send x.0, tt)
-pred-live h all (inr (inr (inr (inl x)))) = (at (h knot.member-Preds) (all knot.member-Preds) x.0, tt)
-pred-live h all (inr (inr (inr (inr (inl x))))) = (at (h knot.member-Preds) (all knot.member-Preds) x.0, tt)
-pred-live h all (inr (inr (inr (inr (inr (inl x)))))) = (at _ (box-send (h knot.member-Pred) (all knot.member-Pred)) x.0, tt)
-pred-live h all (inr (inr (inr (inr (inr (inr x)))))) = absurd x
-
-pred-layer : (h : knot.the_members → RattleType) → ((j : knot.the_members) → IsSend (h j)) → IsSend (E.row (pred.the_layer h))
-pred-layer h all = recorded_send_of (Enum (E.shape (pred.the_layer h))) (pred.the_layer h).D (pred.the_layer h).to (pred.the_layer h).to_one (λ d. enum_send_at (E.shape (pred.the_layer h)) ((pred.the_layer h).to d) (pred-live h all d))
-
-preds-layer : (h : knot.the_members → RattleType) → ((j : knot.the_members) → IsSend (h j)) → IsSend (S.row (preds.the_layer h))
-preds-layer h all = declared_send (preds.the_layer h) (as_row_send (row_field (vecs.the_row (h knot.member-Pred) global.the_row heap.ghosts)) (vec-send (h knot.member-Pred) (all knot.member-Pred)), tt)
-
-pred-ring : (h : knot.the_members → RattleType) → ((j : knot.the_members) → IsSend (h j)) → IsSend (layer_row pred.the_ring pred.the_member h)
-pred-ring h all = let s = pred-layer h all in record { owned = s.owned; leaving = s.leaving }
-
-preds-ring : (h : knot.the_members → RattleType) → ((j : knot.the_members) → IsSend (h j)) → IsSend (layer_row preds.the_ring preds.the_member h)
-preds-ring h all = let s = preds-layer h all in record { owned = s.owned; leaving = s.leaving }
-
-pred-sends : (i : knot.the_members) → Sends pred.the_ring i
-pred-sends = pred.by_members (Sends pred.the_ring) (record { send = pred-ring }) (record { send = preds-ring })
-
-pred-holes : (i : knot.the_members) → IsSend (holes pred.the_ring i)
-pred-holes = fix_send pred.the_ring pred-sends
-
-pub preds-send : IsSend preds.the_row
-preds-send = declared_send preds.the_type (as_row_send (row_field (vecs.the_row knot.hole-Pred global.the_row heap.ghosts)) (vec-send knot.hole-Pred (pred-holes knot.member-Pred)), tt)
-
-pub pred-send : IsSend pred.the_row
-pred-send = variants_send pred.enum (tt, (tt, ((lit-send, tt), ((preds-send, tt), ((preds-send, tt), ((box-send knot.hole-Pred (pred-holes knot.member-Pred), tt), tt))))))
-
--- ---- policies
-pol-live : (h : ring.the_members → RattleType) → ((j : ring.the_members) → IsSend (h j)) → (d : (pol.the_layer h).D) → LiveAt SendAt (E.shape (pol.the_layer h)).variants ((pol.the_layer h).to d)
-pol-live h all (inl x) = (at (as_row pred.the_field) pred-send x.0, tt)
-pol-live h all (inr (inl x)) = (at (as_row lit.the_field) lit-send x.0, tt)
-pol-live h all (inr (inr (inl x))) = (at (h ring.member-Pols) (all ring.member-Pols) x.0, tt)
-pol-live h all (inr (inr (inr (inl x)))) = (at (h ring.member-Pols) (all ring.member-Pols) x.0, tt)
-pol-live h all (inr (inr (inr (inr (inl x))))) = (at _ (box-send (h ring.member-Pol) (all ring.member-Pol)) x.0, tt)
-pol-live h all (inr (inr (inr (inr (inr (inl x)))))) = tt
-pol-live h all (inr (inr (inr (inr (inr (inr x)))))) = absurd x
-
-pol-layer : (h : ring.the_members → RattleType) → ((j : ring.the_members) → IsSend (h j)) → IsSend (E.row (pol.the_layer h))
-pol-layer h all = recorded_send_of (Enum (E.shape (pol.the_layer h))) (pol.the_layer h).D (pol.the_layer h).to (pol.the_layer h).to_one (λ d. enum_send_at (E.shape (pol.the_layer h)) ((pol.the_layer h).to d) (pol-live h all d))
-
-pols-layer : (h : ring.the_members → RattleType) → ((j : ring.the_members) → IsSend (h j)) → IsSend (S.row (pols.the_layer h))
-pols-layer h all = declared_send (pols.the_layer h) (as_row_send (row_field (vecs.the_row (h ring.member-Pol) global.the_row heap.ghosts)) (vec-send (h ring.member-Pol) (all ring.member-Pol)), tt)
-
-pol-ring : (h : ring.the_members → RattleType) → ((j : ring.the_members) → IsSend (h j)) → IsSend (layer_row pol.the_ring pol.the_member h)
-pol-ring h all = let s = pol-layer h all in record { owned = s.owned; leaving = s.leaving }
-
-pols-ring : (h : ring.the_members → RattleType) → ((j : ring.the_members) → IsSend (h j)) → IsSend (layer_row pols.the_ring pols.the_member h)
-pols-ring h all = let s = pols-layer h all in record { owned = s.owned; leaving = s.leaving }
-
-pol-sends : (i : ring.the_members) → Sends pol.the_ring i
-pol-sends = pol.by_members (Sends pol.the_ring) (record { send = pol-ring }) (record { send = pols-ring })
-
-pol-holes : (i : ring.the_members) → IsSend (holes pol.the_ring i)
-pol-holes = fix_send pol.the_ring pol-sends
-
-pub pols-send : IsSend pols.the_row
-pols-send = declared_send pols.the_type (as_row_send (row_field (vecs.the_row ring.hole-Pol global.the_row heap.ghosts)) (vec-send ring.hole-Pol (pol-holes ring.member-Pol)), tt)
-
-pub pol-send : IsSend pol.the_row
-pol-send = variants_send pol.enum ((pred-send, tt), ((lit-send, tt), ((pols-send, tt), ((pols-send, tt), ((box-send ring.hole-Pol (pol-holes ring.member-Pol), tt), (tt, tt))))))
+intent-send : IsSend intent.the_row
+intent-send = view_send intent_inside.the_row _ _ _ _ intent-inside
 
 -- ---- the world
 inside-send : IsSend inside.the_row
 inside-send = declared_send inside.the_type (
   topologies.the_send,
   (
-    vec-send pol.the_row pol-send,
+    vec-send intent.the_row intent-send,
     (
       as_row_send u64-field (search sendable),
       (
@@ -257,7 +175,7 @@ desk-send R L P E a b d q c r p e =
           arcs.the_send (mutex.the_row (option.the_row row)) global.the_row heap.ghosts lock globals.the_send shared globals.the_sync heaps.the_frees,
           (
             arcs.the_send bell.the_row global.the_row heap.ghosts bells.the_send globals.the_send bells.the_sync globals.the_sync heaps.the_frees,
-            tt,
+            (aheads.the_send, tt),
           ),
         ),
       ),

@@ -13,3 +13,4 @@ pub mod Roles
 pub mod Searching
 pub mod Staying
 pub mod Telling
+pub mod Working

@@ -5,6 +5,7 @@ pub mod Arriving
 pub mod Runs
 pub mod Watching
 pub mod Calls
+pub mod Ahead
 pub mod Moves
 pub mod Finishing
 pub mod Asking

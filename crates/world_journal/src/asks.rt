@@ -1,11 +1,12 @@
 // What a desk asks of the run that lies under its lock: each has the clause of the run's own call, and posts the step that
 // the call made. If the run was taken out, nothing happens and whoever asks is to stop.
-ghost use Rattle.std.specs.Prelude.{◌≡◌, ◌<◌, ◌%◌, [], IfOk, IfSome, OnErr, None};
+ghost use Rattle.std.specs.Prelude.{◌≡◌, ◌<◌, ◌%◌, ◌⊎◌, [], IfOk, IfSome, IfNone, IsTrue, OnErr, None};
 ghost use Rattle.worker_desk.specs.Answers.{CanBeWritten, GivesBack, OnNewEnd, OnShutNewEnd};
 ghost use Rattle.worker_desk.specs.Streams.{TellsWhereKnown};
 ghost use Rattle.worker_desk.specs.declared.desk.Given.TheVariants as given;
 ghost use Rattle.worker_desk.specs.declared.desk.Told.TheVariants as told;
 ghost use Rattle.worker_desk.specs.declared.desk.Shut.TheVariants as shut;
+ghost use Rattle.world_journal.specs.Ahead.{IsWork, MayWork};
 ghost use Rattle.world_journal.specs.Asking.{Closes, LaysBack, OnRun};
 ghost use Rattle.world_journal.specs.Calls.{Gives, IsUnmoved, IsWorker, Loses, RunsOut, Shuts, Tells, place_of, side_of};
 ghost use Rattle.world_journal.specs.Journals.{switches};
@@ -39,6 +40,37 @@ pub(crate) fn given_of<L: RunName, P: Poster, E: Link>(
             post_step(&mut there.run, &mut there.pen);
             given
         }
+    }
+}
+
+// What a worker is to do once more, if that is neither to stop nor to begin a new session.
+pub(crate) fn more_of<L: RunName, P: Poster, E: Link>(
+    run: &mut Option<Watched<L, P, E>>,
+    alloc: Global,
+    seat: &mut Seat<L>,
+) -> Option<Given<E>>
+    requires seat { IsWorker (switches L.start) seat.old.worker }
+    ensures seat { IsUnmoved seat.old.worker seat.new.worker seat.old.share.parts seat.new.share.parts }
+    ensures fits { IfSome result CanBeWritten }
+    ensures work { IfSome result IsWork }
+    ensures answer { IfSome result (λ g. OnRun (λ old new. Gives seat.old.worker (side_of (switches L.start) seat.old.worker) (place_of (switches L.start) seat.old.worker) old new g) (g ≡ given.Stop) run.old run.new) }
+    ensures none { IfNone result ((run.new ≡ run.old) ⊎ OnRun (RunsOut seat.old.worker (side_of (switches L.start) seat.old.worker) (place_of (switches L.start) seat.old.worker)) ⊥ run.old run.new) }
+{
+    if !may_work(run, seat) {
+        return None;
+    }
+    given_of(run, alloc, seat).ok()
+}
+
+// Whether there is a run in which a worker is to go on over its end.
+fn may_work<L: RunName, P: Poster, E: Link>(run: &Option<Watched<L, P, E>>, seat: &Seat<L>) -> bool
+    requires { IsWorker (switches L.start) seat.now.worker }
+    ensures { IsTrue result → MayWork (side_of (switches L.start) seat.now.worker) (place_of (switches L.start) seat.now.worker) run.now }
+{
+    let (side, s) = seat.at();
+    match run {
+        None => false,
+        Some(there) => !there.run.stops(s) && !there.run.has_end(side, s),
     }
 }
 

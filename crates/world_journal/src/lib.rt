@@ -1,6 +1,7 @@
 //! A world beside the journal of what happened to it, and the one lock over which workers share both.
 #![tactic(auto)]
 
+mod ahead;
 mod asked_moves;
 mod asks;
 mod calls;

@@ -8,8 +8,9 @@ ghost use Rattle.world_journal.specs.Journals.{events_of, switches};
 ghost use Rattle.world_journal.specs.Makers.{IsCaller, IsTraffic};
 ghost use Rattle.world_journal.specs.Runs.{IsNewPair};
 
+use crate::ahead::Ahead;
 use crate::asked_moves::{come_in_of, hop_on_of, rejoin_of, update_of};
-use crate::asks::{close_of, given_of, lay_of, lost_of, shut_of, told_of};
+use crate::asks::{close_of, given_of, lay_of, lost_of, more_of, shut_of, told_of};
 use crate::held::Held;
 use crate::moves::Did;
 use crate::name::RunName;
@@ -20,10 +21,14 @@ use crate::updates::{Absence, Update};
 use crate::watched::Watched;
 use outside_net::Link;
 use std::alloc::{AllocError, Global};
+use std::hint::spin_loop;
 use std::sync::{Arc, Condvar, Mutex, MutexGuard, Wait};
 use std::thread;
 use update_coordinator::Phase;
 use worker_desk::{Desk, Given, Shut, Told};
+
+// How often a worker looks whether the lock is free before it gives way.
+const LOOKS: u32 = 50;
 
 // What wakes the workers that wait for steps of others: those of each switch, and all others.
 #[derive(Drop)]
@@ -40,6 +45,7 @@ pub struct RunDesk<R, L: RunName, P: Poster, E: Link> {
     alloc: Global,
     run: Arc<Mutex<Option<Watched<L, P, E>>>>,
     bells: Arc<Bells>,
+    ahead: Ahead,
 }
 
 impl<R: Drop, L: RunName, P: Poster, E: Link> Drop for RunDesk<R, L, P, E> {
@@ -49,6 +55,7 @@ impl<R: Drop, L: RunName, P: Poster, E: Link> Drop for RunDesk<R, L, P, E> {
             alloc: _alloc,
             run: _run,
             bells: _bells,
+            ahead: _ahead,
         } = self;
     }
 }
@@ -73,39 +80,62 @@ impl<R: Wait + Drop, L: RunName, P: Poster, E: Link> Desk for RunDesk<R, L, P, E
     ghost kept = { λ s. None };
 
     fn give(&self, seat: &mut Seat<L>) -> Result<Given<E>, AllocError> {
-        let mut guard = self.run.lock(&self.rt);
+        let next = self.ahead.next(seat);
+        if !matches!(next, Some(Given::Out { .. })) {
+            self.ring_owed(seat);
+        }
+        if let Some(given) = next {
+            return Ok(given);
+        }
+        let mut guard = self.lock();
         let given = given_of(&mut *guard, self.alloc, seat);
-        if is_idle(&given) {
-            self.wait(guard, self.bell(seat.worker()));
-        } else {
-            drop(guard);
-            self.bell(seat.worker()).notify_all();
+        match &given {
+            Ok(Given::Nothing { made: None }) => self.wait(guard, self.bell(seat.worker())),
+            Ok(Given::Out { .. }) => {
+                self.go_ahead(&mut *guard, seat);
+                drop(guard);
+                self.owe(seat);
+            }
+            Ok(Given::Stop) => {
+                drop(guard);
+                self.ring(seat);
+            }
+            _ => drop(guard),
         }
         given
     }
 
     fn tell(&self, seat: &mut Seat<L>, bytes: &[u8], end: E, k: u64) -> Told<E> {
-        let mut guard = self.run.lock(&self.rt);
+        self.ring_owed(seat);
+        let mut guard = self.lock();
         let before = moment_of(&guard);
         let told = told_of(&mut *guard, self.alloc, seat, bytes, end, k);
+        let rings = match &told {
+            Told::Back { made: Some(_), .. } => self.go_ahead(&mut *guard, seat),
+            Told::Back { made: None, .. } => false,
+            Told::Kept | Told::Memory(_) => true,
+        };
         let after = moment_of(&guard);
         drop(guard);
-        if before == after {
-            self.bell(seat.worker()).notify_all();
-        } else {
+        if before != after {
             self.wake_all();
+        } else if rings {
+            self.owe(seat);
         }
         told
     }
 
     fn lost(&self, seat: &mut Seat<L>, end: E) -> Told<E> {
-        let told = lost_of(&mut *self.run.lock(&self.rt), self.alloc, seat, end);
+        self.ahead.clear();
+        let told = lost_of(&mut *self.lock(), self.alloc, seat, end);
         self.wake_all();
         told
     }
 
     fn shut(&self, seat: &mut Seat<L>) -> Shut<E> {
-        let mut guard = self.run.lock(&self.rt);
+        self.ahead.clear();
+        self.ring_owed(seat);
+        let mut guard = self.lock();
         let shut = shut_of(&mut *guard, seat);
         if matches!(shut, Shut::Nothing) {
             self.wait(guard, self.bell(seat.worker()));
@@ -119,11 +149,12 @@ impl<R: Wait + Drop, L: RunName, P: Poster, E: Link> Desk for RunDesk<R, L, P, E
 }
 
 impl<R: Wait + Drop, L: RunName, P: Poster, E: Link> RunDesk<R, L, P, E> {
-    /// Locks a run up.
+    /// Locks a run up. A worker makes at most this number of steps ahead of its calls.
     pub fn new(
         rt: R,
         alloc: Global,
         watched: Watched<L, P, E>,
+        most: u32,
     ) -> Result<RunDesk<R, L, P, E>, AllocError> {
         let mut pairs = Vec::new(alloc);
         for _ in 0..watched.run.switch_count() {
@@ -138,6 +169,7 @@ impl<R: Wait + Drop, L: RunName, P: Poster, E: Link> RunDesk<R, L, P, E> {
             alloc,
             run: Arc::new(alloc, Mutex::new(Some(watched)))?,
             bells: Arc::new(alloc, bells)?,
+            ahead: Ahead::new(most),
         })
     }
 
@@ -151,6 +183,7 @@ impl<R: Wait + Drop, L: RunName, P: Poster, E: Link> RunDesk<R, L, P, E> {
             alloc: self.alloc,
             run: Arc::try_clone(&self.run)?,
             bells: Arc::try_clone(&self.bells)?,
+            ahead: Ahead::new(self.ahead.most()),
         })
     }
 
@@ -169,7 +202,7 @@ impl<R: Wait + Drop, L: RunName, P: Poster, E: Link> RunDesk<R, L, P, E> {
         requires { IsCaller seat.old.worker }
         ensures { IsUnmoved seat.old.worker seat.new.worker seat.old.share.parts seat.new.share.parts }
     {
-        let mut guard = self.run.lock(&self.rt);
+        let mut guard = self.lock();
         let update = update_of(&mut *guard, self.alloc, seat);
         if update == Ok(Update::Nothing) {
             self.wait(guard, &self.bells.others);
@@ -192,13 +225,7 @@ impl<R: Wait + Drop, L: RunName, P: Poster, E: Link> RunDesk<R, L, P, E> {
         requires fresh { IsNewPair E.received pair }
         ensures { IsUnmoved seat.old.worker seat.new.worker seat.old.share.parts seat.new.share.parts }
     {
-        let did = rejoin_of(
-            &mut *self.run.lock(&self.rt),
-            self.alloc,
-            seat,
-            absence,
-            pair,
-        );
+        let did = rejoin_of(&mut *self.lock(), self.alloc, seat, absence, pair);
         self.wake_all();
         did
     }
@@ -208,7 +235,7 @@ impl<R: Wait + Drop, L: RunName, P: Poster, E: Link> RunDesk<R, L, P, E> {
         requires { IsTraffic (switches L.start) seat.old.worker }
         ensures { IsUnmoved seat.old.worker seat.new.worker seat.old.share.parts seat.new.share.parts }
     {
-        let did = come_in_of(&mut *self.run.lock(&self.rt), self.alloc, seat, place);
+        let did = come_in_of(&mut *self.lock(), self.alloc, seat, place);
         self.bells.others.notify_all();
         did
     }
@@ -218,14 +245,14 @@ impl<R: Wait + Drop, L: RunName, P: Poster, E: Link> RunDesk<R, L, P, E> {
         requires { IsTraffic (switches L.start) seat.old.worker }
         ensures { IsUnmoved seat.old.worker seat.new.worker seat.old.share.parts seat.new.share.parts }
     {
-        let did = hop_on_of(&mut *self.run.lock(&self.rt), self.alloc, seat);
+        let did = hop_on_of(&mut *self.lock(), self.alloc, seat);
         self.bells.others.notify_all();
         did
     }
 
     /// Makes every worker stop.
     pub fn close_all(&self) {
-        close_of(&mut *self.run.lock(&self.rt));
+        close_of(&mut *self.lock());
         self.wake_all();
     }
 
@@ -233,7 +260,7 @@ impl<R: Wait + Drop, L: RunName, P: Poster, E: Link> RunDesk<R, L, P, E> {
     pub fn lay(&self, seat: Seat<L>)
         requires { seat.share.parts ≡ 1 }
     {
-        lay_of(&mut *self.run.lock(&self.rt), seat);
+        lay_of(&mut *self.lock(), seat);
     }
 
     /// Waits until all seats are back and the run is closed or over, and takes it out.
@@ -247,7 +274,7 @@ impl<R: Wait + Drop, L: RunName, P: Poster, E: Link> RunDesk<R, L, P, E> {
         ensures fault { IfErr result (λ f. f ≡ RunFault.Memory) }
     {
         for _ in self.rt.forever() {
-            let mut guard = self.run.lock(&self.rt);
+            let mut guard = self.lock();
             if is_done(&guard) {
                 if let Some(watched) = guard.take() {
                     return watched.finish();
@@ -257,6 +284,75 @@ impl<R: Wait + Drop, L: RunName, P: Poster, E: Link> RunDesk<R, L, P, E> {
             thread::yield_now();
         }
         unreachable!()
+    }
+
+    // Makes further steps of a worker ahead of its calls, up to one that gives no message. Says whether one gave a message.
+    fn go_ahead(&self, run: &mut Option<Watched<L, P, E>>, seat: &mut Seat<L>) -> bool
+        requires { IsWorker (switches L.start) seat.old.worker }
+        ensures { IsUnmoved seat.old.worker seat.new.worker seat.old.share.parts seat.new.share.parts }
+    {
+        let mut gave = false;
+        for _ in 0..self.ahead.most() {
+            let Ok(()) = self.ahead.reserve(self.alloc) else {
+                return gave;
+            };
+            let Some(given) = more_of(run, self.alloc, seat) else {
+                return gave;
+            };
+            let is_out = matches!(given, Given::Out { .. });
+            if !is_idle(&given) {
+                self.ahead.push(given);
+            }
+            if !is_out {
+                return gave;
+            }
+            gave = true;
+        }
+        gave
+    }
+
+    // Wakes the workers of the same switch that wait.
+    fn ring(&self, seat: &Seat<L>) {
+        self.bell(seat.worker()).notify_all();
+    }
+
+    // A message was made for the other side. If steps are made ahead, that side is woken when all of them are sent.
+    fn owe(&self, seat: &Seat<L>) {
+        if self.ahead.most() == 0 {
+            self.ring(seat);
+        } else {
+            self.ahead.owe();
+        }
+    }
+
+    // Wakes the other side if that is owed to it.
+    fn ring_owed(&self, seat: &Seat<L>) {
+        if self.ahead.take_owed() {
+            self.ring(seat);
+        }
+    }
+
+    // Takes the lock. Steps are short and many workers make them, so a worker that finds it taken looks again soon, and
+    // then gives way: to sleep and be woken takes longer than most steps.
+    fn lock(&self) -> MutexGuard<'_, Option<Watched<L, P, E>>> {
+        for _ in self.rt.forever() {
+            if let Some(guard) = self.look() {
+                return guard;
+            }
+            thread::yield_now();
+        }
+        unreachable!()
+    }
+
+    // Looks a number of times whether the lock is free, and takes it if it is.
+    fn look(&self) -> Option<MutexGuard<'_, Option<Watched<L, P, E>>>> {
+        for _ in 0..LOOKS {
+            if let Some(guard) = self.run.try_lock() {
+                return Some(guard);
+            }
+            spin_loop();
+        }
+        None
     }
 
     // What wakes the workers of a switch, or else the others.
@@ -283,8 +379,8 @@ impl<R: Wait + Drop, L: RunName, P: Poster, E: Link> RunDesk<R, L, P, E> {
 }
 
 // Whether there was nothing to do.
-fn is_idle<E>(given: &Result<Given<E>, AllocError>) -> bool {
-    matches!(given, Ok(Given::Nothing { made: None }))
+fn is_idle<E>(given: &Given<E>) -> bool {
+    matches!(given, Given::Nothing { made: None })
 }
 
 // What decides for all workers whether there is something to do: the phase, and whether the coordinator has halted.

@@ -1,5 +1,5 @@
 // The sessions of a run, one after the other: each has a pair of ends of its own.
-ghost use Rattle.std.specs.Prelude.{◌≡◌, ◌<◌, ◌+◌, ◌≤◌, ◌^◌, ◌↔◌, IsTrue, IfSome, IfNone, OnOk, OnErr, Err};
+ghost use Rattle.std.specs.Prelude.{◌≡◌, ◌<◌, ◌+◌, ◌≤◌, ◌^◌, ◌↔◌, IsTrue, false, IfSome, IfNone, OnOk, OnErr, Err};
 ghost use Rattle.update_coordinator.specs.declared.cause.Side.TheVariants as side;
 ghost use Rattle.world_core.specs.Steps.{IsEnabled};
 ghost use Rattle.world_core.specs.declared.event.Event.TheVariants as event;
@@ -51,6 +51,20 @@ impl<L: RunName, E: Link> Run<L, E> {
         match side {
             Side::Controller => self.take_to_end(s),
             Side::Switch => self.take_back_end(s),
+        }
+    }
+
+    /// Whether one is laid out.
+    pub fn has_end(&self, side: Side, s: usize) -> bool
+        ensures { result ≡ false → end_at self.now side s ≡ None }
+    {
+        let ends = match side {
+            Side::Controller => &self.to_ends,
+            Side::Switch => &self.back_ends,
+        };
+        match ends.get(s) {
+            None => false,
+            Some(end) => end.is_some(),
         }
     }
 
