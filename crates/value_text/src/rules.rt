@@ -3,8 +3,9 @@ ghost use Rattle.std.specs.Prelude.{◌≡◌, ◌++◌, OnOk, IfOk, string_byte
 ghost use Rattle.value_text.specs.Values.{line};
 ghost use Rattle.value_text.specs.Rules.{in_text, vlan_text, fixed_text, address_of, frame_text, network_text, pattern_text, set_text, set_words, action_text, more_actions, actions_text, row_text, rows_text, port_text, switch_text, band_text, head_text, version_text, versions_text, rules_text};
 
+use crate::numbers::put_number;
 use crate::text::Text;
-use crate::values::{put_ascii, put_field, put_number, put_value};
+use crate::values::{put_ascii, put_field, put_value};
 use nk_values::{Action, Band, Field, IN_PORT, Pattern, PortRows, Prefix, Row, Rows, UNTAGGED};
 use policy_rows::Version;
 use std::alloc::{AllocError, Global};

@@ -2,6 +2,7 @@
 ghost use Rattle.std.specs.Prelude.{◌≡◌, ◌+◌, ◌/◌, ◌%◌, ◌++◌, ◌<◌, ◌≤◌, ◌∷◌, [], OnOk, string_bytes, decimal};
 ghost use Rattle.value_text.specs.Values.{hex_digit, hex_byte, hex_half, mac_text, dotted_pair, ip_text, value_text, field_text, fields_text, packet_text, place_text};
 
+use crate::numbers::put_number;
 use nk_values::{Field, Packet};
 use std::alloc::AllocError;
 
@@ -11,37 +12,6 @@ pub(crate) fn put_ascii(out: &mut String, character: u8) -> Result<(), AllocErro
     ensures { OnOk result (string_bytes out.new ≡ string_bytes out.old ++ character ∷ []) }
 {
     out.push(char::from(character))
-}
-
-/// Puts a number in decimal at the end.
-pub fn put_number(out: &mut String, number: u64) -> Result<(), AllocError>
-    ensures { OnOk result (string_bytes out.new ≡ string_bytes out.old ++ decimal number) }
-{
-    if number < 10 {
-        put_digit(out, number)
-    } else {
-        put_digits(out, number)
-    }
-}
-
-// Puts a number of two digits or more at the end.
-fn put_digits(out: &mut String, number: u64) -> Result<(), AllocError>
-    requires { 10 ≤ number }
-    ensures { OnOk result (string_bytes out.new ≡ string_bytes out.old ++ decimal number) }
-{
-    if number < 100 {
-        put_digit(out, number / 10)?;
-    } else {
-        put_digits(out, number / 10)?;
-    }
-    put_digit(out, number % 10)
-}
-
-fn put_digit(out: &mut String, digit: u64) -> Result<(), AllocError>
-    requires { digit < 10 }
-    ensures { OnOk result (string_bytes out.new ≡ string_bytes out.old ++ (48 + digit) ∷ []) }
-{
-    put_ascii(out, 48 + digit as u8)
 }
 
 // A digit below 16.

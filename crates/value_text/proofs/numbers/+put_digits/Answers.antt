@@ -3,8 +3,8 @@ use Rattle.std.specs.Prelude.{decimal}
 use Rattle.std.proofs.lemmas.Fmt.{decimal_digit, decimal_step}
 use Rattle.std.proofs.lemmas.Result.{on_ok_weaker}
 use Rattle.value_text.proofs.Puts.{then_put}
-use Rattle.value_text.proofs.values.+put_digits.Goals as goal
-use Rattle.value_text.proofs.values.+put_digits.Goals.{then-number-lt100+in_ok-put_digit, else-number-lt100+in_ok-put_digits}
+use Rattle.value_text.proofs.numbers.+put_digits.Goals as goal
+use Rattle.value_text.proofs.numbers.+put_digits.Goals.{then-number-lt100+in_ok-put_digit, else-number-lt100+in_ok-put_digits}
 
 tens : (t : ℕ) (c : goal.After-put_digit-2 t) → string_bytes c.if-number-lt100.out ≡ string_bytes c.args.out.now ++ decimal (c.args.number / 10)
 tens t c = elim c.if-number-lt100.branch [
