@@ -166,27 +166,3 @@ others lines w = hops_from 0 (length w.flights) ++ tried_last lines w
 pub count-tried : (w : WorldValue) (lines : List PacketLine) (k h l m n : ℕ) → IsCount w (tried_from w 0 (length w.topology.switches)) k → IsCount w (hops_from 0 (length w.flights)) h → IsCount w (tried_last lines w) l →
     m ≡ min (h + l) (2 ^ 64 - 1) → n ≡ min (k + m) (2 ^ 64 - 1) → IsCount w (tried lines w) n
 count-tried w lines k h l m n a b c d e = count-both w (tried_from w 0 (length w.topology.switches)) (others lines w) k m n a (count-both w (hops_from 0 (length w.flights)) (tried_last lines w) h l m b c d) e
-
--- ---- sums
-
-pub sum-more : (ns : List ℕ) (i : ℕ) → i < length ns → sum_of (take (i + 1) ns) ≡ sum_of (take i ns) + get_or ns i 0
-sum-more [] i l = absurd (omega (arith, l))
-sum-more (n ∷ ns) zero l = ap (λ (k : ℕ). sum_of (take k (n ∷ ns))) (let e : 0 + 1 ≡ suc 0 = omega arith in e) ∙ omega arith
-sum-more (n ∷ ns) (suc i) l =
-    let h = sum-more ns i (omega (arith, l)) in
-    ap (λ (k : ℕ). sum_of (take k (n ∷ ns))) (let e : suc i + 1 ≡ suc (i + 1) = omega arith in e) ∙ omega (arith, h)
-
--- one number is at most the sum
-pub sum-get : (ns : List ℕ) (i d : ℕ) → i < length ns → get_or ns i d ≤ sum_of ns
-sum-get [] i d l = absurd (omega (arith, l))
-sum-get (n ∷ ns) zero d l = omega arith
-sum-get (n ∷ ns) (suc i) d l = let h = sum-get ns i d (omega (arith, l)) in omega (arith, h)
-
-sum-set : (ns : List ℕ) (i d m : ℕ) → i < length ns → sum_of (slice_set ns i m) + get_or ns i d ≡ sum_of ns + m
-sum-set [] i d m l = absurd (omega (arith, l))
-sum-set (n ∷ ns) zero d m l = omega arith
-sum-set (n ∷ ns) (suc i) d m l = let h = sum-set ns i d m (omega (arith, l)) in omega (arith, h)
-
--- as long as the sum is below the limit it tells what the next one is
-pub sum-changed : (ns : List ℕ) (i d m t : ℕ) → i < length ns → t ≡ sum_to_limit ns → t < 2 ^ 64 - 1 → min (t - get_or ns i d + m) (2 ^ 64 - 1) ≡ sum_to_limit (slice_set ns i m)
-sum-changed ns i d m t l e small = let h = sum-set ns i d m l in let g = sum-get ns i d l in omega (arith, e, small, h, g)

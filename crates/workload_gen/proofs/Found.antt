@@ -1,6 +1,7 @@
 -- The event with a number, of those that can happen.
-use Rattle.std.proofs.Common.{◌≡◌, Bool, IsTrue, ◌↔◌, ℕ, zero, suc, ◌+◌, ◌-◌, ◌^◌, ◌<◌, ◌≤◌, inl, inr, List, [], ◌∷◌, ◌++◌, length, refl, sym, ◌∙◌, ap, subst, Option, None, Some, slice_get, get_or, arith}
+use Rattle.std.proofs.Common.{◌≡◌, Bool, IsTrue, ◌↔◌, ℕ, zero, suc, ◌+◌, ◌-◌, ◌^◌, ◌<◌, ◌≤◌, inl, inr, List, [], ◌∷◌, ◌++◌, length, refl, sym, ◌∙◌, ap, subst, Option, None, Some, slice_get, get_or, take, arith}
 use Rattle.std.specs.Int.{from_bool}
+use Rattle.std.proofs.lemmas.List.{append_assoc}
 use Rattle.std.proofs.lemmas.Option.{slice_get_past}
 use Rattle.document_text.specs.declared.document.PacketLine.{PacketLine}
 use Rattle.world_core.specs.declared.event.Event.{Event}
@@ -12,8 +13,8 @@ use Rattle.world_core.specs.Settling.{hops_from}
 use Rattle.world_core.specs.Steps.{IsEnabled}
 use Rattle.world_core.specs.Worlds.{WorldValue}
 use Rattle.workload_gen.specs.Draws.{applies_from, arrival, due, report, tried, tried_at, tried_from, tried_last}
-use Rattle.workload_gen.specs.Counts.{AreCounts, Finds, IsCount}
-use Rattle.workload_gen.proofs.Counted.{count-one, count-pending, get-applies, others, pending, pending-can}
+use Rattle.workload_gen.specs.Counts.{AreCounts, Finds, IsCount, sum_of, sum_to_limit}
+use Rattle.workload_gen.proofs.Counted.{count-all, count-one, count-pending, get-applies, others, pending, pending-can}
 use Rattle.workload_gen.proofs.Enabled.{enabled-parts, enabled-same, get-left, get-right}
 
 -- ---- the event with a number
@@ -102,8 +103,41 @@ FindsAlong w rest k all n = (o : Option Event) → Finds w rest k o → Finds w 
 pub along-hops : (w : WorldValue) (n number : ℕ) → FindsAlong w (hops_from 0 (n - 0)) number (hops_from 0 n) number
 along-hops w n number o f = subst (λ (k : ℕ). Finds w (hops_from 0 k) number o) (let e : n - 0 ≡ n = omega arith in e) f
 
-pub along-tried : (w : WorldValue) (n number : ℕ) → FindsAlong w (tried_from w 0 (n - 0)) number (tried_from w 0 n) number
-along-tried w n number o f = subst (λ (k : ℕ). Finds w (tried_from w 0 k) number o) (let e : n - 0 ≡ n = omega arith in e) f
+-- those from a place on, after so many
+tried-split : (w : WorldValue) (s k n : ℕ) → tried_from w s (k + n) ≡ tried_from w s k ++ tried_from w (s + k) n
+tried-split w s zero n = ap (λ (m : ℕ). tried_from w s m) (let e : 0 + n ≡ n = omega arith in e) ∙ ap (λ (m : ℕ). tried_from w m n) (let e : s ≡ s + 0 = omega arith in e)
+tried-split w s (suc k) n =
+    ap (λ (m : ℕ). tried_from w s m) (let e : suc k + n ≡ suc (k + n) = omega arith in e)
+    ∙ ap (λ (cs : List Event). tried_at w s ++ cs) (tried-split w (s + 1) k n ∙ ap (λ (m : ℕ). tried_from w (s + 1) k ++ tried_from w m n) (let e : s + 1 + k ≡ s + suc k = omega arith in e))
+    ∙ sym (append_assoc (tried_at w s) (tried_from w (s + 1) k) (tried_from w (s + suc k) n))
+
+get-taken : (ns : List ℕ) (i k n : ℕ) → slice_get (take i ns) k ≡ Some n → slice_get ns k ≡ Some n
+get-taken ns zero k n e = absurd (let none : None ≡ Some n = e in cc)
+get-taken [] (suc i) k n e = e
+get-taken (m ∷ ns) (suc i) zero n e = e
+get-taken (m ∷ ns) (suc i) (suc k) n e = get-taken ns i k n e
+
+length-taken : (ns : List ℕ) (i : ℕ) → i ≤ length ns → length (take i ns) ≡ i
+length-taken ns zero l = refl
+length-taken [] (suc i) l = absurd (omega (arith, l))
+length-taken (m ∷ ns) (suc i) l = ap (λ (k : ℕ). suc k) (length-taken ns i (omega (arith, l)))
+
+-- the first switches are skipped, with as many events as can happen there
+pub along-skip : (w : WorldValue) (counts : List ℕ) (start left number : ℕ) → AreCounts w counts → start ≤ length counts → left + sum_of (take start counts) ≡ number → number < 2 ^ 64 - 1 →
+    FindsAlong w (tried_from w start (length counts - start)) left (tried_from w 0 (length counts)) number
+along-skip w counts start left number c l e small o f =
+    let first = take start counts in
+    let many = length-taken counts start l in
+    let counted : IsCount w (tried_from w 0 start) (sum_to_limit first) =
+    subst (λ (k : ℕ). IsCount w (tried_from w 0 k) (sum_to_limit first)) many
+    (count-all w 0 first (λ k n at. subst (λ (s : ℕ). IsCount w (tried_at w s) n) (let d : k ≡ 0 + k = omega arith in d) (c.each k n (get-taken counts start k n at)))) in
+    let rest = tried_from w start (length counts - start) in
+    let whole : tried_from w 0 (length counts) ≡ tried_from w 0 start ++ rest =
+    ap (λ (m : ℕ). tried_from w 0 m) (let d : length counts ≡ start + (length counts - start) = omega (arith, l) in d) ∙ tried-split w 0 start (length counts - start)
+    ∙ ap (λ (m : ℕ). tried_from w 0 start ++ tried_from w m (length counts - start)) (let d : 0 + start ≡ start = omega arith in d) in
+    let same : left ≡ number - sum_to_limit first = omega (arith, e, small) in
+    subst (λ (cs : List Event). Finds w cs number o) (sym whole)
+    (finds-beyond w (tried_from w 0 start) rest (sum_to_limit first) number o counted small (omega (arith, e, small)) (subst (λ (m : ℕ). Finds w rest m o) same f))
 
 pub past-hop : (w : WorldValue) (place n k number : ℕ) (b : Bool) (all : List Event) (first : ℕ) → FindsAlong w (hops_from place (n - place)) number all first → place < n → k ≡ from_bool b → (IsTrue b ↔ IsEnabled w (event.Packet (of_packet.Hop place))) →
     number < 2 ^ 64 - 1 → k ≤ number → FindsAlong w (hops_from (place + 1) (n - (place + 1))) (number - k) all first

@@ -2,6 +2,7 @@ mod Building
 mod Recounting
 mod Faultless
 mod Enabled
+mod Summing
 mod Counted
 mod Found
 mod Turning

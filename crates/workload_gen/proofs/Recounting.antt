@@ -1,12 +1,28 @@
 -- An event of a switch changes nothing at the others.
-use Rattle.std.proofs.Common.{◌≡◌, ◌≢◌, ℕ, zero, suc, ◌+◌, ◌<◌, ◌≤◌, inl, inr, List, [], ◌∷◌, ◌++◌, length, refl, sym, ◌∙◌, ap, subst, Option, None, Some, slice_get, slice_set, arith}
+use Rattle.std.proofs.Common.{◌≡◌, ◌≢◌, Bool, true, false, if◌then◌else◌, ◌==◌, ◌||◌, nat_lt, ℕ, zero, suc, ◌+◌, ◌-◌, ◌%◌, ◌<◌, ◌≤◌, inl, inr, List, [], ◌∷◌, ◌++◌, length, refl, sym, ◌∙◌, ap, subst, Option, None, Some, slice_get, slice_set, get_or, arith}
 use native.Mathlib.Decide.{ℕ_discrete}
-use Rattle.topology_model.specs.Layouts.{Layout}
-use Rattle.update_coordinator.specs.Controls.{Control, batch_at}
+use Rattle.nk_values.specs.declared.packet.Packet.{Packet}
+use Rattle.nk_values.specs.Members.{IsIn}
+use Rattle.topology_model.specs.Layouts.{Layout, edges_of}
+use Rattle.policy_rows.specs.Means.{standing}
+use Rattle.document_text.specs.declared.document.PacketLine.{PacketLine}
+use Rattle.packet_tracer.specs.declared.flight.Flight.{Flight}
+use Rattle.update_coordinator.specs.Move.{Move}
+use Rattle.update_coordinator.specs.Move.TheVariants as moves
+use Rattle.update_coordinator.specs.Replies.{OthersHeard, heard_at}
+use Rattle.update_coordinator.specs.declared.cause.Cause.TheVariants as cause
+use Rattle.update_coordinator.specs.declared.phase.Phase.{Phase}
+use Rattle.update_coordinator.specs.declared.phase.Phase.TheVariants.{Opening, Idle, Install, Flip, Drain, Clean, Tidy, Sweep}
+use Rattle.update_coordinator.specs.Batches.{rounds_of}
+use Rattle.update_coordinator.specs.Calls.{begin_refusal, drain_refusal}
+use Rattle.update_coordinator.specs.Controls.{Control, Site, batch_at}
+use Rattle.update_coordinator.specs.Hearing.{IsAnswered, IsMoved, due as is_due, met, told}
+use Rattle.update_coordinator.specs.Phases.{acknowledged, flipped, works}
 use Rattle.update_coordinator.specs.Sending.{MaySend}
 use Rattle.update_coordinator.proofs.Orders.{some_orders, orders_some}
-use Rattle.update_laws.specs.Fleets.{End, Fleet}
-use Rattle.update_laws.proofs.Places.{Put, get-some, get-within, put-set}
+use Rattle.update_laws.specs.Fleets.{End, Fleet, SendsAt, TakesAt, AppliesAt, RepliesAt}
+use Rattle.update_laws.proofs.Alike.{awaits-or-not}
+use Rattle.update_laws.proofs.Places.{Put, below-either, get-some, get-within, put-set}
 use Rattle.update_laws.proofs.Wiring.{some-is}
 use Rattle.world_core.specs.declared.event.Event.{Event}
 use Rattle.world_core.specs.declared.event.Event.TheVariants as event
@@ -14,10 +30,11 @@ use Rattle.world_core.specs.declared.event.ControllerEvent.TheVariants as of_con
 use Rattle.world_core.specs.declared.event.PacketEvent.TheVariants as of_packet
 use Rattle.world_core.specs.declared.event.SwitchEvent.TheVariants as of_switch
 use Rattle.world_core.specs.Ends.{HasSession}
-use Rattle.world_core.specs.Steps.{IsEnabled, Stands, Step}
+use Rattle.world_core.specs.Settling.{hops_from}
+use Rattle.world_core.specs.Steps.{InFleet, IsEnabled, MayHop, NoneCarries, Stands, Step}
 use Rattle.world_core.specs.Worlds.{WorldValue}
-use Rattle.workload_gen.specs.Counts.{AreCounts, IsCount}
-use Rattle.workload_gen.specs.Draws.{AreEnabled, applies_from, pending_at, tried_at}
+use Rattle.workload_gen.specs.Counts.{AreCounts, AreOthers, IsCount, IsQuiet}
+use Rattle.workload_gen.specs.Draws.{AreEnabled, applies_from, arrival, due, left_by, pending_at, report, tried_at, tried_last}
 
 -- ---- one switch
 
@@ -153,6 +170,183 @@ step-topology w (event.Controller (of_controller.Rejoin s)) v h = ap (λ (x : Wo
 step-topology w (event.Packet (of_packet.Stuck k)) v h = ap (λ (x : WorldValue). x.topology) h.now
 step-topology w (event.Foreign s side got) v h = ap (λ (x : WorldValue). x.topology) h.now
 
+-- ---- what the coordinator hears
+
+-- no phase of flips is followed by itself
+if-never : {X : Type 0} (b : Bool) (x y z : X) → (x ≡ z → ⊥) → (y ≡ z → ⊥) → (if b then x else y) ≡ z → ⊥
+if-never true x y z f g q = f q
+if-never false x y z f g q = g q
+
+flipped-installs : (overlap : Option ℕ) (i : ℕ) → flipped overlap i ≡ Install i → ⊥
+flipped-installs None i q = if-never (i == 1) (Idle 1) (Drain i) (Install i) (λ e. cc) (λ e. cc) q
+flipped-installs (Some stamps) i q = if-never ((i == 1) || (i % 2 == 0)) (Idle i) (Tidy i) (Install i) (λ e. cc) (λ e. cc) q
+
+flipped-flips : (overlap : Option ℕ) (i r : ℕ) → flipped overlap i ≡ Flip i r → ⊥
+flipped-flips None i r q = if-never (i == 1) (Idle 1) (Drain i) (Flip i r) (λ e. cc) (λ e. cc) q
+flipped-flips (Some stamps) i r q = if-never ((i == 1) || (i % 2 == 0)) (Idle i) (Tidy i) (Flip i r) (λ e. cc) (λ e. cc) q
+
+round-in : Phase → ℕ
+round-in (Flip i r) = r
+round-in _ = 0
+
+next-round : (i r : ℕ) → Flip i (r + 1) ≡ Flip i r → ⊥
+unfolding round-in
+next-round i r q = let same : r + 1 ≡ r = ap round-in q in omega (arith, same)
+
+-- a phase with a batch is not the one after it
+no-next : (overlap : Option ℕ) (rounds : List ℕ) (ph : Phase) → works ph ≡ true → acknowledged overlap rounds ph ≡ ph → ⊥
+no-next overlap rounds (Idle i) w q = cc
+no-next overlap rounds (Drain i) w q = cc
+no-next overlap rounds Opening w q = cc
+no-next overlap rounds (Clean i) w q = cc
+no-next overlap rounds (Tidy i) w q = cc
+no-next overlap rounds (Sweep i v) w q = cc
+no-next overlap rounds (Install i) w q = if-never (nat_lt 0 (get_or rounds (i - 1) 0)) (Flip i 1) (flipped overlap i) (Install i) (λ e. cc) (λ e. flipped-installs overlap i e) q
+no-next overlap rounds (Flip i r) w q = if-never (nat_lt r (get_or rounds (i - 1) 0)) (Flip i (r + 1)) (flipped overlap i) (Flip i r) (λ e. next-round i r e) (λ e. flipped-flips overlap i r e) q
+
+-- the coordinator has the same sites as before, and stands still if it did
+record SameSites (c d : Control) : Type 0 where
+  halt : d.halt ≡ c.halt
+  sites : d.sites ≡ c.sites
+
+same-all : (c d : Control) → d ≡ c → SameSites c d
+same-all c d e = record { halt = ap (λ (x : Control). x.halt) e; sites = ap (λ (x : Control). x.sites) e }
+
+-- a reply to a barrier that does not end the phase
+same-answered : (place xid : ℕ) (c d : Control) → IsAnswered place xid c d → d.phase ≡ c.phase → works c.phase ≡ true → SameSites c d
+same-answered place xid c d a same w = elim (awaits-or-not c.replies place xid) [
+  | inr n ↦ same-all c d (a.stray n)
+  | inl y ↦ elim (below-either c.replies place (length c.replies)) [
+    | inl h ↦ absurd (no-next c.overlap (rounds_of c.versions) c.phase w (sym (ap (λ (x : Control). x.phase) (a.last y h)) ∙ same))
+    | inr u ↦
+        let more : d ≡ record c { replies = heard_at c.replies place } = a.more y (λ (h : OthersHeard c.replies place). u.is (h u.other u.below u.differs)) in
+        record { halt = ap (λ (x : Control). x.halt) more; sites = ap (λ (x : Control). x.sites) more }
+  ]
+]
+
+same-moved : (place sw : ℕ) (v : Move) (c d : Control) → IsMoved place sw v c d → d.phase ≡ c.phase → works c.phase ≡ true → d.halt ≡ None → SameSites c d
+same-moved place sw (moves.Barrier xid) c d h same w runs = same-answered place xid c d h same w
+same-moved place sw (moves.Failed f) c d h same w runs = absurd (let none : Some (cause.Failed sw f) ≡ None = sym (ap (λ (x : Control). x.halt) h) ∙ runs in cc)
+same-moved place sw moves.Greeted c d h same w runs = same-all c d h
+same-moved place sw moves.Up c d h same w runs = same-all c d h
+same-moved place sw moves.Echo c d h same w runs = same-all c d h
+same-moved place sw moves.Ignored c d h same w runs = same-all c d h
+
+-- of the coordinator only the part of the switch changes that was heard, as long as a batch goes on
+pub heard-others : (w v : WorldValue) (p : ℕ) (ph : Phase) → Step w (event.Controller (of_controller.Heard p)) v → w.fleet.control.phase ≡ ph → v.fleet.control.phase ≡ ph → works ph ≡ true → v.fleet.control.halt ≡ None → (s : ℕ) → s ≢ p → SameAt s w v
+heard-others w v p ph h was is batch runs =
+    let t = h.step in
+    let c = w.fleet.control in
+    let now : v.fleet ≡ record { control = t.control; ends = slice_set w.fleet.ends p (record t.old { back = t.rest }) } = ap (λ (x : WorldValue). x.fleet) h.now ∙ t.now in
+    let control = ap (λ (x : Fleet). x.control) now in
+    let site = met (is_due p c) t.move (told t.message t.heard.site) in
+    let middle = record c { sites = slice_set c.sites p site } in
+    let phase : t.control.phase ≡ c.phase = sym (ap (λ (x : Control). x.phase) control) ∙ is ∙ sym was in
+    let working : works c.phase ≡ true = ap works was ∙ batch in
+    let halt : t.control.halt ≡ None = sym (ap (λ (x : Control). x.halt) control) ∙ runs in
+    let same : SameSites middle t.control = same-moved p t.heard.site.sw t.move middle t.control t.heard.now phase working halt in
+    changed-end w v p t.control t.old (record t.old { back = t.rest }) now t.here same.halt
+    (λ s n. ap (λ (xs : List Site). slice_get xs s) same.sites ∙ (put-set p c.sites t.heard.site site t.heard.here).others s n)
+
+-- ---- the other counts
+
+-- what no switch counts for is as it was
+record SameOthers (w v : WorldValue) : Type 0 where
+  flights : v.flights ≡ w.flights
+  limit : v.limit ≡ w.limit
+  topology : v.topology ≡ w.topology
+  begins : begin_refusal v.fleet.control ≡ begin_refusal w.fleet.control
+  drains : (stamp : ℕ) → drain_refusal v.fleet.control stamp ≡ drain_refusal w.fleet.control stamp
+  due_is : due v.fleet.control ≡ due w.fleet.control
+
+back-others : (w v : WorldValue) → SameOthers w v → SameOthers v w
+back-others w v a = record { flights = sym a.flights; limit = sym a.limit; topology = sym a.topology; begins = sym a.begins; drains = λ stamp. sym (a.drains stamp); due_is = sym a.due_is }
+
+hop-same : (k : ℕ) (w v : WorldValue) → SameOthers w v → MayHop k w → MayHop k v
+hop-same k w v a h = record {
+  flight = h.flight;
+  there = ap (λ (fs : List Flight). slice_get fs k) a.flights ∙ h.there;
+  limit = subst (λ (n : ℕ). h.flight.hops < n) (sym a.limit) h.limit;
+}
+
+hops-moved : (k n : ℕ) (w v : WorldValue) → SameOthers w v → AreMoved w v (hops_from k n)
+hops-moved k zero w v a = tt
+hops-moved k (suc n) w v a = (hop-same k w v a, hop-same k v w (back-others w v a), hops-moved (k + 1) n w v a)
+
+arrival-same : (pk : Packet) (tag : Option ℕ) (w v : WorldValue) → SameOthers w v → IsEnabled w (event.Packet (of_packet.Arrive pk tag)) → IsEnabled v (event.Packet (of_packet.Arrive pk tag))
+arrival-same pk tag w v a h = (h.0, h.1, subst (λ (t : Layout). IsIn (edges_of t) (standing pk)) (sym a.topology) h.2)
+
+arrival-moved : (lines : List PacketLine) (w v : WorldValue) → SameOthers w v → AreMoved w v (arrival lines)
+arrival-moved [] w v a = tt
+arrival-moved (line ∷ lines) w v a = (arrival-same line.packet line.tag w v a, arrival-same line.packet line.tag v w (back-others w v a), tt)
+
+drained-same : (stamp : ℕ) (w v : WorldValue) → SameOthers w v → IsEnabled w (event.Controller (of_controller.Drained stamp)) → IsEnabled v (event.Controller (of_controller.Drained stamp))
+drained-same stamp w v a h = (a.drains stamp ∙ h.0, subst (λ (fs : List Flight). NoneCarries stamp fs) (sym a.flights) h.1)
+
+report-moved : (o : Option ℕ) (w v : WorldValue) → SameOthers w v → AreMoved w v (report o)
+report-moved None w v a = tt
+report-moved (Some stamp) w v a = (drained-same stamp w v a, drained-same stamp v w (back-others w v a), tt)
+
+last-moved : (lines : List PacketLine) (w v : WorldValue) → SameOthers w v → AreMoved w v (tried_last lines w)
+last-moved lines w v a =
+    moved-both w v (arrival lines) ((event.Controller of_controller.Begin) ∷ report (due w.fleet.control)) (arrival-moved lines w v a)
+    ((λ h. a.begins ∙ h), (λ h. sym a.begins ∙ h), report-moved (due w.fleet.control) w v a)
+
+moved-count : (w v : WorldValue) (cs : List Event) (n : ℕ) → AreMoved w v cs → IsCount w cs n → IsCount v cs n
+moved-count w v cs n m c = record { events = c.events; enabled = enabled-moved w v cs c.events m c.enabled; count = c.count }
+
+same-others : (lines : List PacketLine) (w v : WorldValue) (hops last : ℕ) → SameOthers w v → AreOthers w lines hops last → AreOthers v lines hops last
+same-others lines w v hops last a c = record {
+  of_hops = subst (λ (fs : List Flight). IsCount v (hops_from 0 (length fs)) hops) (sym a.flights) (moved-count w v (hops_from 0 (length w.flights)) hops (hops-moved 0 (length w.flights) w v a) c.of_hops);
+  of_last = subst (λ (o : Option ℕ). IsCount v (arrival lines ++ (event.Controller of_controller.Begin) ∷ report o) last) (sym a.due_is) (moved-count w v (tried_last lines w) last (last-moved lines w v a) c.of_last);
+}
+
+-- of the fleet at most the sites, the replies and the switches have changed
+fleet-others : (Does : Fleet → Fleet → Type 0) (w v : WorldValue) (h : InFleet Does w v) → begin_refusal h.fleet.control ≡ begin_refusal w.fleet.control → ((stamp : ℕ) → drain_refusal h.fleet.control stamp ≡ drain_refusal w.fleet.control stamp) →
+    due h.fleet.control ≡ due w.fleet.control → SameOthers w v
+fleet-others Does w v h begins drains due_is = record {
+  flights = ap (λ (x : WorldValue). x.flights) h.now;
+  limit = ap (λ (x : WorldValue). x.limit) h.now;
+  topology = ap (λ (x : WorldValue). x.topology) h.now;
+  begins = ap (λ (x : WorldValue). begin_refusal x.fleet.control) h.now ∙ begins;
+  drains = λ stamp. ap (λ (x : WorldValue). drain_refusal x.fleet.control stamp) h.now ∙ drains stamp;
+  due_is = ap (λ (x : WorldValue). due x.fleet.control) h.now ∙ due_is;
+}
+
+quiet-same : (w v : WorldValue) (e : Event) → IsQuiet e → Step w e v → SameOthers w v
+quiet-same w v (event.Switch (of_switch.Take s)) q h =
+    let t = h.step.now in
+    fleet-others (TakesAt s) w v h (ap (λ (f : Fleet). begin_refusal f.control) t) (λ stamp. ap (λ (f : Fleet). drain_refusal f.control stamp) t) (ap (λ (f : Fleet). due f.control) t)
+quiet-same w v (event.Switch (of_switch.Apply s k)) q h =
+    let t = h.step.now in
+    fleet-others (AppliesAt s k) w v h (ap (λ (f : Fleet). begin_refusal f.control) t) (λ stamp. ap (λ (f : Fleet). drain_refusal f.control stamp) t) (ap (λ (f : Fleet). due f.control) t)
+quiet-same w v (event.Switch (of_switch.Reply s)) q h =
+    let t = h.step.now in
+    fleet-others (RepliesAt s) w v h (ap (λ (f : Fleet). begin_refusal f.control) t) (λ stamp. ap (λ (f : Fleet). drain_refusal f.control stamp) t) (ap (λ (f : Fleet). due f.control) t)
+quiet-same w v (event.Controller (of_controller.Send s)) q h =
+    let t = h.step.now in
+    let n = h.step.sent.now in
+    fleet-others (SendsAt s) w v h (ap (λ (f : Fleet). begin_refusal f.control) t ∙ ap begin_refusal n) (λ stamp. ap (λ (f : Fleet). drain_refusal f.control stamp) t ∙ ap (λ (c : Control). drain_refusal c stamp) n)
+    (ap (λ (f : Fleet). due f.control) t ∙ ap due n)
+quiet-same w v (event.Controller of_controller.Begin) q h = absurd q
+quiet-same w v (event.Controller (of_controller.Heard s)) q h = absurd q
+quiet-same w v (event.Controller (of_controller.Drained stamp)) q h = absurd q
+quiet-same w v (event.Controller (of_controller.Lost s)) q h = absurd q
+quiet-same w v (event.Controller (of_controller.Rejoin s)) q h = absurd q
+quiet-same w v (event.Packet flow) q h = absurd q
+quiet-same w v (event.Foreign s side got) q h = absurd q
+
+quiet-left : (e : Event) (lines : List PacketLine) → IsQuiet e → left_by e lines ≡ lines
+quiet-left (event.Switch act) lines q = refl
+quiet-left (event.Controller control) lines q = refl
+quiet-left (event.Packet flow) lines q = absurd q
+quiet-left (event.Foreign s side got) lines q = absurd q
+
+-- a quiet event changes none of the other counts
+pub quiet-others : (lines left : List PacketLine) (w v : WorldValue) (e : Event) (hops last : ℕ) → left ≡ left_by e lines → IsQuiet e → Step w e v → AreOthers w lines hops last → AreOthers v left hops last
+quiet-others lines left w v e hops last l q h c =
+    subst (λ (ls : List PacketLine). AreOthers v ls hops last) (sym (l ∙ quiet-left e lines q)) (same-others lines w v hops last (quiet-same w v e q h) c)
+
 -- ---- lists of counts
 
 pub no-counts : (w : WorldValue) → length w.topology.switches ≤ 0 → AreCounts w []
@@ -165,17 +359,15 @@ set-here P xs i v l p n e = let old = get-some i xs l in subst P (some-is v n (s
 pub set-others : (xs : List ℕ) (i v k : ℕ) → i < length xs → k ≢ i → slice_get (slice_set xs i v) k ≡ slice_get xs k
 set-others xs i v k l d = let old = get-some i xs l in (put-set i xs old.0 v old.1).others k d
 
--- what holds of each number of a list before a place holds of one more, once it holds there
-pub each-more : (P : ℕ → ℕ → Type 0) (xs : List ℕ) (i v : ℕ) → i < length xs → P i v → ((k n : ℕ) → k < i → slice_get xs k ≡ Some n → P k n) → (k n : ℕ) → k < i + 1 → slice_get (slice_set xs i v) k ≡ Some n → P k n
-each-more P xs i v l here below k n small at = elim (ℕ_discrete k i) [
-  | yes d ↦ subst (λ (j : ℕ). P j n) (sym d) (subst (λ (m : ℕ). P i m) (some-is v n (sym put.at ∙ ap (λ (j : ℕ). slice_get (slice_set xs i v) j) (sym d) ∙ at)) here)
-  | no d ↦ below k n (omega (arith, small, d)) (sym (put.others k d) ∙ at)
+-- what holds of each number of a list before a place holds of one more, once it holds there and the others are as they were
+pub each-next : (P : ℕ → ℕ → Type 0) (xs ys : List ℕ) (i : ℕ) → ((n : ℕ) → slice_get ys i ≡ Some n → P i n) → ((k : ℕ) → k ≢ i → slice_get ys k ≡ slice_get xs k) → ((k n : ℕ) → k < i → slice_get xs k ≡ Some n → P k n) →
+    (k n : ℕ) → k < i + 1 → slice_get ys k ≡ Some n → P k n
+each-next P xs ys i here others below k n small at = elim (ℕ_discrete k i) [
+  | yes d ↦ subst (λ (j : ℕ). P j n) (sym d) (here n (ap (λ (j : ℕ). slice_get ys j) (sym d) ∙ at))
+  | no d ↦ below k n (omega (arith, small, d)) (sym (others k d) ∙ at)
 ]
-  where
-    put : Put i xs v (slice_set xs i v)
-    put = let old = get-some i xs l in put-set i xs old.0 v old.1
 
--- and of each of them, where all are before it
+-- and of each of them, if all are before it
 pub each-all : (P : ℕ → ℕ → Type 0) (xs : List ℕ) (i : ℕ) → length xs ≤ i → ((k n : ℕ) → k < i → slice_get xs k ≡ Some n → P k n) → (k n : ℕ) → slice_get xs k ≡ Some n → P k n
 each-all P xs i l below k n at = below k n (omega (arith, l, get-within k xs n at)) at
 

@@ -3,12 +3,12 @@ ghost use Rattle.std.specs.Prelude.{◌≡◌, ◌++◌, ◌∷◌, [], List, If
 ghost use Rattle.world_core.specs.declared.event.Event.{Event as EventValue};
 ghost use Rattle.world_core.specs.Settling.{NoneIs};
 ghost use Rattle.world_core.specs.Steps.{IsEnabled, Runs, Step};
-ghost use Rattle.workload_gen.specs.Counts.{AreCounts};
+ghost use Rattle.workload_gen.specs.Counts.{AreCounts, AreOthers};
 ghost use Rattle.workload_gen.specs.Draws.{Drawn, Draws, IsDrawn, left_by, tried};
 ghost use Rattle.workload_gen.specs.Words.{behind, next_word};
 
-use crate::counting::{count_hops, count_last};
 use crate::finding::event_by;
+use crate::others::{Others, is_quiet};
 use crate::tally::Tally;
 use crate::words::next_word;
 use document_text::PacketLine;
@@ -36,13 +36,16 @@ pub fn draw(
     let mut events = Events::new(alloc);
     let mut tally = Tally::new(alloc, world)?;
     let mut left = packets;
+    let mut others = Others::count(world, left);
     for _ in 0..u64::MAX {
-        let next = next_event(alloc, world, &tally, left, rng)?;
+        let next = next_event(alloc, world, &tally, left, others, rng)?;
         let Some(event) = next else {
             return Ok(events);
         };
+        let quiet = is_quiet(&event);
         left = left_by(&event, left);
         do_next(alloc, world, &mut tally, event, &mut events)?;
+        others = others.after(quiet, world, left);
     }
     Err(AllocError)
 }
@@ -53,15 +56,17 @@ fn next_event(
     world: &World,
     tally: &Tally,
     packets: &[PacketLine],
+    others: Others,
     rng: &mut Lcg64Xsh32,
 ) -> Result<Option<Event>, AllocError>
-    requires { AreCounts world.now tally.now }
+    requires counts { AreCounts world.now tally.now }
+    requires others { AreOthers world.now packets.now others.hops others.last }
     ensures none { IfOk result (λ r. IfNone r (NoneIs world.now (tried packets.now world.now) × (rng.new ≡ rng.old))) }
     ensures some { IfOk result (λ r. IfSome r (λ e. IsDrawn packets.now world.now rng.old e × (rng.new ≡ (next_word rng.old).1))) }
 {
-    let hops = count_hops(world);
-    let others = hops.saturating_add(count_last(world, packets));
-    let count = tally.total().saturating_add(others);
+    let Others { hops, last } = others;
+    let rest = hops.saturating_add(last);
+    let count = tally.total().saturating_add(rest);
     if count == 0 {
         return Ok(None);
     }
@@ -99,9 +104,10 @@ fn do_next(
     ensures err { OnErr result (world.new ≡ world.old) }
 {
     events.reserve()?;
+    let phase = world.coordinator().phase();
     match world.step(alloc, &event) {
         Ok(()) => {
-            tally.recount(world, &event);
+            tally.recount(world, &event, phase);
             events.push_reserved(event);
             Ok(())
         }

@@ -30,7 +30,7 @@ pub(crate) fn event_by(
 {
     let switches = tally.total();
     if number < switches {
-        return Ok(switch_event_by(world, tally.counts(), number));
+        return Ok(switch_event_by(world, tally, number));
     }
     let number = number - switches;
     if number < hops {
@@ -40,14 +40,24 @@ pub(crate) fn event_by(
     Ok(found)
 }
 
-// That of the events at switches with these counts.
-fn switch_event_by(world: &World, counts: &[u64], number: u64) -> Option<Event>
+// That of the events at switches.
+fn switch_event_by(world: &World, tally: &Tally, number: u64) -> Option<Event>
     requires number { number < 2 ^ 64 - 1 }
-    requires counts { AreCounts world.now counts.now }
+    requires counts { AreCounts world.now tally.now }
     ensures { Finds world.now (tried_from world.now 0 (length world.now.topology.switches)) number result }
 {
+    let (start, left) = tally.skip(number);
+    switch_event_from(world, tally.counts(), start, left)
+}
+
+// That of the events at the switches with these counts, from a place on.
+fn switch_event_from(world: &World, counts: &[u64], start: usize, number: u64) -> Option<Event>
+    requires number { number < 2 ^ 64 - 1 }
+    requires counts { AreCounts world.now counts.now }
+    ensures { Finds world.now (tried_from world.now start (length counts.now - start)) number result }
+{
     let mut number = number;
-    for place in 0..counts.len() {
+    for place in start..counts.len() {
         let count = counts[place];
         if number < count {
             return event_at(world, place, number);

@@ -8,7 +8,9 @@ mod drawing;
 mod driving;
 mod finding;
 mod laws;
+mod others;
 mod policies;
+mod sums;
 mod tally;
 mod words;
 

@@ -11,8 +11,8 @@ returns-then-count-eq0-clause-none c =
     let lines = c.args.packets.now in
     let n = c.saturating_add-count.result in
     let counted : IsCount w (tried lines w) n =
-    count-tried w lines c.total.result c.count_hops-hops.result c.count_last.result c.saturating_add-others.result n
-    (total-counts w c.args.tally.now c.total.result c.requires c.total.ensures) c.count_hops-hops.ensures c.count_last.ensures c.saturating_add-others.ensures c.saturating_add-count.ensures in
+    count-tried w lines c.total.result c.args.others.hops c.args.others.last c.saturating_add-rest.result n
+    (total-counts w c.args.tally.now c.total.result c.requires.counts c.total.ensures) c.requires.others.of_hops c.requires.others.of_last c.saturating_add-rest.ensures c.saturating_add-count.ensures in
     (count-none w (tried lines w) n counted c.if-count-eq0.true, refl)
 
 pub returns-clause-none : goal.returns-clause-none
@@ -22,8 +22,8 @@ returns-clause-none c =
     let n = c.saturating_add-count.result in
     let word = c.next_word-word.result in
     let counted : IsCount w (tried lines w) n =
-    count-tried w lines c.total.result c.count_hops-hops.result c.count_last.result c.saturating_add-others.result n
-    (total-counts w c.args.tally.now c.total.result c.requires c.total.ensures) c.count_hops-hops.ensures c.count_last.ensures c.saturating_add-others.ensures c.saturating_add-count.ensures in
+    count-tried w lines c.total.result c.args.others.hops c.args.others.last c.saturating_add-rest.result n
+    (total-counts w c.args.tally.now c.total.result c.requires.counts c.total.ensures) c.requires.others.of_hops c.requires.others.of_last c.saturating_add-rest.ensures c.saturating_add-count.ensures in
     let finds : Finds w (tried lines w) (word % n) c.in_ok-found.found = subst (λ (k : ℕ). Finds w (tried lines w) (k % n) c.in_ok-found.found) c.from.ensures c.in_ok-found.ensures in
     let f = drawn-found lines w c.args.rng.now n c.in_ok-found.found counted word c.next_word-word.ensures.word (omega (arith, c.next_word-word.type_inv)) c.if-count-eq0.false finds in
     if-none _ c.in_ok-found.found f.0 f.1
@@ -35,8 +35,8 @@ returns-clause-some c =
     let n = c.saturating_add-count.result in
     let word = c.next_word-word.result in
     let counted : IsCount w (tried lines w) n =
-    count-tried w lines c.total.result c.count_hops-hops.result c.count_last.result c.saturating_add-others.result n
-    (total-counts w c.args.tally.now c.total.result c.requires c.total.ensures) c.count_hops-hops.ensures c.count_last.ensures c.saturating_add-others.ensures c.saturating_add-count.ensures in
+    count-tried w lines c.total.result c.args.others.hops c.args.others.last c.saturating_add-rest.result n
+    (total-counts w c.args.tally.now c.total.result c.requires.counts c.total.ensures) c.requires.others.of_hops c.requires.others.of_last c.saturating_add-rest.ensures c.saturating_add-count.ensures in
     let finds : Finds w (tried lines w) (word % n) c.in_ok-found.found = subst (λ (k : ℕ). Finds w (tried lines w) (k % n) c.in_ok-found.found) c.from.ensures c.in_ok-found.ensures in
     let f = drawn-found lines w c.args.rng.now n c.in_ok-found.found counted word c.next_word-word.ensures.word (omega (arith, c.next_word-word.type_inv)) c.if-count-eq0.false finds in
     if-some _ c.in_ok-found.found f.0 f.1 (f.2, c.next_word-word.ensures.behind)

@@ -1,34 +1,22 @@
-use Rattle.std.proofs.Common.{◌<◌, get_or, length, arith}
+use Rattle.std.proofs.Common.{◌-◌, ℕ, List, length, sym, subst, arith}
+use Rattle.workload_gen.specs.Counts.{AreCounts, Finds}
 use Rattle.workload_gen.specs.Draws.{tried_from}
-use Rattle.workload_gen.proofs.Found.{along-tried, at-switch, finds-all, get-at, over-tried, past-switch}
+use Rattle.workload_gen.proofs.Found.{along-skip, finds-all}
 use Rattle.workload_gen.proofs.finding.switch_event_by.Goals as goal
 
-pub loop-place-init : goal.loop-place-init
-loop-place-init c = record { small = omega arith; along = along-tried c.args.world.now (length c.args.counts.now) c.args.number }
+pub switch_event_from-requires-clause-number : goal.switch_event_from-requires-clause-number
+switch_event_from-requires-clause-number c = let left = c.skip-start.ensures.left in omega (arith, left, c.requires.number)
 
-pub returns-then-number-count : goal.returns-then-number-count
-returns-then-number-count c =
-    let n = length c.args.counts.now in
-    let count = get_or c.args.counts.now c.loop-place.place 0 in
-    let within : c.loop-place.place < n = omega (arith, c.loop-place-test.true) in
-    finds-all c.args.world.now c.args.counts.now c.args.number _ c.requires.counts
-    (at-switch c.args.world.now c.loop-place.place n count c.loop-place.number (tried_from c.args.world.now 0 n) c.args.number c.event_at.result
-    c.loop-place.invariant.along within (c.requires.counts.each c.loop-place.place count (get-at c.args.counts.now c.loop-place.place within)) c.if-number-count.true c.event_at.ensures)
-
-pub loop-place-preserved : goal.loop-place-preserved
-loop-place-preserved c =
-    let n = length c.args.counts.now in
-    let count = get_or c.args.counts.now c.loop-place.place 0 in
-    let small = c.loop-place.invariant.small in
-    let within : c.loop-place.place < n = omega (arith, c.loop-place-test.true) in
-    record {
-      small = omega (arith, small);
-      along = past-switch c.args.world.now c.loop-place.place n count c.loop-place.number (tried_from c.args.world.now 0 n) c.args.number
-          c.loop-place.invariant.along within (c.requires.counts.each c.loop-place.place count (get-at c.args.counts.now c.loop-place.place within)) (omega (arith, small, c.requires.number)) (omega (arith, c.if-number-count.false));
-    }
+pub switch_event_from-requires-clause-counts : goal.switch_event_from-requires-clause-counts
+switch_event_from-requires-clause-counts c = subst (λ (xs : List ℕ). AreCounts c.args.world.now xs) (sym c.counts.ensures) c.requires.counts
 
 pub returns : goal.returns
 returns c =
-    let n = length c.args.counts.now in
-    finds-all c.args.world.now c.args.counts.now c.args.number _ c.requires.counts
-    (over-tried c.args.world.now c.loop-place.place n c.loop-place.number (tried_from c.args.world.now 0 n) c.args.number c.loop-place.invariant.along (omega (arith, c.loop-place-test.false)))
+    let w = c.args.world.now in
+    let counts = c.args.tally.now in
+    let start = c.skip-start.result.0 in
+    let left = c.skip-start.result.1 in
+    let found = c.switch_event_from.result in
+    finds-all w counts c.args.number found c.requires.counts
+    (along-skip w counts start left c.args.number c.requires.counts c.skip-start.ensures.start c.skip-start.ensures.left c.requires.number found
+    (subst (λ (xs : List ℕ). Finds w (tried_from w start (length xs - start)) left found) c.counts.ensures c.switch_event_from.ensures))
