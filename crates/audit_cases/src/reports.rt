@@ -2,7 +2,7 @@
 use crate::rows::{key_text, row_text};
 use flow_audit::{AuditError, AuditFault, Verdict};
 use flow_index::Table;
-use nk_values::{ANY_PORT, Command, Duplicate, FlowMod, Row};
+use nk_values::{ANY_PORT, Duplicate, FlowCommand, FlowMod, Row};
 use openflow_wire::Message;
 use std::alloc::{AllocError, Global};
 
@@ -40,7 +40,7 @@ impl Case {
 // The flow mod that adds a row.
 fn addition(alloc: Global, row: &Row) -> Result<FlowMod, AllocError> {
     Ok(FlowMod {
-        command: Command::Add,
+        command: FlowCommand::Add,
         pattern: row.pattern,
         priority: row.priority,
         out_port: ANY_PORT,

@@ -8,7 +8,7 @@ ghost use Rattle.openflow_wire.specs.Writing.{Fits, wire_len};
 
 use crate::reports::verdict_text;
 use flow_audit::audit;
-use nk_values::{ANY_PORT, Action, Actions, Command, FlowMod, Pattern, Row, UNTAGGED};
+use nk_values::{ANY_PORT, Action, Actions, FlowCommand, FlowMod, Pattern, Row, UNTAGGED};
 use openflow_wire::{Message, wire_len};
 use std::alloc::{AllocError, Global};
 use switch_model::Switch;
@@ -47,7 +47,7 @@ fn addition(alloc: Global, port: u16) -> Result<Message, AllocError>
 {
     let actions = Actions::one(Action::Output(2));
     let change = FlowMod {
-        command: Command::Add,
+        command: FlowCommand::Add,
         pattern: Pattern {
             in_port: Some(port),
             dl_vlan: Some(UNTAGGED),

@@ -6,7 +6,7 @@ use Rattle.std.specs.List.{AllByRecursion}
 use mathlib.Core.List.{IsPrefix}
 use Rattle.nk_values.specs.Members.{IsIn}
 use Rattle.status_board.specs.declared.post.Post.{Post}
-use Rattle.status_board.specs.Posts.{IsHistory, last_of, newest, opening}
+use Rattle.status_board.specs.Posts.{IsHistory, last_post, newest, opening}
 use Rattle.status_board.proofs.Rising.{last_of-later, rising-snoc}
 use Rattle.board_readers.specs.Sights.{AreSeen, AreSights, IsKnown, do_rise, is_new}
 
@@ -34,7 +34,7 @@ sights_later xs ys seen pre le s = record {
 
 -- ---- the newest
 
-last-known : (first : Post) (xs all : List Post) → IsKnown all first → AllByRecursion (IsIn all) xs → IsKnown all (last_of first xs)
+last-known : (first : Post) (xs all : List Post) → IsKnown all first → AllByRecursion (IsIn all) xs → IsKnown all (last_post first xs)
 last-known first [] all k h = k
 last-known first (x ∷ xs) all k h = last-known x xs all (inr h.0) h.1
 
@@ -55,18 +55,18 @@ all-snoc : (xs seen : List Post) (p : Post) → AllByRecursion (IsKnown xs) seen
 all-snoc xs [] p all k = (k, tt)
 all-snoc xs (q ∷ qs) p all k = (all.0, all-snoc xs qs p all.1 k)
 
-last-snoc : (q : Post) (seen : List Post) (p : Post) → last_of q (seen ++ p ∷ []) ≡ p
+last-snoc : (q : Post) (seen : List Post) (p : Post) → last_post q (seen ++ p ∷ []) ≡ p
 last-snoc q [] p = refl
 last-snoc q (x ∷ xs) p = last-snoc x xs p
 
 less-of : (a b : ℕ) → not (a == b) ≡ true → a ≤ b → a < b
 less-of a b other le = grind (arith, nat_tests)
 
-rise-snoc : (xs seen : List Post) (p : Post) → p ≡ newest xs → do_rise seen ≡ true → (last_of opening seen).count ≤ (newest xs).count → is_new seen p.count ≡ true → do_rise (seen ++ p ∷ []) ≡ true
+rise-snoc : (xs seen : List Post) (p : Post) → p ≡ newest xs → do_rise seen ≡ true → (last_post opening seen).count ≤ (newest xs).count → is_new seen p.count ≡ true → do_rise (seen ++ p ∷ []) ≡ true
 rise-snoc xs [] p is up below new = refl
 rise-snoc xs (q ∷ qs) p is up below new =
-    let le : (last_of q qs).count ≤ p.count = omega (arith, below, ap (λ (x : Post). x.count) is) in
-    rising-snoc q qs p up (less-of (last_of q qs).count p.count new le)
+    let le : (last_post q qs).count ≤ p.count = omega (arith, below, ap (λ (x : Post). x.count) is) in
+    rising-snoc q qs p up (less-of (last_post q qs).count p.count new le)
 
 -- a post that is new may be added
 pub sights_more : (xs seen : List Post) (p : Post) → p ≡ newest xs → is_new seen p.count ≡ true → AreSights xs seen → AreSights xs (seen ++ p ∷ [])
@@ -79,7 +79,7 @@ sights_more xs seen p is new s =
 
 -- ---- the last post of a list
 
-get-last : (q : Post) (qs : List Post) → slice_get (q ∷ qs) (length qs) ≡ Some (last_of q qs)
+get-last : (q : Post) (qs : List Post) → slice_get (q ∷ qs) (length qs) ≡ Some (last_post q qs)
 get-last q [] = refl
 get-last q (x ∷ xs) = get-last x xs
 
@@ -93,7 +93,7 @@ pub new_at : (seen : List Post) (p : Post) (n : ℕ) → slice_get seen (length 
 new_at [] p n at = none-some p 0 at
 new_at (q ∷ qs) p n at =
     let k : length (q ∷ qs) - 1 ≡ length qs = omega arith in
-    let is : p ≡ last_of q qs = some-is p (last_of q qs) (sym at ∙ ap (slice_get (q ∷ qs)) k ∙ get-last q qs) in
+    let is : p ≡ last_post q qs = some-is p (last_post q qs) (sym at ∙ ap (slice_get (q ∷ qs)) k ∙ get-last q qs) in
     ap (λ (x : Post). not (x.count == n)) is
 
 -- ---- what is seen at the end

@@ -3,7 +3,7 @@ use Rattle.std.specs.Prelude.{◌≡◌, ◌≤◌, ◌⊎◌, ◌==◌, ℕ, Bo
 use Rattle.std.specs.List.{AllByRecursion}
 use Rattle.nk_values.specs.Members.{IsIn}
 use Rattle.status_board.specs.declared.post.Post.{Post}
-use Rattle.status_board.specs.Posts.{are_rising, last_of, newest, opening}
+use Rattle.status_board.specs.Posts.{are_rising, last_post, newest, opening}
 
 -- the posts that the eye knows, and those that it saw
 pub record SightsValue : Type 0 where
@@ -22,13 +22,13 @@ do_rise (p ∷ ps) = are_rising p.count ps
 -- nothing has been seen, or the last post has another count
 abbrev pub is_new : List Post → ℕ → Bool
 is_new [] n = true
-is_new (p ∷ ps) n = not ((last_of p ps).count == n)
+is_new (p ∷ ps) n = not ((last_post p ps).count == n)
 
 -- An eye that knows these posts may have seen those: each is known, their counts rise, and the newest that is known has no smaller one.
 pub record AreSights (known seen : List Post) : Type 0 where
   pub each : AllByRecursion (IsKnown known) seen
   pub rising : do_rise seen ≡ true
-  pub below : (last_of opening seen).count ≤ (newest known).count
+  pub below : (last_post opening seen).count ≤ (newest known).count
 
 -- What was seen of a board with these posts: some with rising counts, and last the newest, which may repeat the one before.
 pub record AreSeen (posts seen : List Post) : Type 0 where

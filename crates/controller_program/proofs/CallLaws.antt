@@ -16,7 +16,7 @@ use Rattle.program_answer.specs.declared.status.Status.{Status}
 use Rattle.program_answer.specs.declared.status.Status.TheVariants as status
 use Rattle.program_answer.specs.Answers.{StopsBy}
 use Rattle.program_answer.specs.Called.{HasRisen, IsSame, SourceSeen}
-use Rattle.program_answer.specs.Input.{IsAccepted, IsRefused}
+use Rattle.program_answer.specs.Input.{IsAccepted, IsInputRefused}
 use Rattle.program_answer.specs.Statuses.{IsReport, status_of}
 use Rattle.program_answer.specs.Writing.{Says, SaysAnswer, IsUnsaid, whole, cut}
 use Rattle.equal_command.specs.Equiv.{IsComparable, IsEquivRefused}
@@ -24,7 +24,7 @@ use Rattle.plain_commands.specs.Simulate.{IsSimulateRefused}
 use Rattle.controller_program.specs.Called.{Called}
 use Rattle.controller_program.specs.Calls.{IsAnswered, IsCall, IsDue, IsLine}
 use Rattle.controller_program.specs.Commands.{Accepts, IsAnswer, IsStop}
-use Rattle.controller_program.specs.Told.{Answers, AnswersTo, by, none, memory}
+use Rattle.controller_program.specs.Told.{AnswersWords, AnswersTo, by, none, memory}
 use Rattle.controller_program.proofs.Coming.{reports}
 
 -- ---- what is due with a status
@@ -168,8 +168,8 @@ by-source P s fault.Report h n = absurd h
 by-source P s fault.Usage h n = absurd h
 
 stop-reads : {Q : Type 0} (k : Command) (c : Called Q) (f : Fault) → IsStop k c f → status_of f ≢ status.ReadFault → IsSame c.source.faults
-stop-reads Rules c f h n = by-source IsRefused c.source f h n
-stop-reads Trace c f h n = by-source IsRefused c.source f h n
+stop-reads Rules c f h n = by-source IsInputRefused c.source f h n
+stop-reads Trace c f h n = by-source IsInputRefused c.source f h n
 stop-reads Simulate c f h n = by-source IsSimulateRefused c.source f h n
 stop-reads Equiv c f h n = by-source IsEquivRefused c.source f h n
 stop-reads Audit c f h n = by-source IsSimulateRefused c.source f h n
@@ -219,8 +219,8 @@ refused-source P T s fault.Report h still = absurd h
 refused-source P T s fault.Usage h still = absurd h
 
 stop-refuses : {Q : Type 0} (k : Command) (c : Called Q) (f : Fault) → IsStop k c f → ¬ (HasRisen c.source.faults) → IfSome c.source.left.before (λ xs. ¬ (Accepts k xs) → status_of f ≡ status.Refused)
-stop-refuses Rules c f h still = refused-source IsRefused IsAccepted c.source f h still
-stop-refuses Trace c f h still = refused-source IsRefused IsAccepted c.source f h still
+stop-refuses Rules c f h still = refused-source IsInputRefused IsAccepted c.source f h still
+stop-refuses Trace c f h still = refused-source IsInputRefused IsAccepted c.source f h still
 stop-refuses Simulate c f h still = refused-source IsSimulateRefused IsAccepted c.source f h still
 stop-refuses Equiv c f h still = refused-source IsEquivRefused IsComparable c.source f h still
 stop-refuses Audit c f h still = refused-source IsSimulateRefused IsAccepted c.source f h still
@@ -348,7 +348,7 @@ by-command Takes c k (Ok a) s takes asks other to most w = said Takes c a.status
 by-command Takes c k (Err (error.Fault f)) s takes asks other to most w = said-fault Takes c f s (stop-meant Takes c k f takes asks to) most w
 by-command Takes c k (Err error.Memory) s takes asks other to most w = unsaid Takes c s to most w
 
-pub is_call : {Q : Type 0} (Takes : Command → Type 0) (c : Called Q) (r : Result Answer AnswerError) (s : Status) → Answers Takes c r → TakesAtMost 4194305 c.source.left.before c.source.left.after → SaysAnswer r s c.sink → IsCall Takes c s
+pub is_call : {Q : Type 0} (Takes : Command → Type 0) (c : Called Q) (r : Result Answer AnswerError) (s : Status) → AnswersWords Takes c r → TakesAtMost 4194305 c.source.left.before c.source.left.after → SaysAnswer r s c.sink → IsCall Takes c s
 is_call Takes c r s (by k takes asks to other) most w = by-command Takes c k r s takes asks other to most w
 is_call Takes c r s (none other is same) most w = said-fault Takes c fault.Usage s (usage-meant Takes c other same) most (subst (λ (x : Result Answer AnswerError). SaysAnswer x s c.sink) is w)
 is_call Takes c r s (memory is same) most w = unsaid Takes c s same most (subst (λ (x : Result Answer AnswerError). SaysAnswer x s c.sink) is w)

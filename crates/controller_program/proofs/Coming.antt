@@ -13,7 +13,7 @@ use Rattle.program_answer.specs.declared.status.Status.{Status}
 use Rattle.program_answer.specs.declared.status.Status.TheVariants as status
 use Rattle.program_answer.specs.Answers.{Stops, StopsBy}
 use Rattle.program_answer.specs.Called.{IsSame, SourceSeen}
-use Rattle.program_answer.specs.Input.{IsRefused}
+use Rattle.program_answer.specs.Input.{IsInputRefused}
 use Rattle.program_answer.specs.Statuses.{IsReport, report_status}
 use Rattle.audit_command.specs.Audit.{IsAuditAnswer}
 use Rattle.drive_command.specs.Drive.{DriveStops, IsDriveAnswer}
@@ -27,28 +27,28 @@ use Rattle.thread_commands.specs.Watch.{IsWatchAnswer}
 use Rattle.controller_program.specs.Called.{Called}
 use Rattle.controller_program.specs.Calls.{IsLine}
 use Rattle.controller_program.specs.Commands.{IsAny, IsAnswer, IsThreaded, IsThreadless}
-use Rattle.controller_program.specs.Told.{Answers, AnswersTo, by, none, memory}
+use Rattle.controller_program.specs.Told.{AnswersWords, AnswersTo, by, none, memory}
 
 -- ---- each command
 
 at-source : {Q : Type 0} (c : Called Q) (s : SourceSeen) (P : SourceSeen → Type 0) → c.source ≡ s → P s → P c.source
 at-source c s P is p = subst P (sym is) p
 
-rules-here : {Q : Type 0} (c : Called Q) (r : Result Answer AnswerError) → IfOk r (λ a. IsRulesAnswer c.source a.status a.text) → IfErr r (Stops IsRefused c.source) → AnswersTo Rules c r
+rules-here : {Q : Type 0} (c : Called Q) (r : Result Answer AnswerError) → IfOk r (λ a. IsRulesAnswer c.source a.status a.text) → IfErr r (Stops IsInputRefused c.source) → AnswersTo Rules c r
 rules-here c (Ok a) o e = o
 rules-here c (Err (error.Fault f)) o e = e
 rules-here c (Err error.Memory) o e = e
 
-pub to_rules : {Q : Type 0} (c : Called Q) (s : SourceSeen) (r : Result Answer AnswerError) → c.source ≡ s → IfOk r (λ a. IsRulesAnswer s a.status a.text) → IfErr r (Stops IsRefused s) → AnswersTo Rules c r
-to_rules c s r is o e = rules-here c r (at-source c s (λ x. IfOk r (λ a. IsRulesAnswer x a.status a.text)) is o) (at-source c s (λ x. IfErr r (Stops IsRefused x)) is e)
+pub to_rules : {Q : Type 0} (c : Called Q) (s : SourceSeen) (r : Result Answer AnswerError) → c.source ≡ s → IfOk r (λ a. IsRulesAnswer s a.status a.text) → IfErr r (Stops IsInputRefused s) → AnswersTo Rules c r
+to_rules c s r is o e = rules-here c r (at-source c s (λ x. IfOk r (λ a. IsRulesAnswer x a.status a.text)) is o) (at-source c s (λ x. IfErr r (Stops IsInputRefused x)) is e)
 
-trace-here : {Q : Type 0} (c : Called Q) (r : Result Answer AnswerError) → IfOk r (λ a. IsTraceAnswer c.source a.status a.text) → IfErr r (Stops IsRefused c.source) → AnswersTo Trace c r
+trace-here : {Q : Type 0} (c : Called Q) (r : Result Answer AnswerError) → IfOk r (λ a. IsTraceAnswer c.source a.status a.text) → IfErr r (Stops IsInputRefused c.source) → AnswersTo Trace c r
 trace-here c (Ok a) o e = o
 trace-here c (Err (error.Fault f)) o e = e
 trace-here c (Err error.Memory) o e = e
 
-pub to_trace : {Q : Type 0} (c : Called Q) (s : SourceSeen) (r : Result Answer AnswerError) → c.source ≡ s → IfOk r (λ a. IsTraceAnswer s a.status a.text) → IfErr r (Stops IsRefused s) → AnswersTo Trace c r
-to_trace c s r is o e = trace-here c r (at-source c s (λ x. IfOk r (λ a. IsTraceAnswer x a.status a.text)) is o) (at-source c s (λ x. IfErr r (Stops IsRefused x)) is e)
+pub to_trace : {Q : Type 0} (c : Called Q) (s : SourceSeen) (r : Result Answer AnswerError) → c.source ≡ s → IfOk r (λ a. IsTraceAnswer s a.status a.text) → IfErr r (Stops IsInputRefused s) → AnswersTo Trace c r
+to_trace c s r is o e = trace-here c r (at-source c s (λ x. IfOk r (λ a. IsTraceAnswer x a.status a.text)) is o) (at-source c s (λ x. IfErr r (Stops IsInputRefused x)) is e)
 
 simulate-here : {Q : Type 0} (c : Called Q) (r : Result Answer AnswerError) → IfOk r (λ a. IsSimulateAnswer c.source a.status a.text) → IfErr r (Stops IsSimulateRefused c.source) → AnswersTo Simulate c r
 simulate-here c (Ok a) o e = o
@@ -99,10 +99,10 @@ to_drive n c (Err error.Memory) o e = e
 -- what a command comes to that needs its source alone is the same in each call with that source
 pub same_source : {Q : Type 0} (k : Command) (c : Called ℕ) (d : Called Q) (r : Result Answer AnswerError) → IsThreadless k → c.source ≡ d.source → AnswersTo k c r → AnswersTo k d r
 same_source Rules c d (Ok a) t e h = subst (λ (s : SourceSeen). IsRulesAnswer s a.status a.text) e h
-same_source Rules c d (Err (error.Fault f)) t e h = subst (λ (s : SourceSeen). StopsBy IsRefused s f) e h
+same_source Rules c d (Err (error.Fault f)) t e h = subst (λ (s : SourceSeen). StopsBy IsInputRefused s f) e h
 same_source Rules c d (Err error.Memory) t e h = subst (λ (s : SourceSeen). IsSame s.faults) e h
 same_source Trace c d (Ok a) t e h = subst (λ (s : SourceSeen). IsTraceAnswer s a.status a.text) e h
-same_source Trace c d (Err (error.Fault f)) t e h = subst (λ (s : SourceSeen). StopsBy IsRefused s f) e h
+same_source Trace c d (Err (error.Fault f)) t e h = subst (λ (s : SourceSeen). StopsBy IsInputRefused s f) e h
 same_source Trace c d (Err error.Memory) t e h = subst (λ (s : SourceSeen). IsSame s.faults) e h
 same_source Simulate c d (Ok a) t e h = subst (λ (s : SourceSeen). IsSimulateAnswer s a.status a.text) e h
 same_source Simulate c d (Err (error.Fault f)) t e h = subst (λ (s : SourceSeen). StopsBy IsSimulateRefused s f) e h
@@ -130,7 +130,7 @@ no-threads : (k : Command) (words : List (String Global)) → IsThreaded k → A
 no-threads k words needs asks l = needs (subst IsThreadless (one_command_asked l.0 k words l.2 asks) l.1)
 
 -- without threads a run is no command, watched or not, and no drive is one
-pub plain_by : {Q : Type 0} (k : Command) (c : Called Q) (r : Result Answer AnswerError) → Asks k c.words → (IsThreadless k → AnswersTo k c r) → (IsThreaded k → r ≡ Err (error.Fault fault.Usage)) → (¬ (IsThreadless k × IsReader k) → IsSame c.source.faults) → Answers IsThreadless c r
+pub plain_by : {Q : Type 0} (k : Command) (c : Called Q) (r : Result Answer AnswerError) → Asks k c.words → (IsThreadless k → AnswersTo k c r) → (IsThreaded k → r ≡ Err (error.Fault fault.Usage)) → (¬ (IsThreadless k × IsReader k) → IsSame c.source.faults) → AnswersWords IsThreadless c r
 plain_by Rules c r asks to run same = by Rules tt asks (to tt) (λ n. same (λ p. n p.1))
 plain_by Trace c r asks to run same = by Trace tt asks (to tt) (λ n. same (λ p. n p.1))
 plain_by Simulate c r asks to run same = by Simulate tt asks (to tt) (λ n. same (λ p. n p.1))
@@ -141,7 +141,7 @@ plain_by Watch c r asks to run same = none (no-threads Watch c.words (λ t. t) a
 plain_by (Drive n) c r asks to run same = none (no-threads (Drive n) c.words (λ t. t) asks) (run (λ t. t)) (same (λ p. p.0))
 plain_by (Generate n) c r asks to run same = by (Generate n) tt asks (to tt) (λ m. same (λ p. m p.1))
 
-pub other_by : {Q : Type 0} (k : Command) (c : Called Q) (r : Result Answer AnswerError) → k ≢ Run → k ≢ Watch → ((n : ℕ) → k ≢ Drive n) → Asks k c.words → (IsThreadless k → AnswersTo k c r) → (¬ (IsThreadless k × IsReader k) → IsSame c.source.faults) → Answers IsAny c r
+pub other_by : {Q : Type 0} (k : Command) (c : Called Q) (r : Result Answer AnswerError) → k ≢ Run → k ≢ Watch → ((n : ℕ) → k ≢ Drive n) → Asks k c.words → (IsThreadless k → AnswersTo k c r) → (¬ (IsThreadless k × IsReader k) → IsSame c.source.faults) → AnswersWords IsAny c r
 other_by Rules c r other unseen less asks to same = by Rules tt asks (to tt) (λ n. same (λ p. n p.1))
 other_by Trace c r other unseen less asks to same = by Trace tt asks (to tt) (λ n. same (λ p. n p.1))
 other_by Simulate c r other unseen less asks to same = by Simulate tt asks (to tt) (λ n. same (λ p. n p.1))
@@ -152,13 +152,13 @@ other_by Watch c r other unseen less asks to same = absurd (unseen refl)
 other_by (Drive n) c r other unseen less asks to same = absurd (less n refl)
 other_by (Generate n) c r other unseen less asks to same = by (Generate n) tt asks (to tt) (λ m. same (λ p. m p.1))
 
-pub run_by : {Q : Type 0} (c : Called Q) (r : Result Answer AnswerError) → Asks Run c.words → AnswersTo Run c r → Answers IsAny c r
+pub run_by : {Q : Type 0} (c : Called Q) (r : Result Answer AnswerError) → Asks Run c.words → AnswersTo Run c r → AnswersWords IsAny c r
 run_by c r asks to = by Run tt asks to (λ n. absurd (n tt))
 
-pub watch_by : {Q : Type 0} (c : Called Q) (r : Result Answer AnswerError) → Asks Watch c.words → AnswersTo Watch c r → Answers IsAny c r
+pub watch_by : {Q : Type 0} (c : Called Q) (r : Result Answer AnswerError) → Asks Watch c.words → AnswersTo Watch c r → AnswersWords IsAny c r
 watch_by c r asks to = by Watch tt asks to (λ n. absurd (n tt))
 
-pub drive_by : {Q : Type 0} (n : ℕ) (c : Called Q) (r : Result Answer AnswerError) → Asks (Drive n) c.words → AnswersTo (Drive n) c r → Answers IsAny c r
+pub drive_by : {Q : Type 0} (n : ℕ) (c : Called Q) (r : Result Answer AnswerError) → Asks (Drive n) c.words → AnswersTo (Drive n) c r → AnswersWords IsAny c r
 drive_by n c r asks to = by (Drive n) tt asks to (λ m. absurd (m tt))
 
 -- ---- reports
@@ -185,7 +185,7 @@ no-ok : (a : Answer) (e : AnswerError) (P : Type 0) → Ok a ≡ Err e → P
 no-ok a e P is = absurd (cc)
 
 -- an answer is a report
-pub is_report : {Q : Type 0} (Takes : Command → Type 0) (c : Called Q) (r : Result Answer AnswerError) → Answers Takes c r → IfOk r (λ a. IsReport a.status)
+pub is_report : {Q : Type 0} (Takes : Command → Type 0) (c : Called Q) (r : Result Answer AnswerError) → AnswersWords Takes c r → IfOk r (λ a. IsReport a.status)
 is_report Takes c (Ok a) (by k t asks to same) = reports k c a.status a.text to
 is_report Takes c (Ok a) (none other is same) = no-ok a _ _ is
 is_report Takes c (Ok a) (memory is same) = no-ok a _ _ is

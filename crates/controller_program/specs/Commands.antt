@@ -5,7 +5,7 @@ use Rattle.command_line.specs.declared.command.Command.TheVariants.{Rules, Trace
 use Rattle.value_text.specs.declared.fault.Fault.{Fault}
 use Rattle.program_answer.specs.declared.status.Status.{Status}
 use Rattle.program_answer.specs.Answers.{StopsBy}
-use Rattle.program_answer.specs.Input.{IsAccepted, IsRefused}
+use Rattle.program_answer.specs.Input.{IsAccepted, IsInputRefused}
 use Rattle.audit_command.specs.Audit.{IsAuditAnswer}
 use Rattle.drive_command.specs.Drive.{DriveStopsBy, IsDriveAnswer}
 use Rattle.equal_command.specs.Equiv.{IsComparable, IsEquivAnswer, IsEquivRefused}
@@ -31,8 +31,8 @@ IsAnswer (Generate n) c = IsGenerateAnswer n
 
 -- the fault for which a command writes no report in a call
 abbrev pub IsStop : {Q : Type 0} → Command → Called Q → Fault → Type 0
-IsStop Rules c = StopsBy IsRefused c.source
-IsStop Trace c = StopsBy IsRefused c.source
+IsStop Rules c = StopsBy IsInputRefused c.source
+IsStop Trace c = StopsBy IsInputRefused c.source
 IsStop Simulate c = StopsBy IsSimulateRefused c.source
 IsStop Equiv c = StopsBy IsEquivRefused c.source
 IsStop Audit c = StopsBy IsSimulateRefused c.source

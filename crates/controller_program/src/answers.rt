@@ -6,7 +6,7 @@ ghost use Rattle.program_answer.specs.Called.{SinkSeen, change, net_of, source_o
 ghost use Rattle.controller_program.specs.Called.{Called, called, reporter_of};
 ghost use Rattle.controller_program.specs.Calls.{IsLine, ReadsFrom, no_net, no_reporter, still};
 ghost use Rattle.controller_program.specs.Commands.{IsAny, IsReported, IsThreaded, IsThreadless};
-ghost use Rattle.controller_program.specs.Told.{Answers, AnswersTo};
+ghost use Rattle.controller_program.specs.Told.{AnswersWords, AnswersTo};
 
 use audit_command::audit_answer;
 use command_line::{Command, asked};
@@ -29,7 +29,7 @@ pub fn plain_answer<S: Source>(
     words: &[String],
     source: &mut S,
 ) -> Result<Answer, AnswerError>
-    ensures answers { (sink : SinkSeen) → Answers IsThreadless (called words.now (source_of S.left S.faults source.old source.new) sink no_net still no_reporter) result }
+    ensures answers { (sink : SinkSeen) → AnswersWords IsThreadless (called words.now (source_of S.left S.faults source.old source.new) sink no_net still no_reporter) result }
     ensures at_most { TakesAtMost 4194305 (S.left source.old) (S.left source.new) }
     ensures untouched { ¬ (ReadsFrom IsThreadless words.now) → source.new ≡ source.old }
 {
@@ -61,7 +61,7 @@ pub fn any_answer<
 where
     N::End: 'static,
     Q::Receipt: Send + 'static,
-    ensures answers { (sink : SinkSeen) → Answers IsAny (called words.now (source_of S.left S.faults source.old source.new) sink (net_of N.faults N.broken N.gathered net.old net.new) (change T.faults threads.old threads.new) (reporter_of Q.Receipt.stamped (change Q.faults reporter.old reporter.new))) result }
+    ensures answers { (sink : SinkSeen) → AnswersWords IsAny (called words.now (source_of S.left S.faults source.old source.new) sink (net_of N.faults N.broken N.gathered net.old net.new) (change T.faults threads.old threads.new) (reporter_of Q.Receipt.stamped (change Q.faults reporter.old reporter.new))) result }
     ensures at_most { TakesAtMost 4194305 (S.left source.old) (S.left source.new) }
     ensures untouched { ¬ (ReadsFrom IsAny words.now) → source.new ≡ source.old }
     ensures untouched_net { ¬ (IsLine IsThreaded words.now) → net.new ≡ net.old }

@@ -11,7 +11,7 @@ use Rattle.nk_syntax.specs.Terms.{Term}
 use Rattle.netkat_parser.specs.declared.fault.ParseFault.{ParseFault}
 use Rattle.netkat_parser.specs.Cuts.{EndsAt}
 use Rattle.netkat_parser.specs.Grammar.{IsText}
-use Rattle.netkat_parser.specs.declared.fault.Place.{Place}
+use Rattle.netkat_parser.specs.declared.fault.Position.{Position}
 use Rattle.netkat_parser.specs.declared.feeding.PolicyReader.{PolicyReader}
 use Rattle.netkat_parser.specs.Places.{HasFault, place_behind}
 use Rattle.netkat_parser.specs.Readers as policy
@@ -23,13 +23,13 @@ use Rattle.document_text.specs.declared.fault.DocFault.{DocFault}
 use Rattle.document_text.specs.declared.document.Document.{Document}
 use Rattle.document_text.specs.declared.fault.DocumentError.{DocumentError}
 use Rattle.document_text.specs.declared.fault.DocumentError.TheVariants as document
-use Rattle.document_text.specs.Answers.{state_of, IsNext, IsOpening, IsStop, Answers, IsAnswer, Cuts, LacksAnswer, doc_of}
+use Rattle.document_text.specs.Answers.{state_of, IsNextState, IsOpening, IsStop, AnswersDocument, IsAnswer, CutsText, LacksAnswer, doc_of}
 use Rattle.document_text.specs.Documents.{Outcome, Accepted, Refused}
 use Rattle.document_text.specs.Grammar.{Lines, IsFrom, IsReading, LacksEnd, finished, line_start, line_behind, most_bytes}
-use Rattle.document_text.specs.States.{State, start, with_policy}
+use Rattle.document_text.specs.States.{State, initial_state, with_policy}
 use Rattle.document_text.specs.Steps.{step}
 use Rattle.document_text.specs.Texts.{lines_of, words_of, is_end}
-use Rattle.document_text.specs.Feeding.{ComesAt, Comes, StandsIn, HoldsAt, Holds, counted, StandsBy, StandsFor, Reaches, IsLine, IsPiece, KeepsSpot, GivesNothing}
+use Rattle.document_text.specs.Feeding.{ComesAt, Comes, StandsIn, HoldsAt, HoldsBytes, counted, StandsBy, StandsFor, Reaches, IsLine, IsPiece, KeepsSpot, GivesNothing}
 use Rattle.document_text.proofs.Readings.{reading-small, reading-large}
 use Rattle.document_text.proofs.Turning.{line-next, line-opening, line-stop, text-line, text-end, inside-line, text-piece, inside-piece}
 
@@ -41,7 +41,7 @@ At = Spot × (State × (ℕ × List ℕ))
 
 -- nothing was read
 pub stays : (end : Bool) (old new : DocReader) → new.fed ≡ old.fed → new.row ≡ old.row → new.spot ≡ old.spot → state_of new.reader ≡ state_of old.reader → new.line ≡ old.line
-    → new.pending.items ≡ old.pending.items → ((front : List ℕ) → Holds old front → Holds new front) → Reaches end old new
+    → new.pending.items ≡ old.pending.items → ((front : List ℕ) → HoldsBytes old front → HoldsBytes new front) → Reaches end old new
 stays end old new f r a b c d h = record {
   fed = f;
   row = r;
@@ -83,7 +83,7 @@ module _ (end : Bool) (old new : DocReader) (f : new.fed ≡ old.fed) (r : new.r
   -- ---- a line of the document
 
   module _ (len : ℕ) (some : 0 < len) (within : len ≤ length old.pending.items) (first : IsLine end old.pending.items len) (q : new.pending.items ≡ drop len old.pending.items) (a : old.spot ≡ spot.Line) where
-    pub next-reaches : new.spot ≡ spot.Line → new.line ≡ old.line + 1 → IsNext (step (state_of old.reader) old.line (words_of (take len old.pending.items))) (state_of new.reader) → Reaches end old new
+    pub next-reaches : new.spot ≡ spot.Line → new.line ≡ old.line + 1 → IsNextState (step (state_of old.reader) old.line (words_of (take len old.pending.items))) (state_of new.reader) → Reaches end old new
     next-reaches b d h =
         reaches-by spot.Line spot.Line (state_of new.reader) (old.line + 1) (drop len old.pending.items) a b refl d q
         (λ front k. ([], tt, λ rest o e w. line-next end old.pending.items len some within first (state_of old.reader) old.line rest e (state_of new.reader) o h w))
@@ -215,15 +215,15 @@ stands-end r text h = record {
 -- ---- a policy's text
 
 -- the place after some bytes
-pub given-place : (p q : Place) (xs ys : List ℕ) (n fed : ℕ) → n ≤ length xs → q ≡ place_behind p (take n xs) → ys ≡ drop n xs → p.line + length xs ≤ fed + 1 → p.column + length xs ≤ fed + 1
+pub given-place : (p q : Position) (xs ys : List ℕ) (n fed : ℕ) → n ≤ length xs → q ≡ place_behind p (take n xs) → ys ≡ drop n xs → p.line + length xs ≤ fed + 1 → p.column + length xs ≤ fed + 1
     → (q.line + length ys ≤ fed + 1) × (q.column + length ys ≤ fed + 1)
 given-place p q xs ys n fed within e f l k =
     let near = place-near p (take n xs) in
     let front = length-take-le n xs within in
     let behind = ap length f ∙ length-drop n xs in
-    (omega (arith, near.0, front, behind, ap (λ (z : Place). z.line) e, l, within), omega (arith, near.1, front, behind, ap (λ (z : Place). z.column) e, k, within))
+    (omega (arith, near.0, front, behind, ap (λ (z : Position). z.line) e, l, within), omega (arith, near.1, front, behind, ap (λ (z : Position). z.column) e, k, within))
 
-pub gives-on : (begin : ℕ) (p q : PolicyReader) (at behind : Place) (front line : List ℕ) → (policy.StandsFor (line_start begin) p front → policy.StandsFor (line_start begin) q (front ++ line))
+pub gives-on : (begin : ℕ) (p q : PolicyReader) (at behind : Position) (front line : List ℕ) → (policy.StandsFor (line_start begin) p front → policy.StandsFor (line_start begin) q (front ++ line))
     → behind ≡ place_behind at line → StandsIn begin p at front → StandsIn begin q behind (front ++ line)
 gives-on begin p q at behind front line h e k =
     (h k.0, place-append (line_start begin) front line ∙ ap (λ z. place_behind z line) k.1 ∙ sym e)
@@ -239,30 +239,30 @@ given-none end old new begin k g (inr a) =
 
 -- ---- the end
 
-answers-map : (P Q : Outcome → Type 0) → ((o : Outcome) → P o → Q o) → (a : Result Document DocumentError) → Answers P a → Answers Q a
+answers-map : (P Q : Outcome → Type 0) → ((o : Outcome) → P o → Q o) → (a : Result Document DocumentError) → AnswersDocument P a → AnswersDocument Q a
 answers-map P Q f (Ok d) h = f (Accepted (doc_of d)) h
 answers-map P Q f (Err (document.Fault g)) h = f (Refused g) h
 answers-map P Q f (Err document.Memory) h = tt
 
-answers-one : (P : Outcome → Type 0) (x : Outcome) → ((o : Outcome) → o ≡ x → P o) → (a : Result Document DocumentError) → IsAnswer x a → Answers P a
+answers-one : (P : Outcome → Type 0) (x : Outcome) → ((o : Outcome) → o ≡ x → P o) → (a : Result Document DocumentError) → IsAnswer x a → AnswersDocument P a
 answers-one P x f (Ok d) h = f (Accepted (doc_of d)) (sym h)
 answers-one P x f (Err (document.Fault g)) h = f (Refused g) (sym h)
 answers-one P x f (Err document.Memory) h = tt
 
 -- what comes of no more text at a spot comes of it after the reader
 ended-by : (r : DocReader) (x : Spot) (front : List ℕ) (a : Result Document DocumentError) → r.spot ≡ x → r.pending.items ≡ []
-    → Answers (λ o. ComesAt x (state_of r.reader) r.line front [] o) a → Answers (λ o. Comes r front [] o) a
+    → AnswersDocument (λ o. ComesAt x (state_of r.reader) r.line front [] o) a → AnswersDocument (λ o. Comes r front [] o) a
 ended-by r x front a e p h =
     answers-map (λ o. ComesAt x (state_of r.reader) r.line front [] o) (λ o. Comes r front [] o)
     (λ o k. subst (λ (u : Spot × List ℕ). ComesAt u.0 (state_of r.reader) r.line front (u.1 ++ []) o) (λ i. (sym e i, sym p i)) k) a h
 
 pub ended-line : (r : DocReader) (front : List ℕ) (a : Result Document DocumentError) → r.spot ≡ spot.Line → r.pending.items ≡ [] → IsAnswer (finished (state_of r.reader) r.line) a
-    → Answers (λ o. Comes r front [] o) a
+    → AnswersDocument (λ o. Comes r front [] o) a
 ended-line r front a e p h =
     ended-by r spot.Line front a e p
     (answers-one (λ o. ComesAt spot.Line (state_of r.reader) r.line front [] o) (finished (state_of r.reader) r.line) (λ o k. k) a h)
 
-lacks : (n begin : ℕ) (front : List ℕ) (d : DocumentError) → LacksAnswer n begin front d → Answers (λ o. LacksEnd n begin front o) (Err d)
+lacks : (n begin : ℕ) (front : List ℕ) (d : DocumentError) → LacksAnswer n begin front d → AnswersDocument (λ o. LacksEnd n begin front o) (Err d)
 lacks n begin front (document.Fault f) h = h
 lacks n begin front document.Memory h = tt
 
@@ -270,28 +270,28 @@ lacks n begin front document.Memory h = tt
 abbrev Lacks : DocReader → ℕ → DocumentError → Type 0
 Lacks r n d = (begin : ℕ) (front : List ℕ) → policy.StandsFor (line_start begin) r.policy front → place_behind (line_start begin) front ≡ r.behind → LacksAnswer n begin front d
 
-pub ended-text : (r : DocReader) (begin : ℕ) (front : List ℕ) (d : DocumentError) → r.spot ≡ spot.Text begin → r.pending.items ≡ [] → Lacks r r.line d → Holds r front
-    → Answers (λ o. Comes r front [] o) (Err d)
+pub ended-text : (r : DocReader) (begin : ℕ) (front : List ℕ) (d : DocumentError) → r.spot ≡ spot.Text begin → r.pending.items ≡ [] → Lacks r r.line d → HoldsBytes r front
+    → AnswersDocument (λ o. Comes r front [] o) (Err d)
 ended-text r begin front d e p h k =
     let at : StandsIn begin r.policy r.behind front = subst (λ x. HoldsAt x r.policy r.behind front) e k in
     ended-by r (spot.Text begin) front (Err d) e p (lacks r.line begin front d (h begin front at.0 at.1))
 
-pub ended-inside : (r : DocReader) (begin : ℕ) (front : List ℕ) (d : DocumentError) → r.spot ≡ spot.Inside begin → r.pending.items ≡ [] → Lacks r (r.line + 1) d → Holds r front
-    → Answers (λ o. Comes r front [] o) (Err d)
+pub ended-inside : (r : DocReader) (begin : ℕ) (front : List ℕ) (d : DocumentError) → r.spot ≡ spot.Inside begin → r.pending.items ≡ [] → Lacks r (r.line + 1) d → HoldsBytes r front
+    → AnswersDocument (λ o. Comes r front [] o) (Err d)
 ended-inside r begin front d e p h k =
     let at : StandsIn begin r.policy r.behind front = subst (λ x. HoldsAt x r.policy r.behind front) e k in
     ended-by r (spot.Inside begin) front (Err d) e p
-    (subst (λ t. Answers (λ o. LacksEnd (r.line + 1) begin t o) (Err d)) (sym (append-nil front)) (lacks (r.line + 1) begin front d (h begin front at.0 at.1)))
+    (subst (λ t. AnswersDocument (λ o. LacksEnd (r.line + 1) begin t o) (Err d)) (sym (append-nil front)) (lacks (r.line + 1) begin front d (h begin front at.0 at.1)))
 
-pub ended-refused : (r : DocReader) (f : DocFault) (front : List ℕ) → r.spot ≡ spot.Refused f → r.pending.items ≡ [] → Answers (λ o. Comes r front [] o) (Err (document.Fault f))
+pub ended-refused : (r : DocReader) (f : DocFault) (front : List ℕ) → r.spot ≡ spot.Refused f → r.pending.items ≡ [] → AnswersDocument (λ o. Comes r front [] o) (Err (document.Fault f))
 ended-refused r f front e p = ended-by r (spot.Refused f) front (Err (document.Fault f)) e p refl
 
 -- what was read to its end
-pub lines-end : (r : DocReader) (text : List ℕ) (a : Result Document DocumentError) (s : StandsBy true r text) → Answers (λ o. Comes r s.front [] o) a
-    → Answers (IsFrom (Lines start) 1 (lines_of (counted text))) a
+pub lines-end : (r : DocReader) (text : List ℕ) (a : Result Document DocumentError) (s : StandsBy true r text) → AnswersDocument (λ o. Comes r s.front [] o) a
+    → AnswersDocument (IsFrom (Lines initial_state) 1 (lines_of (counted text))) a
 lines-end r text a s h =
-    answers-map (λ o. Comes r s.front [] o) (IsFrom (Lines start) 1 (lines_of (counted text)))
-    (λ o k. subst (λ t. IsFrom (Lines start) 1 (lines_of t) o) (append-nil (counted text)) (s.goes [] o (λ z. refl) k)) a h
+    answers-map (λ o. Comes r s.front [] o) (IsFrom (Lines initial_state) 1 (lines_of (counted text)))
+    (λ o k. subst (λ t. IsFrom (Lines initial_state) 1 (lines_of t) o) (append-nil (counted text)) (s.goes [] o (λ z. refl) k)) a h
 
 -- ---- more bytes
 
@@ -356,9 +356,9 @@ held-on old new text piece few shown few_is shown_is a b c d p q f r h =
       fed = f ∙ fed-both text piece few shown old.fed h.fed few_is shown_is;
       row = row-both text piece few shown old.fed h.fed few_is shown_is old.row new.row h.row r;
       front = h.front;
-      holds = subst (λ (u : Spot × (PolicyReader × Place)). HoldsAt u.0 u.1.0 u.1.1 h.front) (λ i. (sym b i, (sym d i, sym p i))) h.holds;
+      holds = subst (λ (u : Spot × (PolicyReader × Position)). HoldsAt u.0 u.1.0 u.1.1 h.front) (λ i. (sym b i, (sym d i, sym p i))) h.holds;
       goes = λ rest o e k.
-          subst (λ t. IsFrom (Lines start) 1 (lines_of t) o) (sym (append_assoc (counted text) few rest) ∙ ap (λ t. t ++ rest) (sym both))
+          subst (λ t. IsFrom (Lines initial_state) 1 (lines_of t) o) (sym (append_assoc (counted text) few rest) ∙ ap (λ t. t ++ rest) (sym both))
           (h.goes (few ++ rest) o (λ z. let clash : false ≡ true = z in cc)
           (subst (λ t. ComesAt old.spot (state_of old.reader) old.line h.front t o) (append_assoc old.pending.items few rest)
           (subst (λ (u : At). ComesAt u.0 u.1.0 u.1.1.0 h.front (u.1.1.1 ++ rest) o) (λ i. (b i, (state_of (a i), (c i, q i)))) k)));
@@ -369,7 +369,7 @@ pub held-none : (old new : DocReader) → new.reader ≡ old.reader → new.spot
     → new.fed ≡ old.fed → new.row ≡ old.row → (text : List ℕ) → StandsFor old text → StandsFor new text
 held-none old new a b c d p q f r text h =
     stands-on false old new text
-    (stays false old new f r b (ap state_of a) c q (λ front k. subst (λ (u : Spot × (PolicyReader × Place)). HoldsAt u.0 u.1.0 u.1.1 front) (λ i. (sym b i, (sym d i, sym p i))) k)) h
+    (stays false old new f r b (ap state_of a) c q (λ front k. subst (λ (u : Spot × (PolicyReader × Position)). HoldsAt u.0 u.1.0 u.1.1 front) (λ i. (sym b i, (sym d i, sym p i))) k)) h
 
 -- ---- readings
 
@@ -387,15 +387,15 @@ many-bytes text fed e f = elim (cases_lt (length text) 4194305) [
 
 -- what comes of all lines of a text after a reader
 abbrev Ended : DocReader → Result Document DocumentError → Type 0
-Ended r a = (front : List ℕ) → Holds r front → Answers (λ o. Comes r front [] o) a
+Ended r a = (front : List ℕ) → HoldsBytes r front → AnswersDocument (λ o. Comes r front [] o) a
 
-pub read-small : (old r : DocReader) (text : List ℕ) (a : Result Document DocumentError) → Reaches true old r → Ended r a → r.fed ≤ 4194304 → StandsFor old text → Answers (IsReading text) a
+pub read-small : (old r : DocReader) (text : List ℕ) (a : Result Document DocumentError) → Reaches true old r → Ended r a → r.fed ≤ 4194304 → StandsFor old text → AnswersDocument (IsReading text) a
 read-small old r text a on h f k =
     let s = stands-on true old r text on (stands-end old text k) in
     reading-small text a (few-bytes text r.fed s.fed f) (lines-end r text a s (h s.front s.holds))
 
-pub read-large : (old r : DocReader) (text : List ℕ) (a : Result Document DocumentError) (e : DocumentError) → Reaches true old r → Ended r a → 4194304 < r.fed → Cuts r.row a e → StandsFor old text
-    → Answers (IsReading text) (Err e)
+pub read-large : (old r : DocReader) (text : List ℕ) (a : Result Document DocumentError) (e : DocumentError) → Reaches true old r → Ended r a → 4194304 < r.fed → CutsText r.row a e → StandsFor old text
+    → AnswersDocument (IsReading text) (Err e)
 read-large old r text a e on h f c k =
     let s = stands-on true old r text on (stands-end old text k) in
-    reading-large text a e (many-bytes text r.fed s.fed f) (lines-end r text a s (h s.front s.holds)) (subst (λ n. Cuts n a e) s.row c)
+    reading-large text a e (many-bytes text r.fed s.fed f) (lines-end r text a s (h s.front s.holds)) (subst (λ n. CutsText n a e) s.row c)

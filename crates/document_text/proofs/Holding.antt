@@ -13,22 +13,22 @@ use Rattle.nk_values.proofs.MemberLaws.{in-either}
 use Rattle.nk_values.specs.declared.field.Field.TheVariants.{Sw}
 use Rattle.nk_syntax.specs.Terms.{Term}
 use Rattle.topology_model.specs.Layouts.{Layout, has_switch, is_edge, place_of}
-use Rattle.document_text.specs.declared.document.Event.{Event}
-use Rattle.document_text.specs.declared.document.Event.TheVariants as event
+use Rattle.document_text.specs.declared.document.ScheduleStep.{ScheduleStep}
+use Rattle.document_text.specs.declared.document.ScheduleStep.TheVariants as event
 use Rattle.document_text.specs.declared.document.PacketLine.{PacketLine}
 use Rattle.document_text.specs.declared.document.ScheduleLine.{ScheduleLine}
 use Rattle.document_text.specs.declared.head.Head.{Head}
 use Rattle.document_text.specs.declared.head.Head.TheVariants as head
-use Rattle.document_text.specs.declared.told.Kind.{Kind}
-use Rattle.document_text.specs.declared.told.Kind.TheVariants as kind
-use Rattle.document_text.specs.Packets.{Given, is_value, is_vlan_id, with_words, given_at}
+use Rattle.document_text.specs.declared.declaration.LineKind.{LineKind}
+use Rattle.document_text.specs.declared.declaration.LineKind.TheVariants as kind
+use Rattle.document_text.specs.Packets.{GivenFields, is_value, is_vlan_id, with_words, given_at}
 use Rattle.document_text.specs.Texts.{numeral, end_of, is_end}
-use Rattle.document_text.specs.States.{State, start, place_of_kind, is_late, is_empty, has_edge, with_policy}
+use Rattle.document_text.specs.States.{State, initial_state, place_of_kind, is_late, is_empty, has_edge, with_policy}
 use Rattle.document_text.specs.Schedules.{refused_if, formed, at_switch, arrival, event_alone, event_of_one, event_of_two, event_of, is_index}
 use Rattle.document_text.specs.Lines.{is_end_value, at_edge, placed_by, switch_form, switch_line, link_form, link_line, behind_policies, one_numeral, two_numerals, hops_line, capacity_line, stamps_line, rejoins_line, overlap_line, policy_line, packet_form, packet_line, schedule_line}
 use Rattle.document_text.specs.Steps.{Next, Stops, head_of, event_too_many, is_too_many, next, opens, enters, happens, scheduled, declares, step}
-use Rattle.document_text.specs.Answers.{IsNext, IsOpening}
-use Rattle.document_text.specs.Laws.{Arrives, IsNamed, IsRead}
+use Rattle.document_text.specs.Answers.{IsNextState, IsOpening}
+use Rattle.document_text.specs.Laws.{IsArrivalLine, IsNamed, IsRead}
 use Rattle.document_text.proofs.Sound.{Stays, formed-ok, refused-ok, words-keep, edge-ok}
 
 abbrev pub InHops : ℕ → Type 0
@@ -52,13 +52,13 @@ pub record Holds (s : State) : Type 0 where
   pub packets : length s.packets ≤ 10000
   pub events : length s.events ≤ 100000
   pub read : (p : Term) → IsIn s.policies p → IsRead p
-  pub arrives : (p : PacketLine) → IsIn s.packets p → Arrives s.layout p
+  pub arrives : (p : PacketLine) → IsIn s.packets p → IsArrivalLine s.layout p
   pub named : (e : ScheduleLine) → IsIn s.events e → IsNamed s.layout (length s.packets) e.event
   pub no_packets : place_of_kind s.reached < 4 → s.packets ≡ []
   pub no_events : place_of_kind s.reached < 5 → s.events ≡ []
   pub inside : s.inside ≡ true → 5 ≤ place_of_kind s.reached
 
-pub start-holds : Holds start
+pub start-holds : Holds initial_state
 start-holds = record {
   hops = tt;
   capacity = tt;
@@ -105,11 +105,11 @@ both-of : (a b : Bool) → (a && b) ≡ true → (a ≡ true) × (b ≡ true)
 both-of true b h = (refl, h)
 both-of false b h = absurd (cc)
 
-on-time : (s : State) (k : Kind) → is_late s k ≡ false → place_of_kind s.reached ≤ place_of_kind k
+on-time : (s : State) (k : LineKind) → is_late s k ≡ false → place_of_kind s.reached ≤ place_of_kind k
 on-time s k h = not-below (place_of_kind k) (place_of_kind s.reached) h
 
 -- the topology's lines
-layout-holds : (s : State) (k : Kind) (t : Layout) → Holds s → place_of_kind s.reached ≤ place_of_kind k → place_of_kind k < 2 → Holds (record s { reached = k; layout = t })
+layout-holds : (s : State) (k : LineKind) (t : Layout) → Holds s → place_of_kind s.reached ≤ place_of_kind k → place_of_kind k < 2 → Holds (record s { reached = k; layout = t })
 layout-holds s k t h late low = record {
   hops = h.hops;
   capacity = h.capacity;
@@ -131,7 +131,7 @@ placed-by s t None h e = let same : s ≡ t = cc in subst Holds same h
 placed-by s t (Some f) h e = absurd (cc)
 
 -- a later kind
-kind-holds : (s : State) (k : Kind) → Holds s → place_of_kind s.reached ≤ place_of_kind k → Holds (record s { reached = k })
+kind-holds : (s : State) (k : LineKind) → Holds s → place_of_kind s.reached ≤ place_of_kind k → Holds (record s { reached = k })
 kind-holds s k h late = record {
   hops = h.hops;
   capacity = h.capacity;
@@ -283,12 +283,12 @@ pub line-is : (p q : PacketLine) → ◌≡◌ {A = Result PacketLine TextFault}
 line-is p q e = cc
 
 -- a form has its place, and the packet stands there
-form-at : (w : List ℕ) (ws : List (List ℕ)) (o : Option (ℕ × ℕ)) (x : (ℕ × ℕ) × Given)
+form-at : (w : List ℕ) (ws : List (List ℕ)) (o : Option (ℕ × ℕ)) (x : (ℕ × ℕ) × GivenFields)
     → option_and_then (λ e. option_map (λ g. (e, g)) (with_words (given_at e) ws)) o ≡ Some x → (x.1.packet.sw ≡ x.0.0) × (x.1.packet.pt ≡ x.0.1)
 form-at w ws None x e = absurd (cc)
 form-at w ws (Some d) x e = given-at d (with_words (given_at d) ws) x (words-keep ws (given_at d)) e
   where
-    given-at : (d : ℕ × ℕ) (o : Option Given) (x : (ℕ × ℕ) × Given) → IfSome o (Stays (given_at d)) → option_map (λ g. (d, g)) o ≡ Some x → (x.1.packet.sw ≡ x.0.0) × (x.1.packet.pt ≡ x.0.1)
+    given-at : (d : ℕ × ℕ) (o : Option GivenFields) (x : (ℕ × ℕ) × GivenFields) → IfSome o (Stays (given_at d)) → option_map (λ g. (d, g)) o ≡ Some x → (x.1.packet.sw ≡ x.0.0) × (x.1.packet.pt ≡ x.0.1)
     given-at d None x h e = absurd (cc)
     given-at d (Some g) x h e = let same : (d, g) ≡ x = cc in subst (λ y. (y.1.packet.sw ≡ y.0.0) × (y.1.packet.pt ≡ y.0.1)) same (h.sw, h.pt)
 
@@ -311,7 +311,7 @@ packet-at s p (w ∷ ws) e =
 in-last : {A : Type 0} (xs : List A) (y z : A) → IsIn (xs ++ y ∷ []) z → IsIn xs z ⊎ (y ≡ z)
 in-last xs y z m = elim (in-either xs (y ∷ []) z m) [ inl k ↦ inl k | inr k ↦ elim k [ inl e ↦ inr e | inr n ↦ absurd n ] ]
 
-packet-holds : (s : State) (p : PacketLine) → Holds s → length s.packets < 10000 → place_of_kind s.reached ≤ 4 → Arrives s.layout p
+packet-holds : (s : State) (p : PacketLine) → Holds s → length s.packets < 10000 → place_of_kind s.reached ≤ 4 → IsArrivalLine s.layout p
     → Holds (record s { reached = kind.Packet; packets = s.packets ++ p ∷ [] })
 packet-holds s p h few early at = record {
   hops = h.hops;
@@ -322,7 +322,7 @@ packet-holds s p h few early at = record {
   packets = omega (arith, few, length-append s.packets (p ∷ []));
   events = h.events;
   read = h.read;
-  arrives = λ q m. elim (in-last s.packets p q m) [ inl k ↦ h.arrives q k | inr k ↦ subst (Arrives s.layout) k at ];
+  arrives = λ q m. elim (in-last s.packets p q m) [ inl k ↦ h.arrives q k | inr k ↦ subst (IsArrivalLine s.layout) k at ];
   named = λ e m. absurd (subst (λ es. IsIn es e) (h.no_events (omega (arith, early))) m);
   no_packets = λ l. absurd (omega (arith, l));
   no_events = λ l. h.no_events (omega (arith, early));
@@ -348,40 +348,40 @@ event-holds s e h few late name = record {
 }
 
 -- the event of a line
-event-is : (x y : Event) → ◌≡◌ {A = Result Event TextFault} (Ok x) (Ok y) → x ≡ y
+event-is : (x y : ScheduleStep) → ◌≡◌ {A = Result ScheduleStep TextFault} (Ok x) (Ok y) → x ≡ y
 event-is x y e = cc
 
-none-such : (P : Event → Type 0) (e : Event) → ◌≡◌ {A = Result Event TextFault} (Err BadLine) (Ok e) → P e
+none-such : (P : ScheduleStep → Type 0) (e : ScheduleStep) → ◌≡◌ {A = Result ScheduleStep TextFault} (Err BadLine) (Ok e) → P e
 none-such P e q = absurd (cc)
 
-plain : (P : Event → Type 0) (x : Event) → P x → (e : Event) → ◌≡◌ {A = Result Event TextFault} (Ok x) (Ok e) → P e
+plain : (P : ScheduleStep → Type 0) (x : ScheduleStep) → P x → (e : ScheduleStep) → ◌≡◌ {A = Result ScheduleStep TextFault} (Ok x) (Ok e) → P e
 plain P x h e q = subst P (event-is x e q) h
 
-ranged : (P : Event → Type 0) (b : Bool) (f : TextFault) (x : Event) → P x → (e : Event) → refused_if b f (Ok x) ≡ Ok e → P e
+ranged : (P : ScheduleStep → Type 0) (b : Bool) (f : TextFault) (x : ScheduleStep) → P x → (e : ScheduleStep) → refused_if b f (Ok x) ≡ Ok e → P e
 ranged P b f x h e q = plain P x h e (refused-ok b f (Ok x) e q).1
 
-at-switch : (s : State) (P : Event → Type 0) (sw : ℕ) (x : Event) → (has_switch s.layout.switches sw ≡ true → P x) → (e : Event) → at_switch s sw x ≡ Ok e → P e
+at-switch : (s : State) (P : ScheduleStep → Type 0) (sw : ℕ) (x : ScheduleStep) → (has_switch s.layout.switches sw ≡ true → P x) → (e : ScheduleStep) → at_switch s sw x ≡ Ok e → P e
 at-switch s P sw x h e q =
     let a = refused-ok (not (is_value Sw sw)) ValueRange (refused_if (not (has_switch s.layout.switches sw)) UnknownSwitch (Ok x)) e q in
     let b = refused-ok (not (has_switch s.layout.switches sw)) UnknownSwitch (Ok x) e a.1 in
     plain P x (h (one-true (has_switch s.layout.switches sw) b.0)) e b.1
 
-at-packet : (s : State) (P : Event → Type 0) (n : ℕ) → ((1 ≤ n) × (n ≤ length s.packets) → P (event.Arrive n)) → (e : Event) → arrival s n ≡ Ok e → P e
+at-packet : (s : State) (P : ScheduleStep → Type 0) (n : ℕ) → ((1 ≤ n) × (n ≤ length s.packets) → P (event.Arrive n)) → (e : ScheduleStep) → arrival s n ≡ Ok e → P e
 at-packet s P n h e q =
     let a = refused-ok (not (nat_le 1 n && nat_le n (length s.packets))) BadLine (Ok (event.Arrive n)) e q in
     let both = both-true (nat_le 1 n) (nat_le n (length s.packets)) a.0 in
     plain P (event.Arrive n) (h (upto 1 n both.0, upto n (length s.packets) both.1)) e a.1
 
-abbrev Names : State → Event → Type 0
+abbrev Names : State → ScheduleStep → Type 0
 Names s e = IsNamed s.layout (length s.packets) e
 
-alone-named : (s : State) (w : EventWord) (e : Event) → event_alone w ≡ Ok e → Names s e
+alone-named : (s : State) (w : EventWord) (e : ScheduleStep) → event_alone w ≡ Ok e → Names s e
 alone-named s word.Begin = plain (Names s) event.Begin tt
 alone-named s word.Settle = plain (Names s) event.Settle tt
 alone-named s word.Flow = plain (Names s) event.Flow tt
 alone-named s _ = none-such (Names s)
 
-one-named : (s : State) (w : EventWord) (n : ℕ) (e : Event) → event_of_one s w n ≡ Ok e → Names s e
+one-named : (s : State) (w : EventWord) (n : ℕ) (e : ScheduleStep) → event_of_one s w n ≡ Ok e → Names s e
 one-named s word.Send n = at-switch s (Names s) n (event.Send n) (λ h. h)
 one-named s word.Take n = at-switch s (Names s) n (event.Take n) (λ h. h)
 one-named s word.Reply n = at-switch s (Names s) n (event.Reply n) (λ h. h)
@@ -394,11 +394,11 @@ one-named s word.Stuck n = ranged (Names s) (not (is_index n)) ValueRange (event
 one-named s word.Drained n = ranged (Names s) (not (is_vlan_id n)) ValueRange (event.Drained n) tt
 one-named s _ n = none-such (Names s)
 
-two-named : (s : State) (w : EventWord) (sw k : ℕ) (e : Event) → event_of_two s w sw k ≡ Ok e → Names s e
+two-named : (s : State) (w : EventWord) (sw k : ℕ) (e : ScheduleStep) → event_of_two s w sw k ≡ Ok e → Names s e
 two-named s word.Apply sw k e q = at-switch s (Names s) sw (event.Apply sw k) (λ h. h) e (refused-ok (not (is_index k)) ValueRange (at_switch s sw (event.Apply sw k)) e q).1
 two-named s _ sw k e q = none-such (Names s) e q
 
-event-named : (s : State) (ws : List (List ℕ)) (e : Event) → event_of s ws ≡ Ok e → Names s e
+event-named : (s : State) (ws : List (List ℕ)) (e : ScheduleStep) → event_of s ws ≡ Ok e → Names s e
 event-named s [] e q = absurd (cc)
 event-named s (w ∷ []) e q = let x = formed-ok (word_of w) event_alone e q in alone-named s x.0 e x.2
 event-named s (w ∷ a ∷ []) e q =
@@ -413,15 +413,15 @@ event-named s (w ∷ a ∷ b ∷ []) e q =
 event-named s (w ∷ a ∷ b ∷ c ∷ ws) e q = absurd (cc)
 
 -- one step
-pub next-is : (r : Result State TextFault) (t : State) → IsNext (next r) t → r ≡ Ok t
+pub next-is : (r : Result State TextFault) (t : State) → IsNextState (next r) t → r ≡ Ok t
 next-is (Ok u) t h = ap (λ x. Ok x) (sym h)
 next-is (Err f) t h = absurd h
 
-pub opens-no-next : (r : Result State TextFault) (t : State) → IsNext (opens r) t → ⊥
+pub opens-no-next : (r : Result State TextFault) (t : State) → IsNextState (opens r) t → ⊥
 opens-no-next (Ok u) t h = h
 opens-no-next (Err f) t h = h
 
-enters-holds : (s t : State) (ws : List (List ℕ)) (r : Result PacketLine TextFault) → packet_line s ws ≡ r → Holds s → length s.packets < 10000 → IsNext (enters s r) t → Holds t
+enters-holds : (s t : State) (ws : List (List ℕ)) (r : Result PacketLine TextFault) → packet_line s ws ≡ r → Holds s → length s.packets < 10000 → IsNextState (enters s r) t → Holds t
 enters-holds s t ws (Err f) e h few k = absurd k
 enters-holds s t ws (Ok p) e h few k =
     let at = packet-at s p ws e in
@@ -440,7 +440,7 @@ few-events s head.Overlap ws e = e
 few-events s head.Schedule ws e = e
 few-events s head.Unlisted ws e = e
 
-declares-holds : (s t : State) (d : Head) (all ws : List (List ℕ)) → Holds s → is_too_many s d all ≡ false → IsNext (declares s d ws) t → Holds t
+declares-holds : (s t : State) (d : Head) (all ws : List (List ℕ)) → Holds s → is_too_many s d all ≡ false → IsNextState (declares s d ws) t → Holds t
 declares-holds s t head.Switch all ws h few k = switch-holds s t ws h (next-is (switch_line s ws) t k)
 declares-holds s t head.Link all ws h few k = link-holds s t ws h (next-is (link_line s ws) t k)
 declares-holds s t head.Hops all ws h few k = hops-line-holds s t ws h (next-is (hops_line s ws) t k)
@@ -453,7 +453,7 @@ declares-holds s t head.Packet all ws h few k = enters-holds s t ws (packet_line
 declares-holds s t head.Schedule all ws h few k = schedule-line-holds s t ws h (next-is (schedule_line s ws) t k)
 declares-holds s t head.Unlisted all ws h few k = absurd k
 
-happens-holds : (s t : State) (n : ℕ) (ws : List (List ℕ)) (r : Result Event TextFault) → event_of s ws ≡ r → Holds s → s.inside ≡ true → length s.events < 100000 → IsNext (happens s n r) t → Holds t
+happens-holds : (s t : State) (n : ℕ) (ws : List (List ℕ)) (r : Result ScheduleStep TextFault) → event_of s ws ≡ r → Holds s → s.inside ≡ true → length s.events < 100000 → IsNextState (happens s n r) t → Holds t
 happens-holds s t n ws (Err f) e h i few k = absurd k
 happens-holds s t n ws (Ok x) e h i few k = subst Holds (sym k) (event-holds s (record { line = n; event = x }) h few (h.inside i) (event-named s ws x e))
 
@@ -463,18 +463,18 @@ room true true c p q e = absurd (cc)
 room false b c p q e = absurd (cc)
 
 scheduled-by : (s t : State) (n : ℕ) (ws : List (List ℕ)) (b : Bool) → is_end ws ≡ b → Holds s → s.inside ≡ true → event_too_many s ws ≡ false
-    → IsNext (cond b (Next (record s { inside = false })) (happens s n (event_of s ws))) t → Holds t
+    → IsNextState (cond b (Next (record s { inside = false })) (happens s n (event_of s ws))) t → Holds t
 scheduled-by s t n ws true e h i few k = subst Holds (sym k) (inside-holds s false h (λ x. absurd (cc)))
 scheduled-by s t n ws false e h i few k =
     happens-holds s t n ws (event_of s ws) refl h i (below 100000 (length s.events) (room s.inside (is_end ws) (nat_le 100000 (length s.events)) i e few)) k
 
 step-by : (s t : State) (n : ℕ) (w : List ℕ) (ws : List (List ℕ)) (b i : Bool) → is_too_many s (head_of w) (w ∷ ws) ≡ b → s.inside ≡ i → Holds s
-    → IsNext (cond b (Stops Limit) (cond i (scheduled s n (w ∷ ws)) (declares s (head_of w) ws))) t → Holds t
+    → IsNextState (cond b (Stops Limit) (cond i (scheduled s n (w ∷ ws)) (declares s (head_of w) ws))) t → Holds t
 step-by s t n w ws true i e f h k = absurd k
 step-by s t n w ws false true e f h k = scheduled-by s t n (w ∷ ws) (is_end (w ∷ ws)) refl h f (few-events s (head_of w) (w ∷ ws) e) k
 step-by s t n w ws false false e f h k = declares-holds s t (head_of w) (w ∷ ws) ws h e k
 
-pub step-holds : (s t : State) (n : ℕ) (ws : List (List ℕ)) → Holds s → IsNext (step s n ws) t → Holds t
+pub step-holds : (s t : State) (n : ℕ) (ws : List (List ℕ)) → Holds s → IsNextState (step s n ws) t → Holds t
 step-holds s t n [] h k = subst Holds (sym k) h
 step-holds s t n (w ∷ ws) h k = step-by s t n w ws (is_too_many s (head_of w) (w ∷ ws)) s.inside refl refl h k
 
@@ -509,7 +509,7 @@ declares-opens s t head.Packet all ws h few k = absurd (enters-no-opening s (pac
 declares-opens s t head.Schedule all ws h few k = absurd (next-no-opening (schedule_line s ws) t k)
 declares-opens s t head.Unlisted all ws h few k = absurd k
 
-happens-no-opening : (s : State) (n : ℕ) (r : Result Event TextFault) (t : State) → IsOpening (happens s n r) t → ⊥
+happens-no-opening : (s : State) (n : ℕ) (r : Result ScheduleStep TextFault) (t : State) → IsOpening (happens s n r) t → ⊥
 happens-no-opening s n (Ok x) t h = h
 happens-no-opening s n (Err f) t h = h
 

@@ -4,11 +4,11 @@ use Rattle.std.specs.Prelude.{IfSome}
 use Rattle.std.specs.Option.{unwrap_or}
 use Rattle.document_text.specs.declared.fault.DocFault.{DocFault}
 use Rattle.document_text.specs.Documents.{Doc, Outcome, Accepted, Refused}
-use Rattle.document_text.specs.States.{State, start, has_edge, is_empty, with_policy, doc_of_state}
+use Rattle.document_text.specs.States.{State, initial_state, has_edge, is_empty, with_policy, doc_of_state}
 use Rattle.document_text.specs.Steps.{Step, Next, Enters, Opens, Stops, step}
 use Rattle.document_text.specs.Texts.{lines_of, words_of, is_end}
 use Rattle.document_text.specs.Grammar.{Mode, Lines, Block, Does, Closes, Chosen, Goes, Ends, IsFrom, IsReading, finished, cut_off, most_bytes, line_behind}
-use Rattle.document_text.specs.Answers.{IsNext, IsOpening}
+use Rattle.document_text.specs.Answers.{IsNextState, IsOpening}
 use Rattle.document_text.specs.Laws.{IsWithin}
 use Rattle.document_text.proofs.Holding.{InHops, InRows, InRejoins, AreStamps, Holds, HasRoom, start-holds, policy-holds, step-holds, step-opens}
 
@@ -61,7 +61,7 @@ ends-within (Lines s) n d h k = finished-within s n d h k
 ends-within (Block s begin text) n d h (inl k) = no-doc d _ k.3
 ends-within (Block s begin text) n d h (inr k) = no-doc d _ k.1
 
-does-within : (Go : Mode → Type 0) (n : ℕ) (d : Doc) (x : Step) → ((t : State) → IsNext x t → Holds t) → ((t : State) → IsOpening x t → HasRoom t)
+does-within : (Go : Mode → Type 0) (n : ℕ) (d : Doc) (x : Step) → ((t : State) → IsNextState x t → Holds t) → ((t : State) → IsOpening x t → HasRoom t)
     → ((m : Mode) → HoldsIn m → Go m → IsWithin d) → Does Go n (Accepted d) x → IsWithin d
 does-within Go n d (Next s) next opens go k = go (Lines s) (next s refl) k
 does-within Go n d (Enters p s) next opens go (inl k) = go (Lines s) (next s (k.0, refl)) k.1
@@ -103,5 +103,5 @@ limit-by n o false d k = absurd (cut-not n o d k)
 
 pub reading-within : (text : List ℕ) (d : Doc) → IsReading text (Accepted d) → IsWithin d
 reading-within text d h =
-    from-within (lines_of (take (most_bytes + 1) text)) 1 d (Lines start) start-holds
-    (subst (IsFrom (Lines start) 1 (lines_of (take (most_bytes + 1) text))) (limit-by (line_behind (take most_bytes text)) h.0 _ d h.2) h.1)
+    from-within (lines_of (take (most_bytes + 1) text)) 1 d (Lines initial_state) start-holds
+    (subst (IsFrom (Lines initial_state) 1 (lines_of (take (most_bytes + 1) text))) (limit-by (line_behind (take most_bytes text)) h.0 _ d h.2) h.1)

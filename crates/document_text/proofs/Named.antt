@@ -5,7 +5,7 @@ use Rattle.std.specs.Borrow.{Bor}
 use Rattle.std.specs.List.{list_any}
 use Rattle.std.specs.Str.{bytes_eq}
 use Rattle.indexmap.specs.IndexSet.{insert_key}
-use Rattle.document_text.specs.Packets.{Given, pair_of, with_word, with_named}
+use Rattle.document_text.specs.Packets.{GivenFields, pair_of, with_word, with_named}
 use Rattle.document_text.specs.Answers.{texts}
 
 abbrev Names : Type 0
@@ -26,9 +26,9 @@ pub names-insert : (n : Bor (List ℕ)) (ks ks' : Names) → ks' ≡ insert_key 
 names-insert n ks ks' e new = ap texts (e ∙ inserted ks n (list_any (same n) ks) new) ∙ map-append (λ (w : Bor (List ℕ)). w.now) ks (n ∷ [])
 
 -- a name that was there before
-pub word-again : (g : Given) (w : List ℕ) (p : List ℕ × List ℕ) → pair_of w ≡ Some p → list_any (bytes_eq p.0) g.names ≡ true → with_word g w ≡ None
+pub word-again : (g : GivenFields) (w : List ℕ) (p : List ℕ × List ℕ) → pair_of w ≡ Some p → list_any (bytes_eq p.0) g.names ≡ true → with_word g w ≡ None
 word-again g w p e h = rw (e, h) refl
 
-pub word-new : (g : Given) (w : List ℕ) (p : List ℕ × List ℕ) (ks : List (List ℕ)) → pair_of w ≡ Some p → list_any (bytes_eq p.0) g.names ≡ false → ks ≡ g.names ++ p.0 ∷ []
+pub word-new : (g : GivenFields) (w : List ℕ) (p : List ℕ × List ℕ) (ks : List (List ℕ)) → pair_of w ≡ Some p → list_any (bytes_eq p.0) g.names ≡ false → ks ≡ g.names ++ p.0 ∷ []
     → with_word g w ≡ with_named (record g { names = ks }) p.0 p.1
 word-new g w p ks e h k = rw (e, h, k) refl

@@ -8,7 +8,7 @@ use Rattle.nk_values.specs.declared.field.Field.TheVariants.{Sw, Pt, EthTyp, IpP
 use Rattle.nk_values.specs.Ranges.{place, least_value, greatest, IsValue}
 use Rattle.topology_model.specs.Lines.{IsEnd}
 use Rattle.netkat_parser.specs.Numbers.{IsUpTo}
-use Rattle.document_text.specs.Packets.{Given, is_value, with_number}
+use Rattle.document_text.specs.Packets.{GivenFields, is_value, with_number}
 use Rattle.document_text.specs.Lines.{is_end_value}
 
 pub left-true : (a b : Bool) → (a && b) ≡ true → a ≡ true
@@ -101,7 +101,7 @@ pub end-at : (x y : ℕ × ℕ) → is_end_value x ≡ true → y ≡ x → IsEn
 end-at x y e k = subst IsEnd (sym k) (end-from x e)
 
 -- a value that is above the greatest one of any field
-pub great-outside : (g : Given) (f : Field) (o : Option ℕ) → IsUpTo 281474976710655 o None → is_some o ≡ true
+pub great-outside : (g : GivenFields) (f : Field) (o : Option ℕ) → IsUpTo 281474976710655 o None → is_some o ≡ true
     → option_map (with_number g f) o ≡ Some (record g { outside = true })
 great-outside g f None h e = absurd (cc)
 great-outside g f (Some n) h e = rw (too_great f n h) refl

@@ -7,10 +7,10 @@ use Rattle.document_text.specs.declared.fault.DocFault.{DocFault}
 use Rattle.document_text.specs.declared.fault.DocumentError.{DocumentError}
 use Rattle.document_text.specs.declared.fault.DocumentError.TheVariants.{Fault, Memory}
 use Rattle.document_text.specs.Documents.{Outcome, Accepted, Refused}
-use Rattle.document_text.specs.States.{start}
+use Rattle.document_text.specs.States.{initial_state}
 use Rattle.document_text.specs.Texts.{lines_of}
 use Rattle.document_text.specs.Grammar.{Lines, IsFrom, IsReading, most_bytes, line_behind, cut_off, within_limit, refused_at}
-use Rattle.document_text.specs.Answers.{Answers, IsAnswer, Cuts, limit_at, doc_of}
+use Rattle.document_text.specs.Answers.{AnswersDocument, IsAnswer, CutsText, limit_at, doc_of}
 use Rattle.document_text.proofs.Unique.{reading-one}
 
 le-true : (m n : ℕ) → m ≤ n → nat_le m n ≡ true
@@ -26,7 +26,7 @@ within-large : (text : List ℕ) (o : Outcome) → most_bytes < length text → 
 within-large text o h = rw (le-false (length text) most_bytes h) refl
 
 pub reading-small : (text : List ℕ) (r : Result Document DocumentError) → length text ≤ most_bytes
-    → Answers (IsFrom (Lines start) 1 (lines_of (take (most_bytes + 1) text))) r → Answers (IsReading text) r
+    → AnswersDocument (IsFrom (Lines initial_state) 1 (lines_of (take (most_bytes + 1) text))) r → AnswersDocument (IsReading text) r
 reading-small text (Ok d) h k = (Accepted (doc_of d), k, within-small text (Accepted (doc_of d)) h)
 reading-small text (Err (Fault f)) h k = (Refused f, k, within-small text (Refused f) h)
 reading-small text (Err Memory) h k = tt
@@ -36,15 +36,15 @@ by-line n f true = refl
 by-line n f false = refl
 
 pub reading-large : (text : List ℕ) (w : Result Document DocumentError) (e : DocumentError) → most_bytes < length text
-    → Answers (IsFrom (Lines start) 1 (lines_of (take (most_bytes + 1) text))) w → Cuts (line_behind (take most_bytes text)) w e → Answers (IsReading text) (Err e)
+    → AnswersDocument (IsFrom (Lines initial_state) 1 (lines_of (take (most_bytes + 1) text))) w → CutsText (line_behind (take most_bytes text)) w e → AnswersDocument (IsReading text) (Err e)
 reading-large text (Ok d) e h k c =
-    subst (λ x. Answers (IsReading text) (Err x)) (sym c) (Accepted (doc_of d), k, within-large text (Accepted (doc_of d)) h)
+    subst (λ x. AnswersDocument (IsReading text) (Err x)) (sym c) (Accepted (doc_of d), k, within-large text (Accepted (doc_of d)) h)
 reading-large text (Err (Fault f)) e h k c =
     let n = line_behind (take most_bytes text) in
-    subst (λ x. Answers (IsReading text) (Err x)) (sym c) (Refused f, k, by-line n f (nat_lt f.line n) ∙ within-large text (Refused f) h)
-reading-large text (Err Memory) e h k c = subst (λ x. Answers (IsReading text) (Err x)) (sym c) tt
+    subst (λ x. AnswersDocument (IsReading text) (Err x)) (sym c) (Refused f, k, by-line n f (nat_lt f.line n) ∙ within-large text (Refused f) h)
+reading-large text (Err Memory) e h k c = subst (λ x. AnswersDocument (IsReading text) (Err x)) (sym c) tt
 
-pub answer-one : (text : List ℕ) (r : Result Document DocumentError) → Answers (IsReading text) r → (o : Outcome) → IsReading text o → IsAnswer o r
+pub answer-one : (text : List ℕ) (r : Result Document DocumentError) → AnswersDocument (IsReading text) r → (o : Outcome) → IsReading text o → IsAnswer o r
 answer-one text (Ok d) h o k = reading-one text o (Accepted (doc_of d)) k h
 answer-one text (Err (Fault f)) h o k = reading-one text o (Refused f) k h
 answer-one text (Err Memory) h o k = tt

@@ -13,21 +13,21 @@ use Rattle.topology_model.specs.Layouts.{Layout}
 use Rattle.topology_model.specs.Lines.{sites_in, links_in, with_line, line_fault}
 use Rattle.topology_model.specs.declared.line.TopoLine.{TopoLine}
 use Rattle.topology_model.specs.declared.line.TopoLine.TheVariants as topology
-use Rattle.document_text.specs.declared.document.Event.{Event}
+use Rattle.document_text.specs.declared.document.ScheduleStep.{ScheduleStep}
 use Rattle.document_text.specs.declared.document.PacketLine.{PacketLine}
 use Rattle.document_text.specs.declared.fault.DocFault.{DocFault}
 use Rattle.document_text.specs.declared.head.Head.{Head}
 use Rattle.document_text.specs.declared.head.Head.TheVariants as head
-use Rattle.document_text.specs.declared.told.Kind.{Kind}
-use Rattle.document_text.specs.declared.told.Kind.TheVariants as kind
-use Rattle.document_text.specs.Answers.{IsNext, IsOpening}
+use Rattle.document_text.specs.declared.declaration.LineKind.{LineKind}
+use Rattle.document_text.specs.declared.declaration.LineKind.TheVariants as kind
+use Rattle.document_text.specs.Answers.{IsNextState, IsOpening}
 use Rattle.document_text.specs.Documents.{Doc, Accepted, Refused}
 use Rattle.document_text.specs.Grammar.{Mode, Lines, Block, Does, Closes, Chosen, Goes, Ends, IsFrom, IsDocument, most_bytes, line_behind, cut_off}
 use Rattle.document_text.specs.Lines.{is_end_value, behind_topology, behind_policies, unset, at_edge, placed_by, placed, switch_form, switch_line, link_form, link_line, one_numeral, two_numerals, hops_line, capacity_line, stamps_line, rejoins_line, overlap_line, policy_line, packet_form, packet_line, schedule_line}
-use Rattle.document_text.specs.Packets.{Given, is_value}
+use Rattle.document_text.specs.Packets.{GivenFields, is_value}
 use Rattle.document_text.specs.Parts.{Part, SwitchLine, LinkLine, PacketWords, PolicyText, EventLine, Stand, Free, InPolicy, InSchedule, begun, part_of, parts_from, parts_of, given_by, topology_in, packets_in, texts_in, lines_in, AreRead, Says}
 use Rattle.document_text.specs.Schedules.{refused_if, event_of}
-use Rattle.document_text.specs.States.{State, start, place_of_kind, is_late, has_edge, is_empty, with_policy, doc_of_state}
+use Rattle.document_text.specs.States.{State, initial_state, place_of_kind, is_late, has_edge, is_empty, with_policy, doc_of_state}
 use Rattle.document_text.specs.Steps.{Step, Next, Enters, Opens, Stops, head_of, is_too_many, opens, enters, happens, scheduled, declares, step}
 use Rattle.document_text.specs.Texts.{lines_of, words_of, is_end}
 use Rattle.document_text.proofs.Holding.{next-is, opens-no-next, ok-is, line-is, policies-ok, next-no-opening, enters-no-opening, scheduled-no-opening}
@@ -119,7 +119,7 @@ one-line t l i = record {
   links = ap (λ zs. t.links ++ zs) (to-nil (links_in l)) i;
 }
 
-placed-grows : (s : State) (k : Kind) (l : TopoLine) (part : Part) → l ∷ [] ≡ topology_in part → [] ≡ texts_in part → [] ≡ packets_in part → [] ≡ lines_in part
+placed-grows : (s : State) (k : LineKind) (l : TopoLine) (part : Part) → l ∷ [] ≡ topology_in part → [] ≡ texts_in part → [] ≡ packets_in part → [] ≡ lines_in part
     → s.inside ≡ false → Follows (part ∷ [], Free) s (record s { reached = k; layout = with_line s.layout l })
 placed-grows s k l part topo texts packets lines out = record {
   grows = record {
@@ -218,7 +218,7 @@ schedule-says s t [] e =
 schedule-says s t (w ∷ ws) e = absurd (cc)
 
 -- a packet
-abbrev given_packet : (ℕ × ℕ) × Given → PacketLine
+abbrev given_packet : (ℕ × ℕ) × GivenFields → PacketLine
 given_packet x = record { packet = x.1.packet; tag = x.1.tag }
 
 packet-is : (s : State) (p : PacketLine) (ws : List (List ℕ)) → packet_line s ws ≡ Ok p → packets_in (PacketWords ws) ≡ p ∷ []
@@ -234,7 +234,7 @@ packet-is s p ws e =
     let same = line-is (record { packet = x.0.1.packet; tag = x.0.1.tag }) p g.1 in
     ap (λ o. given_by (option_map given_packet o)) x.1 ∙ ap (λ q. q ∷ []) same
 
-enters-says : (s t : State) (ws : List (List ℕ)) (r : Result PacketLine TextFault) → packet_line s ws ≡ r → s.inside ≡ false → IsNext (enters s r) t → Follows (PacketWords ws ∷ [], Free) s t
+enters-says : (s t : State) (ws : List (List ℕ)) (r : Result PacketLine TextFault) → packet_line s ws ≡ r → s.inside ≡ false → IsNextState (enters s r) t → Follows (PacketWords ws ∷ [], Free) s t
 enters-says s t ws (Err f) e out k = absurd k
 enters-says s t ws (Ok p) e out k = subst (Follows (PacketWords ws ∷ [], Free) s) (sym k.1) (record {
   grows = record {
@@ -248,7 +248,7 @@ enters-says s t ws (Ok p) e out k = subst (Follows (PacketWords ws ∷ [], Free)
   at = ap stand (sym out);
 })
 
-declares-says : (s t : State) (d : Head) (ws : List (List ℕ)) → s.inside ≡ false → IsNext (declares s d ws) t → Follows (begun d ws) s t
+declares-says : (s t : State) (d : Head) (ws : List (List ℕ)) → s.inside ≡ false → IsNextState (declares s d ws) t → Follows (begun d ws) s t
 declares-says s t head.Switch ws out k = switch-says s t ws out (next-is (switch_line s ws) t k)
 declares-says s t head.Link ws out k = link-says s t ws out (next-is (link_line s ws) t k)
 declares-says s t head.Hops ws out k = hops-says s t ws out (next-is (hops_line s ws) t k)
@@ -262,7 +262,7 @@ declares-says s t head.Schedule ws out k = schedule-says s t ws (next-is (schedu
 declares-says s t head.Unlisted ws out k = absurd k
 
 -- a line of the schedule
-happens-says : (s t : State) (n : ℕ) (ws : List (List ℕ)) (r : Result Event TextFault) → s.inside ≡ true → IsNext (happens s n r) t → Follows (EventLine n ws ∷ [], InSchedule) s t
+happens-says : (s t : State) (n : ℕ) (ws : List (List ℕ)) (r : Result ScheduleStep TextFault) → s.inside ≡ true → IsNextState (happens s n r) t → Follows (EventLine n ws ∷ [], InSchedule) s t
 happens-says s t n ws (Err f) i k = absurd k
 happens-says s t n ws (Ok x) i k = subst (Follows (EventLine n ws ∷ [], InSchedule) s) (sym k) (record {
   grows = record {
@@ -276,14 +276,14 @@ happens-says s t n ws (Ok x) i k = subst (Follows (EventLine n ws ∷ [], InSche
   at = ap stand (sym i);
 })
 
-scheduled-says : (s t : State) (n : ℕ) (ws : List (List ℕ)) (b : Bool) → s.inside ≡ true → IsNext (cond b (Next (record s { inside = false })) (happens s n (event_of s ws))) t
+scheduled-says : (s t : State) (n : ℕ) (ws : List (List ℕ)) (b : Bool) → s.inside ≡ true → IsNextState (cond b (Next (record s { inside = false })) (happens s n (event_of s ws))) t
     → Follows (cond b ([], Free) (EventLine n ws ∷ [], InSchedule)) s t
 scheduled-says s t n ws true i k = subst (Follows ([], Free) s) (sym k) (record { grows = grows-none (shown s); at = refl })
 scheduled-says s t n ws false i k = happens-says s t n ws (event_of s ws) i k
 
 -- one line
 says-by : (s t : State) (n : ℕ) (line w : List ℕ) (ws : List (List ℕ)) (b i : Bool) → s.inside ≡ i
-    → IsNext (cond b (Stops Limit) (cond i (scheduled s n (w ∷ ws)) (declares s (head_of w) ws))) t → Follows (part_of (stand i) n line (w ∷ ws)) s t
+    → IsNextState (cond b (Stops Limit) (cond i (scheduled s n (w ∷ ws)) (declares s (head_of w) ws))) t → Follows (part_of (stand i) n line (w ∷ ws)) s t
 says-by s t n line w ws true i e k = absurd k
 says-by s t n line w ws false true e k = scheduled-says s t n (w ∷ ws) (is_end (w ∷ ws)) e k
 says-by s t n line w ws false false e k = declares-says s t (head_of w) ws e k
@@ -292,7 +292,7 @@ blank-says : (s : State) (n : ℕ) (line : List ℕ) (i : Bool) → s.inside ≡
 blank-says s n line true e = record { grows = grows-none (shown s); at = ap stand (sym e) }
 blank-says s n line false e = record { grows = grows-none (shown s); at = ap stand (sym e) }
 
-step-says : (s t : State) (n : ℕ) (line : List ℕ) (ws : List (List ℕ)) → IsNext (step s n ws) t → Follows (part_of (stand s.inside) n line ws) s t
+step-says : (s t : State) (n : ℕ) (line : List ℕ) (ws : List (List ℕ)) → IsNextState (step s n ws) t → Follows (part_of (stand s.inside) n line ws) s t
 step-says s t n line [] k = subst (Follows (part_of (stand s.inside) n line []) s) (sym k) (blank-says s n line s.inside refl)
 step-says s t n line (w ∷ ws) k = says-by s t n line w ws (is_too_many s (head_of w) (w ∷ ws)) s.inside refl k
 
@@ -361,7 +361,7 @@ opens-made : (ls : List (List ℕ)) (n begin : ℕ) (d : Doc) (x : List Part × 
 opens-made ls n begin d x s t b g =
     subst (λ y. Grows (y.0 ++ parts_from y.1 n ls) (shown s) (shown_doc d)) (sym b.part) (subst (λ u. Grows (parts_from (InPolicy []) n ls) u (shown_doc d)) b.same g)
 
-does-made : (Go : Mode → Type 0) (ls : List (List ℕ)) (n : ℕ) (d : Doc) (x : List Part × Stand) (s : State) (y : Step) → ((t : State) → IsNext y t → Follows x s t) → ((t : State) → IsOpening y t → Begins x s t)
+does-made : (Go : Mode → Type 0) (ls : List (List ℕ)) (n : ℕ) (d : Doc) (x : List Part × Stand) (s : State) (y : Step) → ((t : State) → IsNextState y t → Follows x s t) → ((t : State) → IsOpening y t → Begins x s t)
     → ((m : Mode) → Ready m → Go m → IsMade ls (n + 1) d m) → Does Go n (Accepted d) y → Grows (x.0 ++ parts_from x.1 (n + 1) ls) (shown s) (shown_doc d)
 does-made Go ls n d x s (Next t) next opens go k = next-made ls (n + 1) d x s t (next t refl) (go (Lines t) tt k)
 does-made Go ls n d x s (Enters p t) next opens go (inl k) = next-made ls (n + 1) d x s t (next t (k.0, refl)) (go (Lines t) tt k.1)
@@ -418,20 +418,20 @@ short-by m n b e k = let t : nat_le m n ≡ true = e ∙ k in grind (arith, nat_
 
 record IsShort (text : List ℕ) (d : Doc) : Type 0 where
   short : length text ≤ most_bytes
-  from : IsFrom (Lines start) 1 (lines_of (take (most_bytes + 1) text)) (Accepted d)
+  from : IsFrom (Lines initial_state) 1 (lines_of (take (most_bytes + 1) text)) (Accepted d)
 
 short-doc : (text : List ℕ) (d : Doc) → IsDocument text d → IsShort text d
 short-doc text d h = split (nat_le (length text) most_bytes) refl h.2
   where
     split : (b : Bool) → nat_le (length text) most_bytes ≡ b → Accepted d ≡ cond b h.0 (cut_off (line_behind (take most_bytes text)) h.0) → IsShort text d
-    split true e k = record { short = short-by (length text) most_bytes true e refl; from = subst (IsFrom (Lines start) 1 (lines_of (take (most_bytes + 1) text))) (sym k) h.1 }
+    split true e k = record { short = short-by (length text) most_bytes true e refl; from = subst (IsFrom (Lines initial_state) 1 (lines_of (take (most_bytes + 1) text))) (sym k) h.1 }
     split false e k = absurd (cut-not (line_behind (take most_bytes text)) h.0 d k)
 
 pub reading-says : (text : List ℕ) (d : Doc) → IsDocument text d → Says (parts_of text) d
 reading-says text d h =
     let k = short-doc text d h in
     let whole : take (most_bytes + 1) text ≡ text = take-all (most_bytes + 1) text (omega (arith, k.short)) in
-    let g = from-made (lines_of text) 1 d (Lines start) tt (subst (λ t. IsFrom (Lines start) 1 (lines_of t) (Accepted d)) whole k.from) in
+    let g = from-made (lines_of text) 1 d (Lines initial_state) tt (subst (λ t. IsFrom (Lines initial_state) 1 (lines_of t) (Accepted d)) whole k.from) in
     record {
       layout = g.layout;
       policies = subst (AreRead (flat_map texts_in (parts_of text))) (sym g.policies) g.read;

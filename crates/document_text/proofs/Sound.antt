@@ -13,7 +13,7 @@ use Rattle.nk_values.specs.Names.{name_of, header_fields}
 use Rattle.netkat_parser.specs.Numbers.{number}
 use Rattle.topology_model.specs.Layouts.{is_edge, place_of}
 use Rattle.document_text.specs.declared.document.PacketLine.{PacketLine}
-use Rattle.document_text.specs.Packets.{Given, is_value, pair_of, with_tag, with_number, with_field, with_named, with_pair, with_word, with_words}
+use Rattle.document_text.specs.Packets.{GivenFields, is_value, pair_of, with_tag, with_number, with_field, with_named, with_pair, with_word, with_words}
 use Rattle.document_text.specs.Texts.{numeral}
 use Rattle.document_text.specs.States.{State}
 use Rattle.document_text.specs.Schedules.{refused_if, formed}
@@ -29,11 +29,11 @@ refused-ok true f r t e = absurd (cc)
 refused-ok false f r t e = (refl, e)
 
 -- the words of a packet line leave its place alone
-pub record Stays (g h : Given) : Type 0 where
+pub record Stays (g h : GivenFields) : Type 0 where
   pub sw : h.packet.sw ≡ g.packet.sw
   pub pt : h.packet.pt ≡ g.packet.pt
 
-stays : (g : Given) → Stays g g
+stays : (g : GivenFields) → Stays g g
 stays g = record { sw = refl; pt = refl }
 
 abbrev pub IsHeader : Field → Type 0
@@ -49,57 +49,57 @@ header-only test =
     (found (test EthDst) EthDst _ (λ p n. (refl, refl)) (found (test Ip4Src) Ip4Src _ (λ p n. (refl, refl)) (found (test Ip4Dst) Ip4Dst _ (λ p n. (refl, refl))
     (found (test TcpSrcPort) TcpSrcPort _ (λ p n. (refl, refl)) (found (test TcpDstPort) TcpDstPort None (λ p n. (refl, refl)) tt)))))))
 
-abbrev pub Keeps : Given → Option Given → Type 0
+abbrev pub Keeps : GivenFields → Option GivenFields → Type 0
 Keeps g o = IfSome o (Stays g)
 
-tag-by : (g : Given) (n : ℕ) (b : Bool) → Stays g (cond b (record g { tag = Some n }) (record g { outside = true }))
+tag-by : (g : GivenFields) (n : ℕ) (b : Bool) → Stays g (cond b (record g { tag = Some n }) (record g { outside = true }))
 tag-by g n true = record { sw = refl; pt = refl }
 tag-by g n false = record { sw = refl; pt = refl }
 
-number-by : (g : Given) (f : Field) (n : ℕ) (b : Bool) → IsHeader f → Stays g (cond b (record g { packet = with_value g.packet f n }) (record g { outside = true }))
+number-by : (g : GivenFields) (f : Field) (n : ℕ) (b : Bool) → IsHeader f → Stays g (cond b (record g { packet = with_value g.packet f n }) (record g { outside = true }))
 number-by g f n true h = record { sw = (h g.packet n).0; pt = (h g.packet n).1 }
 number-by g f n false h = record { sw = refl; pt = refl }
 
-tag-keeps : (g : Given) (o : Option ℕ) → Keeps g (option_map (with_tag g) o)
+tag-keeps : (g : GivenFields) (o : Option ℕ) → Keeps g (option_map (with_tag g) o)
 tag-keeps g None = tt
 tag-keeps g (Some n) = tag-by g n _
 
-number-keeps : (g : Given) (f : Field) (o : Option ℕ) → IsHeader f → Keeps g (option_map (with_number g f) o)
+number-keeps : (g : GivenFields) (f : Field) (o : Option ℕ) → IsHeader f → Keeps g (option_map (with_number g f) o)
 number-keeps g f None h = tt
 number-keeps g f (Some n) h = number-by g f n (is_value f n) h
 
-field-keeps : (g : Given) (o : Option Field) (run : List ℕ) → IfSome o IsHeader → Keeps g (with_field g o run)
+field-keeps : (g : GivenFields) (o : Option Field) (run : List ℕ) → IfSome o IsHeader → Keeps g (with_field g o run)
 field-keeps g None run h = record { sw = refl; pt = refl }
 field-keeps g (Some f) run h = number-keeps g f (number f run) h
 
-named-by : (g : Given) (run : List ℕ) (b : Bool) (o : Option Field) → IfSome o IsHeader
+named-by : (g : GivenFields) (run : List ℕ) (b : Bool) (o : Option Field) → IfSome o IsHeader
     → Keeps g (cond b (option_map (with_tag g) (numeral run)) (with_field g o run))
 named-by g run true o h = tag-keeps g (numeral run)
 named-by g run false o h = field-keeps g o run h
 
-rebased : (g k : Given) (o : Option Given) → k.packet ≡ g.packet → Keeps k o → Keeps g o
+rebased : (g k : GivenFields) (o : Option GivenFields) → k.packet ≡ g.packet → Keeps k o → Keeps g o
 rebased g k None e h = tt
 rebased g k (Some x) e h = record { sw = h.sw ∙ ap (λ p. p.sw) e; pt = h.pt ∙ ap (λ p. p.pt) e }
 
-pair-by : (g : Given) (name run : List ℕ) (b : Bool) → Keeps g (cond b None (with_named (record g { names = g.names ++ name ∷ [] }) name run))
+pair-by : (g : GivenFields) (name run : List ℕ) (b : Bool) → Keeps g (cond b None (with_named (record g { names = g.names ++ name ∷ [] }) name run))
 pair-by g name run true = tt
 pair-by g name run false =
     rebased g (record g { names = g.names ++ name ∷ [] }) _ refl
     (named-by (record g { names = g.names ++ name ∷ [] }) run (bytes_eq name (codes "vlan")) _ (header-only (λ f. bytes_eq name (name_of f))))
 
-pairs-keep : (g : Given) (o : Option (List ℕ × List ℕ)) → Keeps g (option_and_then (with_pair g) o)
+pairs-keep : (g : GivenFields) (o : Option (List ℕ × List ℕ)) → Keeps g (option_and_then (with_pair g) o)
 pairs-keep g None = tt
 pairs-keep g (Some p) = pair-by g p.0 p.1 (list_any (bytes_eq p.0) g.names)
 
-then-keeps : (g : Given) (o : Option Given) (next : Given → Option Given) → Keeps g o → ((h : Given) → Keeps h (next h)) → Keeps g (option_and_then next o)
+then-keeps : (g : GivenFields) (o : Option GivenFields) (next : GivenFields → Option GivenFields) → Keeps g o → ((h : GivenFields) → Keeps h (next h)) → Keeps g (option_and_then next o)
 then-keeps g None next h k = tt
 then-keeps g (Some x) next h k = through g x (next x) h (k x)
   where
-    through : (g x : Given) (o : Option Given) → Stays g x → Keeps x o → Keeps g o
+    through : (g x : GivenFields) (o : Option GivenFields) → Stays g x → Keeps x o → Keeps g o
     through g x None h k = tt
     through g x (Some y) h k = record { sw = k.sw ∙ h.sw; pt = k.pt ∙ h.pt }
 
-pub words-keep : (ws : List (List ℕ)) (g : Given) → Keeps g (with_words g ws)
+pub words-keep : (ws : List (List ℕ)) (g : GivenFields) → Keeps g (with_words g ws)
 words-keep [] g = stays g
 words-keep (w ∷ ws) g = then-keeps g (with_word g w) (λ h. with_words h ws) (pairs-keep g (pair_of w)) (λ h. words-keep ws h)
 

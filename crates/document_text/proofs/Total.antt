@@ -7,7 +7,7 @@ use Rattle.nk_values.specs.declared.packet.Packet.{Packet}
 use Rattle.nk_values.specs.Packets.{get, IsInRange, IsWellShaped}
 use Rattle.nk_values.specs.Ranges.{IsValue}
 use Rattle.nk_syntax.specs.Terms.{Term}
-use Rattle.netkat_parser.specs.declared.fault.Place.{Place}
+use Rattle.netkat_parser.specs.declared.fault.Position.{Position}
 use Rattle.netkat_parser.specs.declared.fault.ParseFault.{ParseFault}
 use Rattle.netkat_parser.specs.Grammar.{IsText}
 use Rattle.netkat_parser.specs.Places.{HasFault, place_behind}
@@ -15,7 +15,7 @@ use Rattle.netkat_parser.proofs.Outcomes.{no-both, fault-one}
 use Rattle.netkat_parser.proofs.Total.{value-or-not, read-or-fault}
 use Rattle.nk_values.specs.declared.fault.TextFault.TheVariants.{BadLine}
 use Rattle.document_text.specs.Documents.{Outcome}
-use Rattle.document_text.specs.States.{State, start, with_policy}
+use Rattle.document_text.specs.States.{State, initial_state, with_policy}
 use Rattle.document_text.specs.Steps.{Step, Next, Enters, Opens, Stops, step}
 use Rattle.document_text.specs.Texts.{lines_of, words_of, is_end}
 use Rattle.document_text.specs.Grammar.{Mode, Lines, Block, Does, Closes, Chosen, Goes, IsBehind, LacksEnd, Ends, IsFrom, IsReading, finished, within_limit, most_bytes, line_start, refused_at, refused_in}
@@ -131,10 +131,10 @@ goes-some Go n (Lines s) line go = does-some Go n (step s n (words_of line)) go
 goes-some Go n (Block s begin text) line go = chosen-some Go s begin text (text ++ line) (is_end (words_of line)) go
 
 -- the place of a fault is after the text or not
-place-either : (p : Place) (line column : ℕ) → Either (p ≡ record { line = line; column = column })
+place-either : (p : Position) (line column : ℕ) → Either (p ≡ record { line = line; column = column })
 place-either p line column = split (same-either p.line line) (same-either p.column column)
   where
-    at : Place
+    at : Position
     at = record { line = line; column = column }
 
     split : Either (p.line ≡ line) → Either (p.column ≡ column) → Either (p ≡ record { line = line; column = column })
@@ -164,5 +164,5 @@ from-some (l ∷ ls) n m = goes-some (λ t o. IsFrom t (n + 1) ls o) n m l (λ t
 -- what a text is
 pub reading-some : (text : List ℕ) → (o : Outcome) × IsReading text o
 reading-some text =
-    let w = from-some (lines_of (take (most_bytes + 1) text)) 1 (Lines start) in
+    let w = from-some (lines_of (take (most_bytes + 1) text)) 1 (Lines initial_state) in
     (within_limit text w.0, (w.0, w.1, refl))

@@ -9,13 +9,13 @@ use Rattle.document_text.specs.States.{State}
 use Rattle.document_text.specs.Steps.{Step, Next, Enters, Opens, Stops, step}
 use Rattle.document_text.specs.Texts.{first_len, lines_of, words_of, is_end}
 use Rattle.document_text.specs.Grammar.{Mode, Lines, Block, Does, Closes, Chosen, IsFrom, refused_at}
-use Rattle.document_text.specs.Answers.{IsNext, IsOpening, IsStop}
+use Rattle.document_text.specs.Answers.{IsNextState, IsOpening, IsStop}
 use Rattle.document_text.specs.Feeding.{IsLine, IsPiece}
 use Rattle.document_text.proofs.Pieces.{lines-cut}
 
 -- ---- what comes of a step
 
-next-does : (Go : Mode → Type 0) (n : ℕ) (o : Outcome) (x : Step) (t : State) → IsNext x t → Go (Lines t) → Does Go n o x
+next-does : (Go : Mode → Type 0) (n : ℕ) (o : Outcome) (x : Step) (t : State) → IsNextState x t → Go (Lines t) → Does Go n o x
 next-does Go n o (Next s) t h k = subst (λ u. Go (Lines u)) h k
 next-does Go n o (Enters p s) t h k = inl (h.0, subst (λ u. Go (Lines u)) h.1 k)
 next-does Go n o (Opens s) t h k = absurd h
@@ -74,7 +74,7 @@ module _ (end : Bool) (p : List ℕ) (len : ℕ) (some : 0 < len) (within : len 
   line-does : (o : Outcome) → Does (λ m. IsFrom m (n + 1) (lines_of (drop len p ++ rest)) o) n o (step s n (words_of (take len p))) → IsFrom (Lines s) n (lines_of (p ++ rest)) o
   line-does o h = subst (λ ls. IsFrom (Lines s) n ls o) (sym (line-of end p len some within first rest e)) h
 
-  pub line-next : (t : State) (o : Outcome) → IsNext (step s n (words_of (take len p))) t
+  pub line-next : (t : State) (o : Outcome) → IsNextState (step s n (words_of (take len p))) t
       → IsFrom (Lines t) (n + 1) (lines_of (drop len p ++ rest)) o → IsFrom (Lines s) n (lines_of (p ++ rest)) o
   line-next t o h k = line-does o (next-does (λ m. IsFrom m (n + 1) (lines_of (drop len p ++ rest)) o) n o (step s n (words_of (take len p))) t h k)
 

@@ -3,7 +3,7 @@ use Rattle.std.proofs.Common.{◌≡◌, ℕ, ◌+◌, inl, inr, Bool, true, fal
 use Rattle.netkat_parser.proofs.Unique.{text-one}
 use Rattle.netkat_parser.proofs.Outcomes.{no-both, fault-one}
 use Rattle.document_text.specs.Documents.{Outcome}
-use Rattle.document_text.specs.States.{State, start, with_policy}
+use Rattle.document_text.specs.States.{State, initial_state, with_policy}
 use Rattle.document_text.specs.Steps.{Step, Next, Enters, Opens, Stops, step}
 use Rattle.document_text.specs.Texts.{lines_of, words_of, is_end}
 use Rattle.document_text.specs.Grammar.{Mode, Lines, Block, Does, Closes, Chosen, Goes, LacksEnd, Ends, IsFrom, IsReading, within_limit, most_bytes, line_start, refused_in}
@@ -55,4 +55,4 @@ from-one [] n m o o' h h' = ends-one n m o o' h h'
 from-one (l ∷ ls) n m o o' h h' = goes-one (λ t r. IsFrom t (n + 1) ls r) n m l o o' (λ t r r' k k'. from-one ls (n + 1) t r r' k k') h h'
 
 pub reading-one : (text : List ℕ) (o o' : Outcome) → IsReading text o → IsReading text o' → o ≡ o'
-reading-one text o o' h h' = h.2 ∙ ap (within_limit text) (from-one (lines_of (take (most_bytes + 1) text)) 1 (Lines start) h.0 h'.0 h.1 h'.1) ∙ sym h'.2
+reading-one text o o' h h' = h.2 ∙ ap (within_limit text) (from-one (lines_of (take (most_bytes + 1) text)) 1 (Lines initial_state) h.0 h'.0 h.1 h'.1) ∙ sym h'.2

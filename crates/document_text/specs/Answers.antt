@@ -8,15 +8,15 @@ use Rattle.nk_syntax.specs.Views.{term_of}
 use Rattle.topology_model.specs.Layouts.{Layout}
 use Rattle.document_text.specs.declared.document.Document.{Document}
 use Rattle.document_text.specs.Schedules.{at_switch}
-use Rattle.document_text.specs.declared.document.Event.{Event}
-use Rattle.document_text.specs.declared.packet.Given.{Given}
+use Rattle.document_text.specs.declared.document.ScheduleStep.{ScheduleStep}
+use Rattle.document_text.specs.declared.packet.GivenFields.{GivenFields}
 use Rattle.document_text.specs.Packets as packets
 use Rattle.document_text.specs.declared.fault.DocFault.{DocFault}
 use Rattle.document_text.specs.declared.fault.DocumentError.{DocumentError}
 use Rattle.document_text.specs.declared.fault.DocumentError.TheVariants as document
 use Rattle.document_text.specs.declared.fault.Stop.{Stop}
 use Rattle.document_text.specs.declared.fault.Stop.TheVariants as stop
-use Rattle.document_text.specs.declared.told.Told.{Told}
+use Rattle.document_text.specs.declared.declaration.Declared.{Declared}
 use Rattle.document_text.specs.declared.reader.Reader.{Reader}
 use Rattle.document_text.specs.declared.reader.Taken.{Taken}
 use Rattle.document_text.specs.declared.reader.Taken.TheVariants.{Line, Opening}
@@ -29,24 +29,24 @@ use Rattle.document_text.specs.Grammar.{LacksEnd}
 abbrev pub texts : List (Bor (List ℕ)) → List (List ℕ)
 texts ws = map (λ w. w.now) ws
 
--- a topology and what lines have told beside it
-abbrev pub state : Layout → Told → State
-state t told = record {
-  reached = told.reached;
+-- a topology and what lines have declared beside it
+abbrev pub state : Layout → Declared → State
+state t declared = record {
+  reached = declared.reached;
   layout = t;
-  hops = told.hops;
-  capacity = told.capacity;
-  stamps = told.stamps;
-  rejoins = told.rejoins;
-  overlap = told.overlap;
-  policies = map term_of told.policies.items;
-  packets = told.packets.items;
-  inside = told.inside;
-  events = told.events.items;
+  hops = declared.hops;
+  capacity = declared.capacity;
+  stamps = declared.stamps;
+  rejoins = declared.rejoins;
+  overlap = declared.overlap;
+  policies = map term_of declared.policies.items;
+  packets = declared.packets.items;
+  inside = declared.inside;
+  events = declared.events.items;
 }
 
 abbrev pub state_of : Reader → State
-state_of r = state r.draft r.told
+state_of r = state r.draft r.declared
 
 -- the answer is this value or fault, unless memory ran out
 abbrev pub Matches : {A B : Type 0} → (A → B) → Result B TextFault → Result A Stop → Type 0
@@ -92,15 +92,15 @@ Ranges b P (Err stop.Memory) = ⊤
 
 -- the number is that of a declared switch, for any event
 abbrev pub NamesSwitch : State → ℕ → Result ℕ Stop → Type 0
-NamesSwitch s n (Ok sw) = (sw ≡ n) × ((e : Event) → at_switch s n e ≡ Ok e)
-NamesSwitch s n (Err (stop.Fault f)) = (e : Event) → at_switch s n e ≡ Err f
+NamesSwitch s n (Ok sw) = (sw ≡ n) × ((e : ScheduleStep) → at_switch s n e ≡ Ok e)
+NamesSwitch s n (Err (stop.Fault f)) = (e : ScheduleStep) → at_switch s n e ≡ Err f
 NamesSwitch s n (Err stop.Memory) = ⊤
 
 -- the step leads to this state, opens a policy's text there, or stops
-abbrev pub IsNext : Step → State → Type 0
-IsNext (Next s) t = t ≡ s
-IsNext (Enters p s) t = IsWellShaped p.packet × (t ≡ s)
-IsNext _ t = ⊥
+abbrev pub IsNextState : Step → State → Type 0
+IsNextState (Next s) t = t ≡ s
+IsNextState (Enters p s) t = IsWellShaped p.packet × (t ≡ s)
+IsNextState _ t = ⊥
 
 abbrev pub IsOpening : Step → State → Type 0
 IsOpening (Opens s) t = t ≡ s
@@ -112,27 +112,27 @@ IsStop (Enters p s) f = (IsWellShaped p.packet → ⊥) × (f ≡ BadLine)
 IsStop _ f = ⊥
 
 -- the reader came from this state to that one by the step, or stops; where memory ran out, the state is as it was
-abbrev pub Takes : Step → State → State → Result Taken Stop → Type 0
-Takes x old new (Ok Line) = IsNext x new
-Takes x old new (Ok Opening) = IsOpening x new
-Takes x old new (Err (stop.Fault f)) = IsStop x f
-Takes x old new (Err stop.Memory) = new ≡ old
+abbrev pub TakesLine : Step → State → State → Result Taken Stop → Type 0
+TakesLine x old new (Ok Line) = IsNextState x new
+TakesLine x old new (Ok Opening) = IsOpening x new
+TakesLine x old new (Err (stop.Fault f)) = IsStop x f
+TakesLine x old new (Err stop.Memory) = new ≡ old
 
 -- the same of a line after which another one stands
 abbrev pub Passes : {U : Type 0} → Step → State → State → Result U Stop → Type 0
-Passes x old new (Ok u) = IsNext x new
+Passes x old new (Ok u) = IsNextState x new
 Passes x old new (Err (stop.Fault f)) = IsStop x f
 Passes x old new (Err stop.Memory) = new ≡ old
 
 -- what the words of a packet line have given
-abbrev pub given_of : Given → packets.Given
+abbrev pub given_of : GivenFields → packets.GivenFields
 given_of g = record { names = texts g.names.keys; packet = g.packet; tag = g.tag; unknown = g.unknown; outside = g.outside }
 
 -- what was given is this, or the word is at fault, unless memory ran out
-abbrev pub Gives : {U : Type 0} → Option packets.Given → packets.Given → Result U Stop → Type 0
-Gives o g (Ok u) = o ≡ Some g
-Gives o g (Err (stop.Fault f)) = (o ≡ None) × (f ≡ BadLine)
-Gives o g (Err stop.Memory) = ⊤
+abbrev pub GivesValues : {U : Type 0} → Option packets.GivenFields → packets.GivenFields → Result U Stop → Type 0
+GivesValues o g (Ok u) = o ≡ Some g
+GivesValues o g (Err (stop.Fault f)) = (o ≡ None) × (f ≡ BadLine)
+GivesValues o g (Err stop.Memory) = ⊤
 
 abbrev pub doc_of : Document → Doc
 doc_of d = record {
@@ -144,10 +144,10 @@ doc_of d = record {
 }
 
 -- the outcome is this answer's, unless memory ran out
-abbrev pub Answers : (Outcome → Type 0) → Result Document DocumentError → Type 0
-Answers Is (Ok d) = Is (Accepted (doc_of d))
-Answers Is (Err (document.Fault f)) = Is (Refused f)
-Answers Is (Err document.Memory) = ⊤
+abbrev pub AnswersDocument : (Outcome → Type 0) → Result Document DocumentError → Type 0
+AnswersDocument Is (Ok d) = Is (Accepted (doc_of d))
+AnswersDocument Is (Err (document.Fault f)) = Is (Refused f)
+AnswersDocument Is (Err document.Memory) = ⊤
 
 -- the answer is this outcome, unless memory ran out
 abbrev pub IsAnswer : Outcome → Result Document DocumentError → Type 0
@@ -165,7 +165,7 @@ abbrev pub limit_at : ℕ → DocFault
 limit_at n = record { fault = Limit; line = n; column = 1 }
 
 -- a fault before this line stands, and else the text has too many bytes
-abbrev pub Cuts : ℕ → Result Document DocumentError → DocumentError → Type 0
-Cuts n (Ok d) e = e ≡ document.Fault (limit_at n)
-Cuts n (Err (document.Fault f)) e = e ≡ document.Fault (if nat_lt f.line n then f else limit_at n)
-Cuts n (Err document.Memory) e = e ≡ document.Memory
+abbrev pub CutsText : ℕ → Result Document DocumentError → DocumentError → Type 0
+CutsText n (Ok d) e = e ≡ document.Fault (limit_at n)
+CutsText n (Err (document.Fault f)) e = e ≡ document.Fault (if nat_lt f.line n then f else limit_at n)
+CutsText n (Err document.Memory) e = e ≡ document.Memory

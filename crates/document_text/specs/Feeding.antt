@@ -1,6 +1,6 @@
 -- Documents that come in pieces.
 use Rattle.std.specs.Prelude.{◌≡◌, ℕ, zero, suc, ◌+◌, ◌*◌, ◌==◌, Bool, false, not, ◌||◌, List, [], ◌∷◌, ◌++◌, length, take, drop}
-use Rattle.netkat_parser.specs.declared.fault.Place.{Place}
+use Rattle.netkat_parser.specs.declared.fault.Position.{Position}
 use Rattle.netkat_parser.specs.declared.feeding.PolicyReader.{PolicyReader}
 use Rattle.netkat_parser.specs.Cuts.{EndsAt}
 use Rattle.netkat_parser.specs.Places.{place_behind}
@@ -11,7 +11,7 @@ use Rattle.document_text.specs.declared.doc_reader.Spot.TheVariants as spot
 use Rattle.document_text.specs.Answers.{state_of}
 use Rattle.document_text.specs.Documents.{Outcome, Refused}
 use Rattle.document_text.specs.Grammar.{Lines, Block, Closes, IsFrom, line_start, line_behind, most_bytes}
-use Rattle.document_text.specs.States.{State, start}
+use Rattle.document_text.specs.States.{State, initial_state}
 use Rattle.document_text.specs.Texts.{first_len, lines_of}
 
 -- ---- what comes of a text from a spot on
@@ -31,17 +31,17 @@ abbrev pub Comes : DocReader → List ℕ → List ℕ → Outcome → Type 0
 Comes r front rest o = ComesAt r.spot (state_of r.reader) r.line front (r.pending.items ++ rest) o
 
 -- the reader of policies stands for the policy's text so far, after which the place is
-abbrev pub StandsIn : ℕ → PolicyReader → Place → List ℕ → Type 0
+abbrev pub StandsIn : ℕ → PolicyReader → Position → List ℕ → Type 0
 StandsIn begin p at front = policy.StandsFor (line_start begin) p front × (place_behind (line_start begin) front ≡ at)
 
-abbrev pub HoldsAt : Spot → PolicyReader → Place → List ℕ → Type 0
+abbrev pub HoldsAt : Spot → PolicyReader → Position → List ℕ → Type 0
 HoldsAt (spot.Text begin) p at front = StandsIn begin p at front
 HoldsAt (spot.Inside begin) p at front = StandsIn begin p at front
 HoldsAt (spot.Closing begin) p at front = policy.EndsFor (line_start begin) p front
 HoldsAt _ p at front = Unit {0}
 
-abbrev pub Holds : DocReader → List ℕ → Type 0
-Holds r front = HoldsAt r.spot r.policy r.behind front
+abbrev pub HoldsBytes : DocReader → List ℕ → Type 0
+HoldsBytes r front = HoldsAt r.spot r.policy r.behind front
 
 -- ---- the text that a reader stands for
 
@@ -55,8 +55,8 @@ pub record StandsBy (end : Bool) (r : DocReader) (text : List ℕ) : Type 0 wher
   pub fed : r.fed ≡ length (counted text)
   pub row : r.row ≡ line_behind (take most_bytes text)
   pub front : List ℕ
-  pub holds : Holds r front
-  pub goes : (rest : List ℕ) (o : Outcome) → EndsAt end rest → Comes r front rest o → IsFrom (Lines start) 1 (lines_of (counted text ++ rest)) o
+  pub holds : HoldsBytes r front
+  pub goes : (rest : List ℕ) (o : Outcome) → EndsAt end rest → Comes r front rest o → IsFrom (Lines initial_state) 1 (lines_of (counted text ++ rest)) o
 
 -- The reader stands for a text.
 abbrev pub StandsFor : DocReader → List ℕ → Type 0
@@ -68,7 +68,7 @@ StandsFor r text = StandsBy false r text
 pub record Reaches (end : Bool) (old new : DocReader) : Type 0 where
   pub fed : new.fed ≡ old.fed
   pub row : new.row ≡ old.row
-  pub goes : (front : List ℕ) → Holds old front → (after : List ℕ) × Holds new after
+  pub goes : (front : List ℕ) → HoldsBytes old front → (after : List ℕ) × HoldsBytes new after
       × ((rest : List ℕ) (o : Outcome) → EndsAt end rest → Comes new after rest o → Comes old front rest o)
 
 -- a policy is to be made
@@ -130,7 +130,7 @@ pub record KeepsSpot (old new : DocReader) : Type 0 where
   pub row : new.row ≡ old.row
 
 -- the first bytes that were pending stand after the policy's text
-pub record Gives (len : ℕ) (old new : DocReader) : Type 0 where
+pub record HandsBack (len : ℕ) (old new : DocReader) : Type 0 where
   pub pending : new.pending.items ≡ drop len old.pending.items
   pub stands : (begin : ℕ) (front : List ℕ) → StandsIn begin old.policy old.behind front → StandsIn begin new.policy new.behind (front ++ take len old.pending.items)
 

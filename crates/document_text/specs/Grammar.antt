@@ -4,13 +4,13 @@ use Rattle.nk_values.specs.declared.fault.TextFault.{TextFault}
 use Rattle.nk_values.specs.declared.fault.TextFault.TheVariants.{BadLine, Limit, NoEdge, NoPolicy}
 use Rattle.nk_values.specs.Packets.{IsWellShaped}
 use Rattle.nk_syntax.specs.Terms.{Term}
-use Rattle.netkat_parser.specs.declared.fault.Place.{Place}
+use Rattle.netkat_parser.specs.declared.fault.Position.{Position}
 use Rattle.netkat_parser.specs.declared.fault.ParseFault.{ParseFault}
 use Rattle.netkat_parser.specs.Grammar.{IsText, Where}
 use Rattle.netkat_parser.specs.Places.{HasFault, place_behind}
 use Rattle.document_text.specs.declared.fault.DocFault.{DocFault}
 use Rattle.document_text.specs.Documents.{Doc, Outcome, Accepted, Refused}
-use Rattle.document_text.specs.States.{State, start, is_empty, has_edge, with_policy, doc_of_state}
+use Rattle.document_text.specs.States.{State, initial_state, is_empty, has_edge, with_policy, doc_of_state}
 use Rattle.document_text.specs.Steps.{Step, Next, Enters, Opens, Stops, step}
 use Rattle.document_text.specs.Texts.{lines_of, words_of, is_end}
 
@@ -28,7 +28,7 @@ abbrev pub refused_in : ParseFault → Outcome
 refused_in f = Refused (record { fault = f.fault; line = f.line; column = f.column })
 
 -- the place at which a line begins
-abbrev pub line_start : ℕ → Place
+abbrev pub line_start : ℕ → Position
 line_start n = record { line = n; column = 1 }
 
 -- What a line comes to, where `Go m` is what comes of it if reading goes on in the mode m.
@@ -99,7 +99,7 @@ within_limit text o = if nat_le (length text) most_bytes then o else cut_off (li
 
 -- What a text is. Bytes after the first one that is too many don't count.
 abbrev pub IsReading : List ℕ → Outcome → Type 0
-IsReading text o = (whole : Outcome) × IsFrom (Lines start) 1 (lines_of (take (most_bytes + 1) text)) whole × (o ≡ within_limit text whole)
+IsReading text o = (whole : Outcome) × IsFrom (Lines initial_state) 1 (lines_of (take (most_bytes + 1) text)) whole × (o ≡ within_limit text whole)
 
 -- the text is read as the document; it has this first fault
 abbrev pub IsDocument : List ℕ → Doc → Type 0

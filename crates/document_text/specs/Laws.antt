@@ -5,8 +5,8 @@ use Rattle.nk_values.specs.Packets.{IsWellShaped}
 use Rattle.nk_syntax.specs.Terms.{Term}
 use Rattle.netkat_parser.specs.Grammar.{IsText}
 use Rattle.topology_model.specs.Layouts.{Layout, is_edge, has_switch, place_of}
-use Rattle.document_text.specs.declared.document.Event.{Event}
-use Rattle.document_text.specs.declared.document.Event.TheVariants.{Send, Take, Apply, Reply, Heard, Arrive, Lost, Rejoin}
+use Rattle.document_text.specs.declared.document.ScheduleStep.{ScheduleStep}
+use Rattle.document_text.specs.declared.document.ScheduleStep.TheVariants.{Send, Take, Apply, Reply, Heard, Arrive, Lost, Rejoin}
 use Rattle.document_text.specs.declared.document.PacketLine.{PacketLine}
 use Rattle.document_text.specs.declared.document.ScheduleLine.{ScheduleLine}
 use Rattle.document_text.specs.declared.document.Settings.{Settings}
@@ -22,12 +22,12 @@ abbrev pub SomeOutcome : Type 0
 SomeOutcome = (text : List ℕ) → (o : Outcome) × IsReading text o
 
 -- the packet is well shaped and arrives at a port without a link
-pub record Arrives (t : Layout) (p : PacketLine) : Type 0 where
+pub record IsArrivalLine (t : Layout) (p : PacketLine) : Type 0 where
   pub shaped : IsWellShaped p.packet
   pub edge : is_edge t (place_of (p.packet.sw, p.packet.pt)) ≡ true
 
 -- the switch that the event names is declared, and the packet line is one of so many
-abbrev pub IsNamed : Layout → ℕ → Event → Type 0
+abbrev pub IsNamed : Layout → ℕ → ScheduleStep → Type 0
 IsNamed t n (Send sw) = has_switch t.switches sw ≡ true
 IsNamed t n (Take sw) = has_switch t.switches sw ≡ true
 IsNamed t n (Apply sw k) = has_switch t.switches sw ≡ true
@@ -56,7 +56,7 @@ pub record IsWithin (d : Doc) : Type 0 where
   pub packets : length d.packets ≤ 10000
   pub events : length d.schedule ≤ 100000
   pub read : (p : Term) → IsIn d.policies p → IsRead p
-  pub arrives : (p : PacketLine) → IsIn d.packets p → Arrives d.layout p
+  pub arrives : (p : PacketLine) → IsIn d.packets p → IsArrivalLine d.layout p
   pub named : (e : ScheduleLine) → IsIn d.schedule e → IsNamed d.layout (length d.packets) e.event
 
 -- Each document that is read is within the limits, its policies are read from texts, its packets arrive at edge ports, and its events name what there is.

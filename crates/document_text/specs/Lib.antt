@@ -11,4 +11,4 @@ pub mod States
 pub mod Steps
 pub mod Texts
 pub use Rattle.nk_syntax.specs.Terms
-pub use Rattle.topology_model.specs.declared.line.Site
+pub use Rattle.topology_model.specs.declared.line.DeclaredSwitch

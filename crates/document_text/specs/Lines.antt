@@ -10,11 +10,11 @@ use Rattle.topology_model.specs.Lines.{with_line, line_fault}
 use Rattle.topology_model.specs.declared.line.TopoLine.{TopoLine}
 use Rattle.topology_model.specs.declared.line.TopoLine.TheVariants as topology
 use Rattle.document_text.specs.declared.document.PacketLine.{PacketLine}
-use Rattle.document_text.specs.declared.told.Kind.{Kind}
-use Rattle.document_text.specs.declared.told.Kind.TheVariants.{Switch, Link, Setting, Policy, Packet, Schedule}
+use Rattle.document_text.specs.declared.declaration.LineKind.{LineKind}
+use Rattle.document_text.specs.declared.declaration.LineKind.TheVariants.{Switch, Link, Setting, Policy, Packet, Schedule}
 use Rattle.document_text.specs.States.{State, place_of_kind, is_late, is_empty, has_edge}
 use Rattle.document_text.specs.Texts.{numeral, numerals, end_of}
-use Rattle.document_text.specs.Packets.{Given, is_value, given_at, with_words}
+use Rattle.document_text.specs.Packets.{GivenFields, is_value, given_at, with_words}
 use Rattle.document_text.specs.Schedules.{refused_if, formed}
 
 -- with one more line of the topology
@@ -22,7 +22,7 @@ abbrev pub placed_by : State → Option TextFault → Result State TextFault
 placed_by s None = Ok s
 placed_by s (Some f) = Err f
 
-abbrev pub placed : State → Kind → TopoLine → Result State TextFault
+abbrev pub placed : State → LineKind → TopoLine → Result State TextFault
 placed s k l = placed_by (record s { reached = k; layout = with_line s.layout l }) (line_fault s.layout l)
 
 -- `switch S ports B1 B2 ..`
@@ -114,7 +114,7 @@ abbrev pub behind_policies : {A : Type 0} → State → Result A TextFault → R
 behind_policies s r = behind_topology s (refused_if (is_empty s.policies) NoPolicy r)
 
 -- `packet S:B`, and words with the packet's values
-abbrev pub packet_form : List (List ℕ) → Option ((ℕ × ℕ) × Given)
+abbrev pub packet_form : List (List ℕ) → Option ((ℕ × ℕ) × GivenFields)
 packet_form [] = None
 packet_form (w ∷ ws) = option_and_then (λ e. option_map (λ g. (e, g)) (with_words (given_at e) ws)) (end_of w)
 

@@ -36,7 +36,7 @@ pair_of w =
     then Some (before_first (λ b. b == 61) w, after_first (λ b. b == 61) w) else None
 
 -- What the words so far give: the names, the packet and its tag, whether a name is not listed, and whether a value is out of its range.
-pub record Given : Type 0 where
+pub record GivenFields : Type 0 where
   pub names : List (List ℕ)
   pub packet : Packet
   pub tag : Option ℕ
@@ -51,37 +51,37 @@ plain_packet e = record {
   header = record { eth_typ = 2048; ip_proto = 0; eth_src = 0; eth_dst = 0; ip4_src = 0; ip4_dst = 0; tcp_src_port = 0; tcp_dst_port = 0 };
 }
 
-abbrev pub given_at : ℕ × ℕ → Given
+abbrev pub given_at : ℕ × ℕ → GivenFields
 given_at e = record { names = []; packet = plain_packet e; tag = None; unknown = false; outside = false }
 
 -- the tag with this id
-abbrev pub with_tag : Given → ℕ → Given
+abbrev pub with_tag : GivenFields → ℕ → GivenFields
 with_tag g n = if is_vlan_id n then record g { tag = Some n } else record g { outside = true }
 
 -- this number in a field
-abbrev pub with_number : Given → Field → ℕ → Given
+abbrev pub with_number : GivenFields → Field → ℕ → GivenFields
 with_number g f n = if is_value f n then record g { packet = with_value g.packet f n } else record g { outside = true }
 
 -- the value of a field, which has to have one of its forms
-abbrev pub with_field : Given → Option Field → List ℕ → Option Given
+abbrev pub with_field : GivenFields → Option Field → List ℕ → Option GivenFields
 with_field g None run = Some (record g { unknown = true })
 with_field g (Some f) run = option_map (with_number g f) (number f run)
 
 -- what a name stands for, with its value
-abbrev pub with_named : Given → List ℕ → List ℕ → Option Given
+abbrev pub with_named : GivenFields → List ℕ → List ℕ → Option GivenFields
 with_named g name run =
     if bytes_eq name (codes "vlan") then option_map (with_tag g) (numeral run)
     else with_field g (find (λ f. bytes_eq name (name_of f)) header_fields) run
 
 -- with one more word, whose name has to be new
-abbrev pub with_pair : Given → List ℕ × List ℕ → Option Given
+abbrev pub with_pair : GivenFields → List ℕ × List ℕ → Option GivenFields
 with_pair g p =
     if list_any (bytes_eq p.0) g.names then None else with_named (record g { names = g.names ++ p.0 ∷ [] }) p.0 p.1
 
-abbrev pub with_word : Given → List ℕ → Option Given
+abbrev pub with_word : GivenFields → List ℕ → Option GivenFields
 with_word g w = option_and_then (with_pair g) (pair_of w)
 
 -- all words, where each is as it should be
-abbrev pub with_words : Given → List (List ℕ) → Option Given
+abbrev pub with_words : GivenFields → List (List ℕ) → Option GivenFields
 with_words g [] = Some g
 with_words g (w ∷ ws) = option_and_then (λ h. with_words h ws) (with_word g w)

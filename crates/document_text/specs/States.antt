@@ -5,13 +5,13 @@ use Rattle.nk_syntax.specs.Terms.{Term}
 use Rattle.topology_model.specs.Layouts.{Layout, empty, edges_of}
 use Rattle.document_text.specs.declared.document.PacketLine.{PacketLine}
 use Rattle.document_text.specs.declared.document.ScheduleLine.{ScheduleLine}
-use Rattle.document_text.specs.declared.told.Kind.{Kind}
-use Rattle.document_text.specs.declared.told.Kind.TheVariants as kind
+use Rattle.document_text.specs.declared.declaration.LineKind.{LineKind}
+use Rattle.document_text.specs.declared.declaration.LineKind.TheVariants as kind
 use Rattle.document_text.specs.Documents.{Doc}
 
 -- The kind of the latest line, the topology, settings where they were given, policies, packets, and the schedule, inside of which the next line may stand.
 pub record State : Type 0 where
-  pub reached : Kind
+  pub reached : LineKind
   pub layout : Layout
   pub hops : Option ℕ
   pub capacity : Option ℕ
@@ -24,8 +24,8 @@ pub record State : Type 0 where
   pub events : List ScheduleLine
 
 -- before the first line
-abbrev pub start : State
-start = record {
+abbrev pub initial_state : State
+initial_state = record {
   reached = kind.Switch;
   layout = empty;
   hops = None;
@@ -40,7 +40,7 @@ start = record {
 }
 
 -- the place of a kind in the order of lines
-abbrev pub place_of_kind : Kind → ℕ
+abbrev pub place_of_kind : LineKind → ℕ
 place_of_kind kind.Switch = 0
 place_of_kind kind.Link = 1
 place_of_kind kind.Setting = 2
@@ -49,7 +49,7 @@ place_of_kind kind.Packet = 4
 place_of_kind kind.Schedule = 5
 
 -- a line of this kind stands after one of a later kind
-abbrev pub is_late : State → Kind → Bool
+abbrev pub is_late : State → LineKind → Bool
 is_late s k = nat_lt (place_of_kind k) (place_of_kind s.reached)
 
 abbrev pub is_empty : {A : Type 0} → List A → Bool
@@ -64,7 +64,7 @@ has_edge t = not (is_empty (edges_of t))
 abbrev pub with_policy : State → Term → State
 with_policy s p = record s { policies = s.policies ++ p ∷ [] }
 
--- what was told, with the settings that hold where none were given
+-- what was declared, with the settings that hold where none were given
 abbrev pub doc_of_state : State → Doc
 doc_of_state s = record {
   layout = s.layout;

@@ -3,9 +3,9 @@ use Rattle.std.specs.Prelude.{ℕ, Bool, false, not, ◌&&◌, ◌||◌, nat_le,
 use Rattle.std.specs.Str.{bytes_eq}
 use Rattle.nk_values.specs.declared.fault.TextFault.{TextFault}
 use Rattle.nk_values.specs.declared.fault.TextFault.TheVariants.{BadLine, Limit}
-use Rattle.document_text.specs.declared.document.Event.{Event}
+use Rattle.document_text.specs.declared.document.ScheduleStep.{ScheduleStep}
 use Rattle.document_text.specs.declared.document.PacketLine.{PacketLine}
-use Rattle.document_text.specs.declared.told.Kind.TheVariants.{Packet}
+use Rattle.document_text.specs.declared.declaration.LineKind.TheVariants.{Packet}
 use Rattle.document_text.specs.declared.head.Head.{Head}
 use Rattle.document_text.specs.declared.head.Head.TheVariants as head
 use Rattle.document_text.specs.States.{State}
@@ -53,7 +53,7 @@ enters s (Ok p) = Enters p (record s { reached = Packet; packets = s.packets ++ 
 enters s (Err f) = Stops f
 
 -- a line of the schedule, which has this number
-abbrev pub happens : State → ℕ → Result Event TextFault → Step
+abbrev pub happens : State → ℕ → Result ScheduleStep TextFault → Step
 happens s n (Ok e) = Next (record s { events = s.events ++ record { line = n; event = e } ∷ [] })
 happens s n (Err f) = Stops f
 

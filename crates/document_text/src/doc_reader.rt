@@ -4,7 +4,7 @@ ghost use Rattle.std.specs.Prelude.{◌≤◌, ◌+◌, length};
 use crate::fault::DocFault;
 use crate::reader::Reader;
 use bytes::BytesMut;
-use netkat_parser::{Place, PolicyReader};
+use netkat_parser::{PolicyReader, Position};
 
 /// What is read next. The number in `Text`, `Inside` and `Closing` is the line at which the policy began.
 #[derive(Clone, Copy, Debug)]
@@ -31,7 +31,7 @@ pub struct DocReader {
     pub(crate) line: u64,
     // Of the policy in whose text the spot is, and the place after what it was fed.
     pub(crate) policy: PolicyReader,
-    pub(crate) behind: Place,
+    pub(crate) behind: Position,
     pub(crate) pending: BytesMut,
     // How many bytes that count were fed, at most one more than a document has, and the number of the line of the
     // byte after those that a document may have.

@@ -24,7 +24,7 @@ pub struct Settings {
 /// A command of a schedule. Switches go by their numbers, packet lines count from 1, and flow mods and
 /// flights from 0.
 #[derive(Clone, Copy, Debug, PartialEq, Eq)]
-pub enum Event {
+pub enum ScheduleStep {
     Begin,
     Send(u16),
     Take(u16),
@@ -45,7 +45,7 @@ pub enum Event {
 #[derive(Clone, Copy, Debug, PartialEq, Eq)]
 pub struct ScheduleLine {
     pub line: u64,
-    pub event: Event,
+    pub event: ScheduleStep,
 }
 
 /// A document: the topology, the policies from the first on, the packets, the settings and the schedule.

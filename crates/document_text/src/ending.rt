@@ -2,8 +2,8 @@
 ghost use Rattle.std.specs.Prelude.{◌≡◌, ℕ, List, [], MatchBool};
 ghost use Rattle.netkat_parser.specs.Places.{place_behind};
 ghost use Rattle.netkat_parser.specs.Readers.{StandsFor};
-ghost use Rattle.document_text.specs.Answers.{Answers, LacksAnswer};
-ghost use Rattle.document_text.specs.Feeding.{Holds, IsThrough, Comes};
+ghost use Rattle.document_text.specs.Answers.{AnswersDocument, LacksAnswer};
+ghost use Rattle.document_text.specs.Feeding.{HoldsBytes, IsThrough, Comes};
 ghost use Rattle.document_text.specs.Grammar.{line_start};
 
 use crate::doc_reader::{DocReader, Spot};
@@ -11,7 +11,7 @@ use crate::document::Document;
 use crate::fault::DocumentError;
 use crate::going::fault_in;
 use crate::take::refused;
-use netkat_parser::{ParseError, ParseFault, Place, PolicyReader};
+use netkat_parser::{ParseError, ParseFault, PolicyReader, Position};
 use nk_values::TextFault;
 use std::alloc::Global;
 
@@ -19,7 +19,7 @@ impl DocReader {
     /// What comes of all lines.
     pub(crate) fn ended(self, alloc: Global) -> Result<Document, DocumentError>
         requires { IsThrough self }
-        ensures { (front : List ℕ) → Holds self front → Answers (λ o. Comes self front [] o) result }
+        ensures { (front : List ℕ) → HoldsBytes self front → AnswersDocument (λ o. Comes self front [] o) result }
     {
         let DocReader {
             reader,
@@ -40,7 +40,7 @@ impl DocReader {
 }
 
 // Why a policy that has no `end` line is refused, where its text ends at this place and the lines at this one.
-fn unclosed(alloc: Global, policy: PolicyReader, behind: Place, line: u64) -> DocumentError
+fn unclosed(alloc: Global, policy: PolicyReader, behind: Position, line: u64) -> DocumentError
     ensures { (begin : ℕ) (front : List ℕ) → StandsFor (line_start begin) policy front → place_behind (line_start begin) front ≡ behind → LacksAnswer line begin front result }
 {
     let fault = match policy.finish(alloc) {
@@ -55,7 +55,7 @@ fn unclosed(alloc: Global, policy: PolicyReader, behind: Place, line: u64) -> Do
 }
 
 // Whether this is the fault's place.
-fn is_at(place: Place, fault: ParseFault) -> bool
+fn is_at(place: Position, fault: ParseFault) -> bool
     ensures { MatchBool result (place ≡ record { line = fault.line; column = fault.column }) (¬ (place ≡ record { line = fault.line; column = fault.column })) }
 {
     place.line == fault.line && place.column == fault.column

@@ -2,7 +2,7 @@
 ghost use Rattle.std.specs.Prelude.{◌≡◌, ◌++◌, ◌+◌, ◌≤◌, ℕ, List, [], length, take, OnOk, OnErr};
 ghost use Rattle.document_text.specs.Grammar.{IsReading, line_behind};
 ghost use Rattle.document_text.specs.Documents.{Outcome};
-ghost use Rattle.document_text.specs.Answers.{Answers, IsAnswer, Cuts};
+ghost use Rattle.document_text.specs.Answers.{AnswersDocument, IsAnswer, CutsText};
 ghost use Rattle.document_text.specs.Feeding.{StandsFor};
 
 use crate::doc_reader::{DocReader, Spot};
@@ -12,7 +12,7 @@ use crate::reader::Reader;
 use crate::take::refused;
 use bytes::BytesMut;
 use memchr::memchr;
-use netkat_parser::{Place, PolicyReader};
+use netkat_parser::{PolicyReader, Position};
 use nk_values::{MOST_DOCUMENT_BYTES, TextFault};
 use std::alloc::{AllocError, Global};
 
@@ -21,7 +21,7 @@ impl DocReader {
     pub fn new(alloc: Global) -> DocReader
         ensures { StandsFor result [] }
     {
-        let begin = Place { line: 1, column: 1 };
+        let begin = Position { line: 1, column: 1 };
         DocReader {
             reader: Reader::new(alloc),
             spot: Spot::Line,
@@ -51,7 +51,7 @@ impl DocReader {
 
     /// The document of the text that was fed, or its first fault.
     pub fn finish(self, alloc: Global) -> Result<Document, DocumentError>
-        ensures reads { (text : List ℕ) → StandsFor self text → Answers (IsReading text) result }
+        ensures reads { (text : List ℕ) → StandsFor self text → AnswersDocument (IsReading text) result }
 
         // The other way round: unless memory runs out, the answer is what the text is.
         ensures each { (text : List ℕ) (o : Outcome) → StandsFor self text → IsReading text o → IsAnswer o result }
@@ -119,7 +119,7 @@ fn line_behind(line: u64, front: &[u8]) -> u64
 
 // A fault before this line stands, and else the text has too many bytes.
 fn cut_off(whole: Result<Document, DocumentError>, line: u64) -> DocumentError
-    ensures { Cuts line whole result }
+    ensures { CutsText line whole result }
 {
     match whole {
         Err(DocumentError::Fault(fault)) if fault.line < line => DocumentError::Fault(fault),

@@ -1,8 +1,8 @@
 // Reading goes on over what is pending.
 ghost use Rattle.std.specs.Prelude.{◌≡◌, ◌≤◌, ◌<◌, true, false, ℕ, Bool, [], ◌∷◌, ◌++◌, length, take, OnOk, OnErr, IfOk, IfSome, IfNone, vec_len, vec_capacity};
 ghost use Rattle.document_text.specs.declared.doc_reader.Spot.TheVariants as spot;
-ghost use Rattle.document_text.specs.Answers.{state_of, Takes};
-ghost use Rattle.document_text.specs.Feeding.{Reaches, IsThrough, IsLine, IsPiece, KeepsAll, KeepsLine, KeepsSpot, Gives, GivesNothing, left};
+ghost use Rattle.document_text.specs.Answers.{state_of, TakesLine};
+ghost use Rattle.document_text.specs.Feeding.{Reaches, IsThrough, IsLine, IsPiece, KeepsAll, KeepsLine, KeepsSpot, HandsBack, GivesNothing, left};
 ghost use Rattle.netkat_parser.specs.Readers.{StandsFor};
 ghost use Rattle.document_text.specs.Grammar.{line_start};
 ghost use Rattle.document_text.specs.Steps.{step};
@@ -12,7 +12,7 @@ use crate::doc_reader::{DocReader, Spot};
 use crate::fault::{DocFault, Stop};
 use crate::reader::Taken;
 use crate::words::{is_end_line, is_no_end, line_end, words};
-use netkat_parser::{ParseError, ParseFault, Place, PolicyReader, place_behind};
+use netkat_parser::{ParseError, ParseFault, PolicyReader, Position, place_behind};
 use nk_syntax::Pol;
 use nk_values::TextFault;
 use std::alloc::{AllocError, Global};
@@ -82,7 +82,7 @@ impl DocReader {
     // Takes the words of a line of `len` bytes. It stays pending.
     fn take(&mut self, alloc: Global, len: usize) -> Result<Taken, Stop>
         requires { len ≤ length self.old.pending.items }
-        ensures takes { Takes (step (state_of self.old.reader) self.old.line (words_of (take len self.old.pending.items))) (state_of self.old.reader) (state_of self.new.reader) result }
+        ensures takes { TakesLine (step (state_of self.old.reader) self.old.line (words_of (take len self.old.pending.items))) (state_of self.old.reader) (state_of self.new.reader) result }
         ensures keeps { KeepsAll self.old self.new }
     {
         let words = words(alloc, &self.pending.as_slice()[..len])?;
@@ -156,7 +156,7 @@ impl DocReader {
     // Gives `len` bytes to the reader of the policy.
     fn give(&mut self, alloc: Global, len: usize) -> Result<(), AllocError>
         requires { len ≤ length self.old.pending.items }
-        ensures ok { OnOk result (Gives len self.old self.new) }
+        ensures ok { OnOk result (HandsBack len self.old self.new) }
         ensures err { OnErr result (GivesNothing self.old self.new) }
         ensures keeps { KeepsSpot self.old self.new }
     {
@@ -173,10 +173,10 @@ impl DocReader {
         ensures reaches { (end : Bool) → Reaches end self.old self.new }
         ensures less { OnOk result (left self.new < left self.old) }
     {
-        self.reader.told.policies.reserve(1)?;
+        self.reader.declared.policies.reserve(1)?;
         match self.policy.close(alloc) {
             Ok(pol) => {
-                put(&mut self.reader.told.policies, pol);
+                put(&mut self.reader.declared.policies, pol);
                 self.spot = Spot::Line;
             }
             Err(ParseError::Fault(fault)) => self.spot = Spot::Refused(fault_in(fault)),
@@ -210,10 +210,10 @@ fn put(policies: &mut Vec<Pol>, pol: Pol)
 }
 
 // The place at which a line begins.
-fn line_start(line: u64) -> Place
+fn line_start(line: u64) -> Position
     ensures { result ≡ line_start line }
 {
-    Place { line, column: 1 }
+    Position { line, column: 1 }
 }
 
 // A fault of a line outside policies.

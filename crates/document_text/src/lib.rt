@@ -1,6 +1,7 @@
 //! Documents from their text: a topology, settings, policies, packets and a schedule.
 #![tactic(auto)]
 
+mod declaration;
 mod doc_reader;
 mod document;
 mod ending;
@@ -15,14 +16,13 @@ mod reader;
 mod schedule;
 mod setting;
 mod take;
-mod told;
 mod topology;
 mod words;
 
 pub use doc_reader::DocReader;
-pub use document::{Document, Event, PacketLine, ScheduleLine, Settings};
+pub use document::{Document, PacketLine, ScheduleLine, ScheduleStep, Settings};
 pub use fault::{DocFault, DocumentError};
 pub use laws::{one_outcome, says_its_parts, within};
 pub use nk_syntax::{Pol, Pols, Pred};
 pub use read::read_document;
-pub use topology_model::{Site, Topology};
+pub use topology_model::{DeclaredSwitch, Topology};

@@ -8,25 +8,25 @@ ghost use Rattle.nk_values.specs.Names.{name_of, header_fields};
 ghost use Rattle.document_text.specs.declared.document.PacketLine.{PacketLine as Line};
 ghost use Rattle.document_text.specs.Packets.{is_name, is_run, pair_of, plain_packet, given_at, with_tag, with_number, with_field, with_named, with_word, with_words};
 ghost use Rattle.document_text.specs.Lines.{packet_form, packet_line, at_edge};
-ghost use Rattle.document_text.specs.Answers.{texts, state_of, given_of, Forms, Gives, Lets, Matches};
+ghost use Rattle.document_text.specs.Answers.{texts, state_of, given_of, Forms, GivesValues, Lets, Matches};
 
+use crate::declaration::LineKind;
 use crate::document::PacketLine;
 use crate::fault::Stop;
 use crate::head::is_text;
 use crate::reader::Reader;
-use crate::told::Kind;
 use crate::topology::end_in_range;
 use crate::words::{end_of, number};
 use indexmap::IndexSet;
 use netkat_parser::{cut, has_form, is_run_byte, number_of};
 use nk_values::{Field, GREATEST_VLAN_ID, Header, IPV4_TYPE, Packet, Tag, TextFault};
 use std::alloc::Global;
-use topology_model::End;
+use topology_model::PortRef;
 
 /// What the words so far give: their names, the packet and its tag, whether a name is not listed, and
 /// whether a value is out of its range.
 #[derive(Drop)]
-pub struct Given<'a> {
+pub struct GivenFields<'a> {
     names: IndexSet<&'a [u8]>,
     packet: Packet,
     tag: Tag,
@@ -42,8 +42,8 @@ pub fn packet_line(reader: &Reader, alloc: Global, words: &[&[u8]]) -> Result<Pa
         return Err(Stop::Fault(TextFault::BadLine));
     };
     let numbers = end_of(first)?;
-    let given = with_words(Given::new(alloc, numbers), rest)?;
-    if reader.is_late(Kind::Packet) {
+    let given = with_words(GivenFields::new(alloc, numbers), rest)?;
+    if reader.is_late(LineKind::Packet) {
         return Err(Stop::Fault(TextFault::BadLine));
     }
     reader.behind_policies(alloc)?;
@@ -62,7 +62,7 @@ pub fn packet_line(reader: &Reader, alloc: Global, words: &[&[u8]]) -> Result<Pa
 }
 
 // Stops where this is no declared port without a link.
-fn at_edge(reader: &Reader, end: End) -> Result<(), Stop>
+fn at_edge(reader: &Reader, end: PortRef) -> Result<(), Stop>
     ensures { Lets {A = Line} (at_edge (state_of reader.now) end) result }
 {
     if !reader.draft.has_switch(end.0) {
@@ -77,7 +77,7 @@ fn at_edge(reader: &Reader, end: End) -> Result<(), Stop>
 }
 
 // With all words.
-fn with_words<'a>(given: Given<'a>, words: &[&'a [u8]]) -> Result<Given<'a>, Stop>
+fn with_words<'a>(given: GivenFields<'a>, words: &[&'a [u8]]) -> Result<GivenFields<'a>, Stop>
     ensures { Forms given_of (with_words (given_of given.entry) (texts words.now)) result }
 {
     let mut given = given;
@@ -87,12 +87,12 @@ fn with_words<'a>(given: Given<'a>, words: &[&'a [u8]]) -> Result<Given<'a>, Sto
     Ok(given)
 }
 
-impl<'a> Given<'a> {
+impl<'a> GivenFields<'a> {
     // An IPv4 packet at a place, with 0 in each other field.
-    fn new(alloc: Global, end: (u64, u64)) -> Given<'a>
+    fn new(alloc: Global, end: (u64, u64)) -> GivenFields<'a>
         ensures { given_of result ≡ given_at end }
     {
-        Given {
+        GivenFields {
             names: IndexSet::new(alloc),
             packet: plain_packet(end),
             tag: Tag::none(),
@@ -103,7 +103,7 @@ impl<'a> Given<'a> {
 
     // With one more word.
     fn add(&mut self, word: &'a [u8]) -> Result<(), Stop>
-        ensures { Gives (with_word (given_of self.old) word.now) (given_of self.new) result }
+        ensures { GivesValues (with_word (given_of self.old) word.now) (given_of self.new) result }
     {
         let (name, run) = pair_of(word)?;
         if self.names.contains(&name) {
@@ -115,7 +115,7 @@ impl<'a> Given<'a> {
 
     // With the value of a name.
     fn put(&mut self, name: &[u8], run: &[u8]) -> Result<(), Stop>
-        ensures { Gives (with_named (given_of self.old) name.now run.now) (given_of self.new) result }
+        ensures { GivesValues (with_named (given_of self.old) name.now run.now) (given_of self.new) result }
     {
         if is_text(name, "vlan") {
             let id = number(run)?;
@@ -142,7 +142,7 @@ impl<'a> Given<'a> {
     }
 
     fn put_value(&mut self, field: Field, run: &[u8]) -> Result<(), Stop>
-        ensures { Gives (with_field (given_of self.old) (Some field) run.now) (given_of self.new) result }
+        ensures { GivesValues (with_field (given_of self.old) (Some field) run.now) (given_of self.new) result }
     {
         match number_of(field, run) {
             Some(n) => self.put_number(field, n),

@@ -1,7 +1,7 @@
 // From a text to its document, or to its first fault and where that is.
 ghost use Rattle.document_text.specs.Documents.{Outcome};
 ghost use Rattle.document_text.specs.Grammar.{IsReading};
-ghost use Rattle.document_text.specs.Answers.{Answers, IsAnswer};
+ghost use Rattle.document_text.specs.Answers.{AnswersDocument, IsAnswer};
 
 use crate::doc_reader::DocReader;
 use crate::document::Document;
@@ -24,7 +24,7 @@ use std::alloc::Global;
 /// schedule .. end             events in lines of their own
 /// ```
 pub fn read_document(alloc: Global, text: &[u8]) -> Result<Document, DocumentError>
-    ensures reads { Answers (IsReading text.now) result }
+    ensures reads { AnswersDocument (IsReading text.now) result }
 
     // The other way round: unless memory runs out, the answer is what the text is.
     ensures each { (o : Outcome) → IsReading text.now o → IsAnswer o result }

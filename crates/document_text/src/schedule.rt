@@ -7,10 +7,10 @@ ghost use Rattle.document_text.specs.Lines.{schedule_line};
 ghost use Rattle.document_text.specs.Packets.{is_vlan_id};
 ghost use Rattle.document_text.specs.Answers.{texts, state_of, Becomes, Forms, Matches, Ranges, NamesSwitch};
 
-use crate::document::Event;
+use crate::declaration::LineKind;
+use crate::document::ScheduleStep;
 use crate::fault::Stop;
 use crate::reader::Reader;
-use crate::told::Kind;
 use crate::topology::switch_of;
 use crate::words::number;
 use event_words::EventWord;
@@ -24,17 +24,17 @@ const LAST_INDEX: u64 = 0xffff_ffff;
 pub fn schedule_line(reader: &mut Reader, alloc: Global, words: &[&[u8]]) -> Result<(), Stop>
     ensures { Becomes (schedule_line (state_of reader.old) (texts words.now)) (state_of reader.old) (state_of reader.new) result }
 {
-    if !words.is_empty() || reader.told.reached.place() >= 5 {
+    if !words.is_empty() || reader.declared.reached.place() >= 5 {
         return Err(Stop::Fault(TextFault::BadLine));
     }
     reader.behind_policies(alloc)?;
-    reader.told.reached = Kind::Schedule;
-    reader.told.inside = true;
+    reader.declared.reached = LineKind::Schedule;
+    reader.declared.inside = true;
     Ok(())
 }
 
 /// The event of a line.
-pub fn event_of(reader: &Reader, words: &[&[u8]]) -> Result<Event, Stop>
+pub fn event_of(reader: &Reader, words: &[&[u8]]) -> Result<ScheduleStep, Stop>
     ensures { Matches (λ e. e) (event_of (state_of reader.now) (texts words.now)) result }
 {
     match words {
@@ -63,56 +63,56 @@ fn word_of(word: &[u8]) -> Result<EventWord, Stop>
     }
 }
 
-fn event_alone(word: EventWord) -> Result<Event, Stop>
+fn event_alone(word: EventWord) -> Result<ScheduleStep, Stop>
     ensures { Matches (λ e. e) (event_alone word) result }
 {
     match word {
-        EventWord::Begin => Ok(Event::Begin),
-        EventWord::Settle => Ok(Event::Settle),
-        EventWord::Flow => Ok(Event::Flow),
+        EventWord::Begin => Ok(ScheduleStep::Begin),
+        EventWord::Settle => Ok(ScheduleStep::Settle),
+        EventWord::Flow => Ok(ScheduleStep::Flow),
         _ => Err(Stop::Fault(TextFault::BadLine)),
     }
 }
 
 // A command with one number.
-fn event_of_one(reader: &Reader, word: EventWord, number: u64) -> Result<Event, Stop>
+fn event_of_one(reader: &Reader, word: EventWord, number: u64) -> Result<ScheduleStep, Stop>
     ensures { Matches (λ e. e) (event_of_one (state_of reader.now) word number) result }
 {
     match word {
-        EventWord::Send => Ok(Event::Send(declared(reader, number)?)),
-        EventWord::Take => Ok(Event::Take(declared(reader, number)?)),
-        EventWord::Reply => Ok(Event::Reply(declared(reader, number)?)),
-        EventWord::Heard => Ok(Event::Heard(declared(reader, number)?)),
-        EventWord::Lost => Ok(Event::Lost(declared(reader, number)?)),
-        EventWord::Rejoin => Ok(Event::Rejoin(declared(reader, number)?)),
+        EventWord::Send => Ok(ScheduleStep::Send(declared(reader, number)?)),
+        EventWord::Take => Ok(ScheduleStep::Take(declared(reader, number)?)),
+        EventWord::Reply => Ok(ScheduleStep::Reply(declared(reader, number)?)),
+        EventWord::Heard => Ok(ScheduleStep::Heard(declared(reader, number)?)),
+        EventWord::Lost => Ok(ScheduleStep::Lost(declared(reader, number)?)),
+        EventWord::Rejoin => Ok(ScheduleStep::Rejoin(declared(reader, number)?)),
         EventWord::Arrive => arrive(reader, number),
-        EventWord::Hop => Ok(Event::Hop(index_of(number)?)),
-        EventWord::Stuck => Ok(Event::Stuck(index_of(number)?)),
-        EventWord::Drained => Ok(Event::Drained(stamp_of(number)?)),
+        EventWord::Hop => Ok(ScheduleStep::Hop(index_of(number)?)),
+        EventWord::Stuck => Ok(ScheduleStep::Stuck(index_of(number)?)),
+        EventWord::Drained => Ok(ScheduleStep::Drained(stamp_of(number)?)),
         _ => Err(Stop::Fault(TextFault::BadLine)),
     }
 }
 
 // The arrival of a packet line.
-fn arrive(reader: &Reader, number: u64) -> Result<Event, Stop>
+fn arrive(reader: &Reader, number: u64) -> Result<ScheduleStep, Stop>
     ensures { Matches (λ e. e) (arrival (state_of reader.now) number) result }
 {
-    if number >= 1 && number <= reader.told.packets.len() as u64 {
-        Ok(Event::Arrive(number as usize))
+    if number >= 1 && number <= reader.declared.packets.len() as u64 {
+        Ok(ScheduleStep::Arrive(number as usize))
     } else {
         Err(Stop::Fault(TextFault::BadLine))
     }
 }
 
 // `apply` with a switch and the place of a flow mod.
-fn event_of_two(reader: &Reader, word: EventWord, sw: u64, index: u64) -> Result<Event, Stop>
+fn event_of_two(reader: &Reader, word: EventWord, sw: u64, index: u64) -> Result<ScheduleStep, Stop>
     ensures { Matches (λ e. e) (event_of_two (state_of reader.now) word sw index) result }
 {
     if word != EventWord::Apply {
         return Err(Stop::Fault(TextFault::BadLine));
     }
     let index = index_of(index)?;
-    Ok(Event::Apply(declared(reader, sw)?, index))
+    Ok(ScheduleStep::Apply(declared(reader, sw)?, index))
 }
 
 // A switch that the topology declares.

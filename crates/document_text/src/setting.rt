@@ -4,9 +4,9 @@ ghost use Rattle.document_text.specs.States.{State, has_edge};
 ghost use Rattle.document_text.specs.Lines.{unset, one_numeral, two_numerals, new_number, hops_line, capacity_line, stamps_line, rejoins_line, overlap_line, policy_line};
 ghost use Rattle.document_text.specs.Answers.{texts, state_of, Becomes, Forms, Leads, Lets};
 
+use crate::declaration::LineKind;
 use crate::fault::Stop;
 use crate::reader::Reader;
-use crate::told::Kind;
 use crate::words::number;
 use nk_values::{GREATEST_VLAN_ID, TextFault};
 use std::alloc::Global;
@@ -23,7 +23,7 @@ fn unset(reader: &Reader, alloc: Global, given: bool) -> Result<(), Stop>
     ensures tests { Lets {A = State} (unset (state_of reader.now) given) result }
     ensures edge { OnOk result (has_edge reader.now.draft ≡ true) }
 {
-    if reader.is_late(Kind::Setting) || given {
+    if reader.is_late(LineKind::Setting) || given {
         return Err(Stop::Fault(TextFault::BadLine));
     }
     reader.behind_topology(alloc)
@@ -76,10 +76,10 @@ fn new_number(
 pub fn hops_line(reader: &mut Reader, alloc: Global, words: &[&[u8]]) -> Result<(), Stop>
     ensures { Becomes (hops_line (state_of reader.old) (texts words.now)) (state_of reader.old) (state_of reader.new) result }
 {
-    let given = reader.told.hops.is_some();
+    let given = reader.declared.hops.is_some();
     let hops = new_number(reader, alloc, words, given, 1, MOST_HOPS)?;
-    reader.told.hops = Some(hops as u32);
-    reader.told.reached = Kind::Setting;
+    reader.declared.hops = Some(hops as u32);
+    reader.declared.reached = LineKind::Setting;
     Ok(())
 }
 
@@ -87,10 +87,10 @@ pub fn hops_line(reader: &mut Reader, alloc: Global, words: &[&[u8]]) -> Result<
 pub fn capacity_line(reader: &mut Reader, alloc: Global, words: &[&[u8]]) -> Result<(), Stop>
     ensures { Becomes (capacity_line (state_of reader.old) (texts words.now)) (state_of reader.old) (state_of reader.new) result }
 {
-    let given = reader.told.capacity.is_some();
+    let given = reader.declared.capacity.is_some();
     let capacity = new_number(reader, alloc, words, given, 1, MOST_ROWS)?;
-    reader.told.capacity = Some(capacity as u32);
-    reader.told.reached = Kind::Setting;
+    reader.declared.capacity = Some(capacity as u32);
+    reader.declared.reached = LineKind::Setting;
     Ok(())
 }
 
@@ -99,15 +99,15 @@ pub fn stamps_line(reader: &mut Reader, alloc: Global, words: &[&[u8]]) -> Resul
     ensures { Becomes (stamps_line (state_of reader.old) (texts words.now)) (state_of reader.old) (state_of reader.new) result }
 {
     let (low, high) = two_numerals(words)?;
-    unset(reader, alloc, reader.told.stamps.is_some())?;
+    unset(reader, alloc, reader.declared.stamps.is_some())?;
     if low < 1 || low > high || high > u64::from(GREATEST_VLAN_ID) {
         return Err(Stop::Fault(TextFault::StampRange));
     }
     if low == high {
         return Err(Stop::Fault(TextFault::TooFewStamps));
     }
-    reader.told.stamps = Some((low as u16, high as u16));
-    reader.told.reached = Kind::Setting;
+    reader.declared.stamps = Some((low as u16, high as u16));
+    reader.declared.reached = LineKind::Setting;
     Ok(())
 }
 
@@ -115,10 +115,10 @@ pub fn stamps_line(reader: &mut Reader, alloc: Global, words: &[&[u8]]) -> Resul
 pub fn rejoins_line(reader: &mut Reader, alloc: Global, words: &[&[u8]]) -> Result<(), Stop>
     ensures { Becomes (rejoins_line (state_of reader.old) (texts words.now)) (state_of reader.old) (state_of reader.new) result }
 {
-    let given = reader.told.rejoins.is_some();
+    let given = reader.declared.rejoins.is_some();
     let rejoins = new_number(reader, alloc, words, given, 0, MOST_REJOINS)?;
-    reader.told.rejoins = Some(rejoins as u32);
-    reader.told.reached = Kind::Setting;
+    reader.declared.rejoins = Some(rejoins as u32);
+    reader.declared.reached = LineKind::Setting;
     Ok(())
 }
 
@@ -129,9 +129,9 @@ pub fn overlap_line(reader: &mut Reader, alloc: Global, words: &[&[u8]]) -> Resu
     if !words.is_empty() {
         return Err(Stop::Fault(TextFault::BadLine));
     }
-    unset(reader, alloc, reader.told.overlap)?;
-    reader.told.overlap = true;
-    reader.told.reached = Kind::Setting;
+    unset(reader, alloc, reader.declared.overlap)?;
+    reader.declared.overlap = true;
+    reader.declared.reached = LineKind::Setting;
     Ok(())
 }
 
@@ -139,10 +139,10 @@ pub fn overlap_line(reader: &mut Reader, alloc: Global, words: &[&[u8]]) -> Resu
 pub fn policy_line(reader: &mut Reader, alloc: Global, words: &[&[u8]]) -> Result<(), Stop>
     ensures { Becomes (policy_line (state_of reader.old) (texts words.now)) (state_of reader.old) (state_of reader.new) result }
 {
-    if !words.is_empty() || reader.is_late(Kind::Policy) {
+    if !words.is_empty() || reader.is_late(LineKind::Policy) {
         return Err(Stop::Fault(TextFault::BadLine));
     }
     reader.behind_topology(alloc)?;
-    reader.told.reached = Kind::Policy;
+    reader.declared.reached = LineKind::Policy;
     Ok(())
 }

@@ -6,6 +6,7 @@ ghost use Rattle.document_text.specs.Lines.{packet_line};
 ghost use Rattle.document_text.specs.Answers.{state_of, texts};
 ghost use Rattle.document_text.specs.declared.fault.DocumentError.TheVariants as to;
 
+use crate::declaration::{Declared, LineKind};
 use crate::document::{Document, ScheduleLine, Settings};
 use crate::fault::{DocFault, DocumentError, Stop};
 use crate::head::{Head, head_of};
@@ -15,7 +16,6 @@ use crate::schedule::{event_of, schedule_line};
 use crate::setting::{
     capacity_line, hops_line, overlap_line, policy_line, rejoins_line, stamps_line,
 };
-use crate::told::{Kind, Told};
 use crate::topology::{link_line, switch_line};
 use crate::words::is_end;
 use nk_values::{GREATEST_VLAN_ID, TextFault, well_shaped};
@@ -32,35 +32,35 @@ const MOST_EVENTS: usize = 100_000;
 impl Reader {
     ghost use Rattle.std.specs.Prelude.{OnOk};
     ghost use Rattle.document_text.specs.declared.document.PacketLine.{PacketLine as Packet};
-    ghost use Rattle.document_text.specs.States.{State, start, is_late};
+    ghost use Rattle.document_text.specs.States.{State, initial_state, is_late};
     ghost use Rattle.document_text.specs.Steps.{step, is_too_many, declares};
     ghost use Rattle.document_text.specs.Grammar.{finished};
     ghost use Rattle.document_text.specs.Answers.{texts, IsAnswer};
     ghost use Rattle.document_text.specs.Lines.{behind_topology, behind_policies};
-    ghost use Rattle.document_text.specs.Answers.{state_of, FindsEdge, Lets, Takes, Passes};
+    ghost use Rattle.document_text.specs.Answers.{state_of, FindsEdge, Lets, TakesLine, Passes};
 
     /// Before the first line.
     pub fn new(alloc: Global) -> Reader
-        ensures { state_of result ≡ start }
+        ensures { state_of result ≡ initial_state }
     {
         Reader {
             draft: Draft::new(alloc),
-            told: Told::new(alloc),
+            declared: Declared::new(alloc),
         }
     }
 
     /// Whether a line of this kind stands after one of a later kind.
-    pub fn is_late(&self, kind: Kind) -> bool
+    pub fn is_late(&self, kind: LineKind) -> bool
         ensures { result ≡ is_late (state_of self.now) kind }
     {
-        kind.place() < self.told.reached.place()
+        kind.place() < self.declared.reached.place()
     }
 
     /// Stops if no port is without a link.
     pub fn behind_topology(&self, alloc: Global) -> Result<(), Stop>
         ensures { FindsEdge (has_edge self.now.draft) result }
     {
-        if self.told.reached.place() >= 2 || !self.draft.edges(alloc)?.is_empty() {
+        if self.declared.reached.place() >= 2 || !self.draft.edges(alloc)?.is_empty() {
             Ok(())
         } else {
             Err(Stop::Fault(TextFault::NoEdge))
@@ -74,7 +74,7 @@ impl Reader {
         ensures edge { OnOk result (has_edge self.now.draft ≡ true) }
     {
         self.behind_topology(alloc)?;
-        if self.told.policies.is_empty() {
+        if self.declared.policies.is_empty() {
             return Err(Stop::Fault(TextFault::NoPolicy));
         }
         Ok(())
@@ -82,7 +82,7 @@ impl Reader {
 
     /// Takes the words of the line with this number. If memory runs out, nothing changes.
     pub fn take(&mut self, alloc: Global, line: u64, words: &[&[u8]]) -> Result<Taken, Stop>
-        ensures { Takes (step (state_of self.old) line (texts words.now)) (state_of self.old) (state_of self.new) result }
+        ensures { TakesLine (step (state_of self.old) line (texts words.now)) (state_of self.old) (state_of self.new) result }
     {
         let Some((first, rest)) = words.split_first() else {
             return Ok(Taken::Line);
@@ -91,7 +91,7 @@ impl Reader {
         if self.is_too_many(head, words) {
             return Err(Stop::Fault(TextFault::Limit));
         }
-        if self.told.inside {
+        if self.declared.inside {
             self.scheduled(line, words)?;
             return Ok(Taken::Line);
         }
@@ -102,17 +102,19 @@ impl Reader {
     fn is_too_many(&self, head: Head, words: &[&[u8]]) -> bool
         ensures { result ≡ is_too_many (state_of self.now) head (texts words.now) }
     {
-        let event = self.told.inside && !is_end(words) && self.told.events.len() >= MOST_EVENTS;
+        let event = self.declared.inside
+            && !is_end(words)
+            && self.declared.events.len() >= MOST_EVENTS;
         match head {
-            Head::Policy => self.told.policies.len() >= MOST_POLICIES || event,
-            Head::Packet => self.told.packets.len() >= MOST_PACKETS || event,
+            Head::Policy => self.declared.policies.len() >= MOST_POLICIES || event,
+            Head::Packet => self.declared.packets.len() >= MOST_PACKETS || event,
             _ => event,
         }
     }
 
     // Takes a line outside the schedule.
     fn declares(&mut self, alloc: Global, head: Head, words: &[&[u8]]) -> Result<Taken, Stop>
-        ensures { Takes (declares (state_of self.old) head (texts words.now)) (state_of self.old) (state_of self.new) result }
+        ensures { TakesLine (declares (state_of self.old) head (texts words.now)) (state_of self.old) (state_of self.new) result }
     {
         match head {
             Head::Switch => switch_line(self, alloc, words)?,
@@ -138,10 +140,10 @@ impl Reader {
         ensures { Passes (scheduled (state_of self.old) line (texts words.now)) (state_of self.old) (state_of self.new) result }
     {
         if is_end(words) {
-            self.told.inside = false;
+            self.declared.inside = false;
         } else {
             let event = event_of(self, words)?;
-            self.told.events.push(ScheduleLine { line, event })?;
+            self.declared.events.push(ScheduleLine { line, event })?;
         }
         Ok(())
     }
@@ -154,8 +156,8 @@ impl Reader {
         if !well_shaped(&line.packet) {
             return Err(Stop::Fault(TextFault::BadLine));
         }
-        self.told.packets.push(line)?;
-        self.told.reached = Kind::Packet;
+        self.declared.packets.push(line)?;
+        self.declared.reached = LineKind::Packet;
         Ok(())
     }
 
@@ -163,30 +165,30 @@ impl Reader {
     pub fn finish(self, alloc: Global, line: u64) -> Result<Document, DocumentError>
         ensures { IsAnswer (finished (state_of self) line) result }
     {
-        if self.told.inside {
+        if self.declared.inside {
             return Err(refused(line, TextFault::BadLine));
         }
-        let Reader { draft, told } = self;
+        let Reader { draft, declared } = self;
         let topology = match Topology::finish(alloc, draft) {
             Ok(topology) => topology,
             Err(LineError::Fault(fault)) => return Err(refused(line, fault)),
             Err(LineError::Memory) => return Err(DocumentError::Memory),
         };
-        if told.policies.is_empty() {
+        if declared.policies.is_empty() {
             return Err(refused(line, TextFault::NoPolicy));
         }
         Ok(Document {
             topology,
-            policies: told.policies,
-            packets: told.packets,
+            policies: declared.policies,
+            packets: declared.packets,
             settings: Settings {
-                hops: told.hops.unwrap_or(64),
-                capacity: told.capacity.unwrap_or(200_000),
-                stamps: told.stamps.unwrap_or((1, GREATEST_VLAN_ID)),
-                rejoins: told.rejoins.unwrap_or(0),
-                overlap: told.overlap,
+                hops: declared.hops.unwrap_or(64),
+                capacity: declared.capacity.unwrap_or(200_000),
+                stamps: declared.stamps.unwrap_or((1, GREATEST_VLAN_ID)),
+                rejoins: declared.rejoins.unwrap_or(0),
+                overlap: declared.overlap,
             },
-            schedule: told.events,
+            schedule: declared.events,
         })
     }
 }

@@ -8,27 +8,32 @@ ghost use Rattle.document_text.specs.States.{place_of_kind};
 ghost use Rattle.document_text.specs.Lines.{switch_form, switch_line, link_form, link_line, is_end_value, placed};
 ghost use Rattle.document_text.specs.Answers.{texts, state_of, Becomes, Forms, Ranges};
 
+use crate::declaration::LineKind;
 use crate::fault::Stop;
 use crate::head::is_text;
 use crate::reader::Reader;
-use crate::told::Kind;
 use crate::words::{end_of, number, numbers};
 use nk_values::{Field, TextFault};
 use std::alloc::Global;
-use topology_model::{End, LineError, Ports, TopoLine};
+use topology_model::{LineError, PortRef, Ports, TopoLine};
 
 /// Takes `switch S ports B1 B2 ..`.
 pub fn switch_line(reader: &mut Reader, alloc: Global, words: &[&[u8]]) -> Result<(), Stop>
     ensures { Becomes (switch_line (state_of reader.old) (texts words.now)) (state_of reader.old) (state_of reader.new) result }
 {
     let (number, numbers) = switch_form(alloc, words)?;
-    if reader.is_late(Kind::Switch) {
+    if reader.is_late(LineKind::Switch) {
         return Err(Stop::Fault(TextFault::BadLine));
     }
     let sw = switch_of(number)?;
     let in_range = ports_of(alloc, &numbers)?;
     let ports = Ports::of(in_range);
-    placed(reader, alloc, Kind::Switch, &TopoLine::Switch { sw, ports })
+    placed(
+        reader,
+        alloc,
+        LineKind::Switch,
+        &TopoLine::Switch { sw, ports },
+    )
 }
 
 // The numbers of a switch and its ports.
@@ -79,7 +84,7 @@ pub fn port_of(number: u64) -> Result<u16, Stop>
 }
 
 /// The end with these numbers, if both are in their range.
-pub fn end_in_range(numbers: (u64, u64)) -> Result<End, Stop>
+pub fn end_in_range(numbers: (u64, u64)) -> Result<PortRef, Stop>
     ensures { Ranges (is_end_value numbers) (λ e. e ≡ numbers) result }
 {
     let sw = switch_of(numbers.0)?;
@@ -92,12 +97,12 @@ pub fn link_line(reader: &mut Reader, alloc: Global, words: &[&[u8]]) -> Result<
     ensures { Becomes (link_line (state_of reader.old) (texts words.now)) (state_of reader.old) (state_of reader.new) result }
 {
     let (first, second) = link_form(words)?;
-    if reader.is_late(Kind::Link) {
+    if reader.is_late(LineKind::Link) {
         return Err(Stop::Fault(TextFault::BadLine));
     }
     let a = end_in_range(first)?;
     let b = end_in_range(second)?;
-    placed(reader, alloc, Kind::Link, &TopoLine::Link { a, b })
+    placed(reader, alloc, LineKind::Link, &TopoLine::Link { a, b })
 }
 
 // The numbers of the two ends.
@@ -115,14 +120,14 @@ fn link_form(words: &[&[u8]]) -> Result<((u64, u64), (u64, u64)), Stop>
 }
 
 // With one more line of the topology.
-fn placed(reader: &mut Reader, alloc: Global, kind: Kind, line: &TopoLine) -> Result<(), Stop>
+fn placed(reader: &mut Reader, alloc: Global, kind: LineKind, line: &TopoLine) -> Result<(), Stop>
     requires in_range { IsLineInRange line.now }
     requires kind { nat_le 2 (place_of_kind kind) ≡ false }
     ensures { Becomes (placed (state_of reader.old) kind line.now) (state_of reader.old) (state_of reader.new) result }
 {
     match reader.draft.add(alloc, line) {
         Ok(()) => {
-            reader.told.reached = kind;
+            reader.declared.reached = kind;
             Ok(())
         }
         Err(LineError::Fault(fault)) => Err(Stop::Fault(fault)),

@@ -11,7 +11,7 @@ use Rattle.program_answer.specs.declared.answer.AnswerError.{AnswerError}
 use Rattle.program_answer.specs.declared.answer.AnswerError.TheVariants as error
 use Rattle.program_answer.specs.Answers.{Reads, Stops}
 use Rattle.program_answer.specs.Called.{Change, SourceSeen}
-use Rattle.program_answer.specs.Input.{IsAccepted, IsAcceptedAs, IsRefused}
+use Rattle.program_answer.specs.Input.{IsAccepted, IsAcceptedAs, IsInputRefused}
 use Rattle.program_answer.proofs.Stopping.{reads_more}
 use Rattle.drive_command.specs.Drive.{DriveStops, IsDriveAnswer, IsDrivenAs, IsToldAs, TellsDriveCut, beginning}
 
@@ -51,7 +51,7 @@ cut_stops s ports threads reports d versions (error.Fault (fault.Compile policy 
 cut_stops s ports threads reports d versions (error.Fault (fault.Emit policy f)) read h = absurd h
 
 -- what stops every command stops a drive
-pub input_stops : (s : SourceSeen) (ports threads reports : Change ℕ) (e : AnswerError) → Stops IsRefused s e → DriveStops s ports threads reports e
+pub input_stops : (s : SourceSeen) (ports threads reports : Change ℕ) (e : AnswerError) → Stops IsInputRefused s e → DriveStops s ports threads reports e
 input_stops s ports threads reports error.Memory h = h
 input_stops s ports threads reports (error.Fault fault.Net) h = absurd h
 input_stops s ports threads reports (error.Fault fault.NoThread) h = absurd h

@@ -15,7 +15,7 @@ use Rattle.program_answer.specs.declared.answer.AnswerError.TheVariants as error
 use Rattle.program_answer.specs.declared.status.Status.{Status}
 use Rattle.program_answer.specs.Answers.{Reads, StopsBy}
 use Rattle.program_answer.specs.Called.{Change, HasRisen, IsSame, SourceSeen}
-use Rattle.program_answer.specs.Input.{IsAccepted, IsAcceptedAs, IsRefused}
+use Rattle.program_answer.specs.Input.{IsAccepted, IsAcceptedAs, IsInputRefused}
 use Rattle.program_answer.specs.Statuses.{report_status}
 use Rattle.program_answer.specs.Worlds.{start_of_drive}
 
@@ -58,13 +58,13 @@ abbrev pub DriveStopsBy : SourceSeen → Change ℕ → Change ℕ → Change �
 DriveStopsBy source ports threads reports fault.Net = IsCut source ports
 DriveStopsBy source ports threads reports fault.NoThread = IsCut source threads
 DriveStopsBy source ports threads reports fault.Report = IsCut source reports
-DriveStopsBy source ports threads reports fault.Read = StopsBy IsRefused source fault.Read
-DriveStopsBy source ports threads reports fault.Usage = StopsBy IsRefused source fault.Usage
-DriveStopsBy source ports threads reports (fault.Line line column f) = StopsBy IsRefused source (fault.Line line column f)
-DriveStopsBy source ports threads reports (fault.NotEnabled line) = StopsBy IsRefused source (fault.NotEnabled line)
-DriveStopsBy source ports threads reports (fault.NotTwo line) = StopsBy IsRefused source (fault.NotTwo line)
-DriveStopsBy source ports threads reports (fault.Compile policy f) = StopsBy IsRefused source (fault.Compile policy f)
-DriveStopsBy source ports threads reports (fault.Emit policy f) = StopsBy IsRefused source (fault.Emit policy f)
+DriveStopsBy source ports threads reports fault.Read = StopsBy IsInputRefused source fault.Read
+DriveStopsBy source ports threads reports fault.Usage = StopsBy IsInputRefused source fault.Usage
+DriveStopsBy source ports threads reports (fault.Line line column f) = StopsBy IsInputRefused source (fault.Line line column f)
+DriveStopsBy source ports threads reports (fault.NotEnabled line) = StopsBy IsInputRefused source (fault.NotEnabled line)
+DriveStopsBy source ports threads reports (fault.NotTwo line) = StopsBy IsInputRefused source (fault.NotTwo line)
+DriveStopsBy source ports threads reports (fault.Compile policy f) = StopsBy IsInputRefused source (fault.Compile policy f)
+DriveStopsBy source ports threads reports (fault.Emit policy f) = StopsBy IsInputRefused source (fault.Emit policy f)
 
 -- the same, if it is not out of memory, before which no read failed
 abbrev pub DriveStops : SourceSeen → Change ℕ → Change ℕ → Change ℕ → AnswerError → Type 0

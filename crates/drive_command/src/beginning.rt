@@ -1,10 +1,10 @@
 //! The coordinator of a document's policies, before anything has happened.
 ghost use Rattle.std.specs.Prelude.{◌≡◌, IfOk, None, map};
-ghost use Rattle.update_coordinator.specs.Starts.{start};
+ghost use Rattle.update_coordinator.specs.Starts.{initial_control};
 ghost use Rattle.update_laws.specs.Settings.{AreVersions};
 ghost use Rattle.world_core.specs.Worlds.{numbers_of, rows_of};
 
-use document_text::{Site, Topology};
+use document_text::{DeclaredSwitch, Topology};
 use nk_values::Rows;
 use policy_rows::Version;
 use std::alloc::{AllocError, Global};
@@ -17,7 +17,7 @@ pub(crate) fn begin(
     versions: Vec<Version>,
 ) -> Result<Coordinator, AllocError>
     requires { AreVersions topology.now versions.items None }
-    ensures { IfOk result (λ c. c ≡ start (rows_of versions.items) (numbers_of topology.now.switches) 0 None) }
+    ensures { IfOk result (λ c. c ≡ initial_control (rows_of versions.items) (numbers_of topology.now.switches) 0 None) }
 {
     let numbers = numbers_of(alloc, topology.switches())?;
     let rows = rows_of(alloc, versions)?;
@@ -25,7 +25,7 @@ pub(crate) fn begin(
 }
 
 // The numbers of switches.
-fn numbers_of(alloc: Global, sites: &[Site]) -> Result<Vec<u16>, AllocError>
+fn numbers_of(alloc: Global, sites: &[DeclaredSwitch]) -> Result<Vec<u16>, AllocError>
     ensures { IfOk result (λ v. v.items ≡ numbers_of sites.now) }
 {
     let mut numbers = Vec::new(alloc);

@@ -10,7 +10,7 @@ ghost use Rattle.program_answer.specs.Versions.{AreVersions};
 ghost use Rattle.drive_command.specs.Drive.{DriveStops, IsDriveAnswer, IsDrivenAs, IsToldAs, TellsDriveCut};
 
 use crate::beginning::begin;
-use document_text::Site;
+use document_text::DeclaredSwitch;
 use drive_journal::{Steering, starts_halt_at_loss};
 use drive_text::drive_text;
 use drive_workers::{DriveFault, Gate, Onlooker, drive_over};
@@ -110,7 +110,7 @@ where
 // The report of a journal with its coordinator.
 fn report(
     alloc: Global,
-    switches: &[Site],
+    switches: &[DeclaredSwitch],
     coordinator: &Coordinator,
     journal: &[Steering],
 ) -> Result<Answer, AllocError>

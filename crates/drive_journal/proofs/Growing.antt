@@ -12,7 +12,7 @@ use Rattle.update_coordinator.specs.declared.phase.Phase.{Phase}
 use Rattle.update_coordinator.specs.declared.refusal.Refusal.{Refusal}
 use Rattle.update_coordinator.specs.Phases.{works}
 use Rattle.update_coordinator.specs.Calls.{unless_halted}
-use Rattle.update_coordinator.specs.Controls.{Control, Site, begun_site, in_phase, lost_by}
+use Rattle.update_coordinator.specs.Controls.{Control, Peer, begun_peer, in_phase, lost_by}
 use Rattle.update_coordinator.specs.Hearing.{IsAnswered, IsMoved, due, met, told}
 use Rattle.drive_journal.specs.declared.steering.Steering.{Steering}
 use Rattle.drive_journal.specs.declared.steering.Steering.TheVariants.{Begin, Send, Heard, Drained, Lost, Garbled}
@@ -47,43 +47,43 @@ map-more {X} {Y} f (y ∷ xs) x = ap (λ (ys : List Y). f y ∷ ys) (map-more f 
 
 -- ---- the number of switches stays
 
-in-count : (b : Bool) (xs : List Site) → length (map (begun_site b) xs) ≡ length xs
-in-count b xs = length-map xs (begun_site b)
+in-count : (b : Bool) (xs : List Peer) → length (map (begun_peer b) xs) ≡ length xs
+in-count b xs = length-map xs (begun_peer b)
 
-phase-count : (ph : Phase) (c d : Control) → d ≡ in_phase ph c → length d.sites ≡ length c.sites
-phase-count ph c d e = ap (λ (x : Control). length x.sites) e ∙ in-count (works ph) c.sites
+phase-count : (ph : Phase) (c d : Control) → d ≡ in_phase ph c → length d.peers ≡ length c.peers
+phase-count ph c d e = ap (λ (x : Control). length x.peers) e ∙ in-count (works ph) c.peers
 
-same-count : (c d : Control) → d ≡ c → length d.sites ≡ length c.sites
-same-count c d e = ap (λ (x : Control). length x.sites) e
+same-count : (c d : Control) → d ≡ c → length d.peers ≡ length c.peers
+same-count c d e = ap (λ (x : Control). length x.peers) e
 
-answered-count : (place xid : ℕ) (c d : Control) → IsAnswered place xid c d → length d.sites ≡ length c.sites
-answered-count place xid c d a = elim (cases_eq (length d.sites) (length c.sites)) [
+answered-count : (place xid : ℕ) (c d : Control) → IsAnswered place xid c d → length d.peers ≡ length c.peers
+answered-count place xid c d a = elim (cases_eq (length d.peers) (length c.peers)) [
   | inl e ↦ e
   | inr n ↦ absurd (
       let last : Awaits c.replies place xid → ¬ (OthersHeard c.replies place) = λ w o. n (phase-count _ c d (a.last w o)) in
-      let none : ¬ (Awaits c.replies place xid) = λ w. n (ap (λ (x : Control). length x.sites) (a.more w (last w))) in
+      let none : ¬ (Awaits c.replies place xid) = λ w. n (ap (λ (x : Control). length x.peers) (a.more w (last w))) in
       n (same-count c d (a.stray none)))
 ]
 
-moved-count : (place sw : ℕ) (m : Move) (c d : Control) → IsMoved place sw m c d → length d.sites ≡ length c.sites
+moved-count : (place sw : ℕ) (m : Move) (c d : Control) → IsMoved place sw m c d → length d.peers ≡ length c.peers
 moved-count place sw (move.Barrier xid) c d h = answered-count place xid c d h
-moved-count place sw (move.Failed f) c d h = ap (λ (x : Control). length x.sites) h
+moved-count place sw (move.Failed f) c d h = ap (λ (x : Control). length x.peers) h
 moved-count place sw move.Greeted c d h = same-count c d h
 moved-count place sw move.Up c d h = same-count c d h
 moved-count place sw move.Echo c d h = same-count c d h
 moved-count place sw move.Ignored c d h = same-count c d h
 
-lost-count : (n place : ℕ) (s : Site) (c : Control) → length (lost_by n place s c).sites ≡ length c.sites
+lost-count : (n place : ℕ) (s : Peer) (c : Control) → length (lost_by n place s c).peers ≡ length c.peers
 lost-count zero place s c = refl
-lost-count (suc n) place s c = length-set c.sites place _
+lost-count (suc n) place s c = length-set c.peers place _
 
-pub steer-count : (c : Control) (e : Steering) (d : Control) → Steers c e d → length d.sites ≡ length c.sites
+pub steer-count : (c : Control) (e : Steering) (d : Control) → Steers c e d → length d.peers ≡ length c.peers
 steer-count c Begin d s = phase-count _ c d s.1
-steer-count c (Send p m) d s = ap (λ (x : Control). length x.sites) s.now ∙ length-set c.sites p _
-steer-count c (Heard p m) d s = moved-count p s.1.site.sw s.0 (record c { sites = slice_set c.sites p (met (due p c) s.0 (told m s.1.site)) }) d s.1.now ∙ length-set c.sites p _
+steer-count c (Send p m) d s = ap (λ (x : Control). length x.peers) s.now ∙ length-set c.peers p _
+steer-count c (Heard p m) d s = moved-count p s.1.peer.sw s.0 (record c { peers = slice_set c.peers p (met (due p c) s.0 (told m s.1.peer)) }) d s.1.now ∙ length-set c.peers p _
 steer-count c (Drained v) d s = phase-count _ c d s.1
-steer-count c (Lost p) d s = ap (λ (x : Control). length x.sites) s.now ∙ lost-count c.rejoins p s.site c
-steer-count c (Garbled p f) d s = ap (λ (x : Control). length x.sites) s.now
+steer-count c (Lost p) d s = ap (λ (x : Control). length x.peers) s.now ∙ lost-count c.rejoins p s.peer c
+steer-count c (Garbled p f) d s = ap (λ (x : Control). length x.peers) s.now
 
 -- ---- halts
 
@@ -166,16 +166,16 @@ all-more P (y ∷ xs) x a p = (a.0, all-more P xs x a.1 p)
 
 abbrev pub Holds : {E Q : Type 0} → (E → ℕ) → (E → ℕ) → (E → Option (List ℕ)) → (Q → ℕ) → Control → Control → List Steering → List Q → List E → List ℕ → Type 0
 Holds named faults received stamped start c journal receipts ends counts =
-    IsSteered named faults received stamped start c journal receipts ends × AreCounts journal counts × (length counts ≡ length start.sites) × (length c.sites ≡ length start.sites) × AreWritable journal × HaltsAtLoss c
+    IsSteered named faults received stamped start c journal receipts ends × AreCounts journal counts × (length counts ≡ length start.peers) × (length c.peers ≡ length start.peers) × AreWritable journal × HaltsAtLoss c
 
 -- it has no event, and the counts are 0
 pub begins-held : {E Q : Type 0} (named faults : E → ℕ) (received : E → Option (List ℕ)) (stamped : Q → ℕ) (start control : Control) (journal : List Steering) (receipts : List Q) (ends : List E) (counts : List ℕ) (n : ℕ)
-    → control ≡ start → control.halt ≡ None → HaltsAtLoss control → journal ≡ [] → receipts ≡ [] → ends ≡ [] → counts ≡ replicate n 0 → n ≡ length start.sites → Holds named faults received stamped start control journal receipts ends counts
+    → control ≡ start → control.halt ≡ None → HaltsAtLoss control → journal ≡ [] → receipts ≡ [] → ends ≡ [] → counts ≡ replicate n 0 → n ≡ length start.peers → Holds named faults received stamped start control journal receipts ends counts
 begins-held named faults received stamped start control journal receipts ends counts n begins runs losses no_event no_receipt no_end none many = (
   begins-steered named faults received stamped start control journal receipts ends begins runs no_event no_receipt no_end,
   subst (λ (es : List Steering). AreCounts es counts) (sym no_event) (subst (λ (ns : List ℕ). AreCounts [] ns) (sym none) (none-told n)),
   ap (λ (ns : List ℕ). length ns) none ∙ length-replicate n 0 ∙ many,
-  ap (λ (x : Control). length x.sites) begins,
+  ap (λ (x : Control). length x.peers) begins,
   subst (λ (es : List Steering). AreWritable es) (sym no_event) tt,
   losses,
 )

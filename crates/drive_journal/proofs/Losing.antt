@@ -12,8 +12,8 @@ use Rattle.update_coordinator.specs.declared.cause.Cause.TheVariants as cause
 use Rattle.update_coordinator.specs.declared.refusal.Refusal.{Refusal}
 use Rattle.update_coordinator.specs.Calls.{IsRefusedAway}
 use Rattle.update_coordinator.specs.Phases.{works}
-use Rattle.update_coordinator.specs.Starts.{new_site, start}
-use Rattle.update_coordinator.specs.Controls.{Order, Greet, Ask, Change, Fence, Control, Site, begun_site, in_phase, halted, lost_by}
+use Rattle.update_coordinator.specs.Starts.{new_peer, initial_control}
+use Rattle.update_coordinator.specs.Controls.{Order, Greet, Ask, Change, Fence, Control, Peer, begun_peer, in_phase, halted, lost_by}
 use Rattle.update_coordinator.specs.Sending.{went}
 use Rattle.update_coordinator.specs.Hearing.{IsAnswered, IsMoved, IsLost, due, met, told}
 use Rattle.update_coordinator.proofs.Places.{get_map, set_cases}
@@ -25,48 +25,48 @@ use Rattle.drive_journal.specs.Steering.{Steers}
 
 -- ---- no switch is away
 
-abbrev pub AreThere : List Site → Type 0
-AreThere sites = (s : ℕ) (x : Site) → slice_get sites s ≡ Some x → x.away ≡ true → ⊥
+abbrev pub AreThere : List Peer → Type 0
+AreThere peers = (s : ℕ) (x : Peer) → slice_get peers s ≡ Some x → x.away ≡ true → ⊥
 
-same-there : (xs ys : List Site) → ys ≡ xs → AreThere xs → AreThere ys
+same-there : (xs ys : List Peer) → ys ≡ xs → AreThere xs → AreThere ys
 same-there xs ys e h = subst AreThere (sym e) h
 
-begun-there : (b : Bool) (xs : List Site) → AreThere xs → AreThere (map (begun_site b) xs)
+begun-there : (b : Bool) (xs : List Peer) → AreThere xs → AreThere (map (begun_peer b) xs)
 begun-there b xs h s y at away =
-    let was = get_map (begun_site b) xs s y at in
-    h s was.0 was.1 (sym (ap (λ (z : Site). z.away) was.2) ∙ away)
+    let was = get_map (begun_peer b) xs s y at in
+    h s was.0 was.1 (sym (ap (λ (z : Peer). z.away) was.2) ∙ away)
 
-phase-there : (ph : Phase) (c d : Control) → d ≡ in_phase ph c → AreThere c.sites → AreThere d.sites
-phase-there ph c d e h = same-there (map (begun_site (works ph)) c.sites) d.sites (ap (λ (x : Control). x.sites) e) (begun-there (works ph) c.sites h)
+phase-there : (ph : Phase) (c d : Control) → d ≡ in_phase ph c → AreThere c.peers → AreThere d.peers
+phase-there ph c d e h = same-there (map (begun_peer (works ph)) c.peers) d.peers (ap (λ (x : Control). x.peers) e) (begun-there (works ph) c.peers h)
 
-set-there : (xs : List Site) (p : ℕ) (x y : Site) → AreThere xs → slice_get xs p ≡ Some x → y.away ≡ x.away → AreThere (slice_set xs p y)
+set-there : (xs : List Peer) (p : ℕ) (x y : Peer) → AreThere xs → slice_get xs p ≡ Some x → y.away ≡ x.away → AreThere (slice_set xs p y)
 set-there xs p x y h here same s z at away =
     elim (set_cases xs p s y z at) [
-      | inl q ↦ h p x here (sym same ∙ sym (ap (λ (t : Site). t.away) q.0) ∙ away)
+      | inl q ↦ h p x here (sym same ∙ sym (ap (λ (t : Peer). t.away) q.0) ∙ away)
       | inr q ↦ h s z q.1 away
     ]
 
-answered-there : (place xid : ℕ) (c d : Control) → IsAnswered place xid c d → AreThere c.sites → AreThere d.sites
+answered-there : (place xid : ℕ) (c d : Control) → IsAnswered place xid c d → AreThere c.peers → AreThere d.peers
 answered-there place xid c d a h s x at away =
     let last : Awaits c.replies place xid → ¬ (OthersHeard c.replies place) = λ w o. phase-there _ c d (a.last w o) h s x at away in
-    let none : ¬ (Awaits c.replies place xid) = λ w. same-there c.sites d.sites (ap (λ (z : Control). z.sites) (a.more w (last w))) h s x at away in
-    same-there c.sites d.sites (ap (λ (z : Control). z.sites) (a.stray none)) h s x at away
+    let none : ¬ (Awaits c.replies place xid) = λ w. same-there c.peers d.peers (ap (λ (z : Control). z.peers) (a.more w (last w))) h s x at away in
+    same-there c.peers d.peers (ap (λ (z : Control). z.peers) (a.stray none)) h s x at away
 
-moved-there : (place sw : ℕ) (m : Move) (c d : Control) → IsMoved place sw m c d → AreThere c.sites → AreThere d.sites
+moved-there : (place sw : ℕ) (m : Move) (c d : Control) → IsMoved place sw m c d → AreThere c.peers → AreThere d.peers
 moved-there place sw (move.Barrier xid) c d h t = answered-there place xid c d h t
-moved-there place sw (move.Failed f) c d h t = same-there c.sites d.sites (ap (λ (x : Control). x.sites) h) t
-moved-there place sw move.Greeted c d h t = same-there c.sites d.sites (ap (λ (x : Control). x.sites) h) t
-moved-there place sw move.Up c d h t = same-there c.sites d.sites (ap (λ (x : Control). x.sites) h) t
-moved-there place sw move.Echo c d h t = same-there c.sites d.sites (ap (λ (x : Control). x.sites) h) t
-moved-there place sw move.Ignored c d h t = same-there c.sites d.sites (ap (λ (x : Control). x.sites) h) t
+moved-there place sw (move.Failed f) c d h t = same-there c.peers d.peers (ap (λ (x : Control). x.peers) h) t
+moved-there place sw move.Greeted c d h t = same-there c.peers d.peers (ap (λ (x : Control). x.peers) h) t
+moved-there place sw move.Up c d h t = same-there c.peers d.peers (ap (λ (x : Control). x.peers) h) t
+moved-there place sw move.Echo c d h t = same-there c.peers d.peers (ap (λ (x : Control). x.peers) h) t
+moved-there place sw move.Ignored c d h t = same-there c.peers d.peers (ap (λ (x : Control). x.peers) h) t
 
-went-away : (o : Order) (s : Site) → (went o s).away ≡ s.away
+went-away : (o : Order) (s : Peer) → (went o s).away ≡ s.away
 went-away Greet s = refl
 went-away Ask s = refl
 went-away (Change m) s = refl
 went-away Fence s = refl
 
-met-away : (b : Bool) (m : Move) (s : Site) → (met b m s).away ≡ s.away
+met-away : (b : Bool) (m : Move) (s : Peer) → (met b m s).away ≡ s.away
 met-away b move.Greeted s = refl
 met-away true move.Up s = refl
 met-away false move.Up s = refl
@@ -92,8 +92,8 @@ if-on (Err f) P h = tt
 
 -- ---- a loss halts
 
-pub lost-stops : (c d : Control) (s : ℕ) → c.rejoins ≡ 0 → (l : IsLost s c d) → d ≡ halted (cause.Lost l.site.sw) c
-lost-stops c d s zero l = l.now ∙ ap (λ (n : ℕ). lost_by n s l.site c) zero
+pub lost-stops : (c d : Control) (s : ℕ) → c.rejoins ≡ 0 → (l : IsLost s c d) → d ≡ halted (cause.Lost l.peer.sw) c
+lost-stops c d s zero l = l.now ∙ ap (λ (n : ℕ). lost_by n s l.peer c) zero
 
 some-halt : {X : Type 0} (o : Option X) (x : X) → o ≡ Some x → o ≢ None
 some-halt o x e = λ n. cc
@@ -108,16 +108,16 @@ halts-by c (Garbled p f) d l s h = some-halt d.halt _ (ap (λ (x : Control). x.h
 
 -- ---- one event
 
-steer-there : (c : Control) (e : Steering) (d : Control) → Steers c e d → c.rejoins ≡ 0 → AreThere c.sites → AreThere d.sites
+steer-there : (c : Control) (e : Steering) (d : Control) → Steers c e d → c.rejoins ≡ 0 → AreThere c.peers → AreThere d.peers
 steer-there c Begin d s n t = phase-there _ c d s.1 t
-steer-there c (Send p m) d s n t = same-there (slice_set c.sites p (went s.order s.site)) d.sites (ap (λ (x : Control). x.sites) s.now) (set-there c.sites p s.site (went s.order s.site) t s.here (went-away s.order s.site))
+steer-there c (Send p m) d s n t = same-there (slice_set c.peers p (went s.order s.peer)) d.peers (ap (λ (x : Control). x.peers) s.now) (set-there c.peers p s.peer (went s.order s.peer) t s.here (went-away s.order s.peer))
 steer-there c (Heard p m) d s n t =
-    let next : Site = met (due p c) s.0 (told m s.1.site) in
-    let mid : Control = record c { sites = slice_set c.sites p next } in
-    moved-there p s.1.site.sw s.0 mid d s.1.now (set-there c.sites p s.1.site next t s.1.here (met-away (due p c) s.0 (told m s.1.site)))
+    let next : Peer = met (due p c) s.0 (told m s.1.peer) in
+    let mid : Control = record c { peers = slice_set c.peers p next } in
+    moved-there p s.1.peer.sw s.0 mid d s.1.now (set-there c.peers p s.1.peer next t s.1.here (met-away (due p c) s.0 (told m s.1.peer)))
 steer-there c (Drained v) d s n t = phase-there _ c d s.1 t
-steer-there c (Lost p) d s n t = same-there c.sites d.sites (ap (λ (x : Control). x.sites) (lost-stops c d p n s)) t
-steer-there c (Garbled p f) d s n t = same-there c.sites d.sites (ap (λ (x : Control). x.sites) s.now) t
+steer-there c (Lost p) d s n t = same-there c.peers d.peers (ap (λ (x : Control). x.peers) (lost-stops c d p n s)) t
+steer-there c (Garbled p f) d s n t = same-there c.peers d.peers (ap (λ (x : Control). x.peers) s.now) t
 
 answered-rejoins : (place xid : ℕ) (c d : Control) → IsAnswered place xid c d → d.rejoins ≡ c.rejoins
 answered-rejoins place xid c d a = elim (cases_eq d.rejoins c.rejoins) [
@@ -139,7 +139,7 @@ moved-rejoins place sw move.Ignored c d h = ap (λ (x : Control). x.rejoins) h
 steer-rejoins : (c : Control) (e : Steering) (d : Control) → Steers c e d → c.rejoins ≡ 0 → d.rejoins ≡ c.rejoins
 steer-rejoins c Begin d s n = ap (λ (x : Control). x.rejoins) s.1
 steer-rejoins c (Send p m) d s n = ap (λ (x : Control). x.rejoins) s.now
-steer-rejoins c (Heard p m) d s n = moved-rejoins p s.1.site.sw s.0 (record c { sites = slice_set c.sites p (met (due p c) s.0 (told m s.1.site)) }) d s.1.now
+steer-rejoins c (Heard p m) d s n = moved-rejoins p s.1.peer.sw s.0 (record c { peers = slice_set c.peers p (met (due p c) s.0 (told m s.1.peer)) }) d s.1.now
 steer-rejoins c (Drained v) d s n = ap (λ (x : Control). x.rejoins) s.1
 steer-rejoins c (Lost p) d s n = ap (λ (x : Control). x.rejoins) (lost-stops c d p n s)
 steer-rejoins c (Garbled p f) d s n = ap (λ (x : Control). x.rejoins) s.now
@@ -152,10 +152,10 @@ losses-on c e d s h = record {
 
 -- ---- at the start
 
-pub starts-so : (versions : List Rows) (switches : List ℕ) → HaltsAtLoss (start versions switches 0 None)
+pub starts-so : (versions : List Rows) (switches : List ℕ) → HaltsAtLoss (initial_control versions switches 0 None)
 starts-so versions switches = record {
   none_left = refl;
   there = λ s a.
-      let was = get_map new_site switches s a.0 a.1 in
-      let e : false ≡ true = sym (ap (λ (x : Site). x.away) was.2) ∙ a.2 in cc;
+      let was = get_map new_peer switches s a.0 a.1 in
+      let e : false ≡ true = sym (ap (λ (x : Peer). x.away) was.2) ∙ a.2 in cc;
 }

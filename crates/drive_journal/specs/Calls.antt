@@ -2,7 +2,7 @@
 use Rattle.std.specs.Prelude.{◌≡◌, ◌≢◌, ◌⊎◌, ℕ, true, List, [], ◌∷◌, ◌++◌, Option, Some, None, slice_set}
 use Rattle.openflow_wire.specs.declared.message.Message.{Message}
 use Rattle.of_framing.specs.Streams.{IsFront, IsFault, IsRest}
-use Rattle.worker_desk.specs.declared.gate.Kind.TheVariants as kind
+use Rattle.worker_desk.specs.declared.gate.StepKind.TheVariants as kind
 use Rattle.session_core.specs.Sessions.{reply_of}
 use Rattle.update_coordinator.specs.Calls.{begin_refusal, drain_refusal}
 use Rattle.update_coordinator.specs.Controls.{Control}
@@ -15,13 +15,13 @@ use Rattle.worker_desk.specs.declared.desk.Shut.{Shut}
 use Rattle.worker_desk.specs.declared.desk.Shut.TheVariants as shut
 use Rattle.drive_journal.specs.declared.steering.Steering.{Steering}
 use Rattle.drive_journal.specs.declared.steering.Steering.TheVariants as steering
-use Rattle.drive_journal.specs.declared.updates.Next.{Next}
-use Rattle.drive_journal.specs.declared.updates.Next.TheVariants as next
+use Rattle.drive_journal.specs.declared.updates.CallerTask.{CallerTask}
+use Rattle.drive_journal.specs.declared.updates.CallerTask.TheVariants as next
 use Rattle.drive_journal.specs.declared.element.Element.{Element}
 use Rattle.drive_journal.specs.declared.element.Element.TheVariants as element
 use Rattle.drive_journal.specs.Steering.{Steers}
 use Rattle.drive_journal.specs.Journals.{HasMessage, HasFault, WhereKnown, told_before}
-use Rattle.drive_journal.specs.Cuts.{Notes}
+use Rattle.drive_journal.specs.Cuts.{NotesEvent}
 use Rattle.drive_journal.specs.Drives.{DriveValue, IsBeside, IsOver, Stops, echo_at, answering}
 
 -- ---- what bytes are
@@ -34,17 +34,17 @@ IsElement bytes element.Rest = IsRest bytes
 IsElement bytes element.Memory = Unit {0}
 
 -- in a stream that is known, this element comes after k messages
-abbrev pub IsNext : ℕ → Option (List ℕ) → Element → Type 0
-IsNext k received (element.Message m) = WhereKnown (HasMessage k m) received
-IsNext k received (element.Fault f) = WhereKnown (HasFault k f) received
-IsNext k received element.Rest = WhereKnown (λ bytes. ⊥) received
-IsNext k received element.Memory = Unit {0}
+abbrev pub IsNextElement : ℕ → Option (List ℕ) → Element → Type 0
+IsNextElement k received (element.Message m) = WhereKnown (HasMessage k m) received
+IsNextElement k received (element.Fault f) = WhereKnown (HasFault k f) received
+IsNextElement k received element.Rest = WhereKnown (λ bytes. ⊥) received
+IsNextElement k received element.Memory = Unit {0}
 
 -- ---- give
 
 -- the message went to switch s, and this was noted
 pub record SendsOut {E Q : Type 0} (s : ℕ) (m : Message) (old new : DriveValue E Q) : Type 0 where
-  pub noted : Notes (steering.Send s m) old.held new.held
+  pub noted : NotesEvent (steering.Send s m) old.held new.held
   pub rest : IsBeside old new
 
 -- nothing is to be sent to switch s
@@ -78,16 +78,16 @@ GivesNext s old new (Nothing (Some _)) = ⊥
 GivesNext s old new (NewEnd e) = ⊥
 
 -- What `give` answers to the worker of switch s: that it is to stop; the answer that is to be sent; the next message; to receive, if one is to come; or nothing.
-abbrev pub Gives : {E Q : Type 0} → ℕ → DriveValue E Q → DriveValue E Q → Given E → Type 0
-Gives s old new Stop = Stops old s × (new ≡ old)
-Gives s old new (Out m None) = (¬ Stops old s) × (echo_at old s ≡ Some m) × (new ≡ answering old s None)
-Gives s old new (Out m (Some kind.Send)) = (¬ Stops old s) × (echo_at old s ≡ None) × SendsOut s m old new
-Gives s old new (Out m (Some _)) = ⊥
-Gives s old new (Expect None) = (¬ Stops old s) × IsIdle s old × IsAwaited s old × (new ≡ old)
-Gives s old new (Expect (Some _)) = ⊥
-Gives s old new (Nothing None) = (¬ Stops old s) × IsIdle s old × (¬ IsAwaited s old) × (new ≡ old)
-Gives s old new (Nothing (Some _)) = ⊥
-Gives s old new (NewEnd e) = ⊥
+abbrev pub DriveGives : {E Q : Type 0} → ℕ → DriveValue E Q → DriveValue E Q → Given E → Type 0
+DriveGives s old new Stop = Stops old s × (new ≡ old)
+DriveGives s old new (Out m None) = (¬ Stops old s) × (echo_at old s ≡ Some m) × (new ≡ answering old s None)
+DriveGives s old new (Out m (Some kind.Send)) = (¬ Stops old s) × (echo_at old s ≡ None) × SendsOut s m old new
+DriveGives s old new (Out m (Some _)) = ⊥
+DriveGives s old new (Expect None) = (¬ Stops old s) × IsIdle s old × IsAwaited s old × (new ≡ old)
+DriveGives s old new (Expect (Some _)) = ⊥
+DriveGives s old new (Nothing None) = (¬ Stops old s) × IsIdle s old × (¬ IsAwaited s old) × (new ≡ old)
+DriveGives s old new (Nothing (Some _)) = ⊥
+DriveGives s old new (NewEnd e) = ⊥
 
 -- Out of memory, nothing changed, or the next message was noted as sent.
 abbrev pub RunsOut : {E Q : Type 0} → ℕ → DriveValue E Q → DriveValue E Q → Type 0
@@ -104,13 +104,13 @@ IsEventOf s element.Memory e = ⊥
 
 -- the message was heard, and its answer is to be sent
 pub record Hears {E Q : Type 0} (s : ℕ) (m : Message) (old new : DriveValue E Q) : Type 0 where
-  pub noted : Notes (steering.Heard s m) old.held new.held
+  pub noted : NotesEvent (steering.Heard s m) old.held new.held
   pub running : new.held.control.halt ≡ None
   pub closed : new.closed ≡ old.closed
   pub echoes : new.echoes ≡ slice_set old.echoes s (reply_of m)
 
 -- the event halted the coordinator, and the end was kept
-pub record Cuts {E Q : Type 0} (e : Steering) (end : E) (old new : DriveValue E Q) : Type 0 where
+pub record DriveCuts {E Q : Type 0} (e : Steering) (end : E) (old new : DriveValue E Q) : Type 0 where
   pub step : Steers old.held.control e new.held.control
   pub journal : new.held.journal ≡ old.held.journal ++ e ∷ []
   pub receipts : new.held.receipts ≡ old.held.receipts
@@ -127,23 +127,23 @@ abbrev pub HearsAs : {E Q : Type 0} → ℕ → Element → E → DriveValue E Q
 HearsAs s (element.Message m) end old new (Back e (Some kind.Heard)) = (e ≡ end) × Hears s m old new
 HearsAs s x end old new (Back e (Some _)) = ⊥
 HearsAs s x end old new (Back e None) = (e ≡ end) × (new ≡ old) × (old.held.control.halt ≢ None)
-HearsAs s x end old new Kept = (e : Steering) × IsEventOf s x e × Cuts e end old new
+HearsAs s x end old new Kept = (e : Steering) × IsEventOf s x e × DriveCuts e end old new
 HearsAs s x end old new (Memory e) = (e ≡ end) × (new ≡ old)
 
 -- What `tell` answers: a message is heard; what halts the coordinator has its end kept; other bytes come to nothing.
-abbrev pub Tells : {E Q : Type 0} → ℕ → List ℕ → ℕ → E → DriveValue E Q → DriveValue E Q → Told E → Type 0
-Tells s bytes k end old new (Back e (Some kind.Heard)) = (e ≡ end) × (told_before s old.held.journal ≡ k) × ((m : Message) × IsElement bytes (element.Message m) × Hears s m old new)
-Tells s bytes k end old new (Back e (Some _)) = ⊥
-Tells s bytes k end old new (Back e None) = (e ≡ end) × (new ≡ old) × IsVain s bytes k old
-Tells s bytes k end old new Kept = (told_before s old.held.journal ≡ k) × ((x : Element) × (e : Steering) × IsElement bytes x × IsEventOf s x e × Cuts e end old new)
-Tells s bytes k end old new (Memory e) = (e ≡ end) × (new ≡ old)
+abbrev pub DriveTells : {E Q : Type 0} → ℕ → List ℕ → ℕ → E → DriveValue E Q → DriveValue E Q → Told E → Type 0
+DriveTells s bytes k end old new (Back e (Some kind.Heard)) = (e ≡ end) × (told_before s old.held.journal ≡ k) × ((m : Message) × IsElement bytes (element.Message m) × Hears s m old new)
+DriveTells s bytes k end old new (Back e (Some _)) = ⊥
+DriveTells s bytes k end old new (Back e None) = (e ≡ end) × (new ≡ old) × IsVain s bytes k old
+DriveTells s bytes k end old new Kept = (told_before s old.held.journal ≡ k) × ((x : Element) × (e : Steering) × IsElement bytes x × IsEventOf s x e × DriveCuts e end old new)
+DriveTells s bytes k end old new (Memory e) = (e ≡ end) × (new ≡ old)
 
 -- what `lost` answers
-abbrev pub Loses : {E Q : Type 0} → ℕ → E → DriveValue E Q → DriveValue E Q → Told E → Type 0
-Loses s end old new (Back e None) = (e ≡ end) × (old.held.control.halt ≢ None) × (new ≡ old)
-Loses s end old new (Back e (Some _)) = ⊥
-Loses s end old new Kept = Cuts (steering.Lost s) end old new
-Loses s end old new (Memory e) = (e ≡ end) × (new ≡ old)
+abbrev pub DriveLoses : {E Q : Type 0} → ℕ → E → DriveValue E Q → DriveValue E Q → Told E → Type 0
+DriveLoses s end old new (Back e None) = (e ≡ end) × (old.held.control.halt ≢ None) × (new ≡ old)
+DriveLoses s end old new (Back e (Some _)) = ⊥
+DriveLoses s end old new Kept = DriveCuts (steering.Lost s) end old new
+DriveLoses s end old new (Memory e) = (e ≡ end) × (new ≡ old)
 
 -- what `shut` answers
 abbrev pub Shuts : {E : Type 0} → Type 0 → Shut E → Type 0
@@ -154,15 +154,15 @@ Shuts stop (shut.NewEnd e) = ⊥
 -- ---- the caller
 
 -- what the caller is to wait for, if no update can begin
-abbrev pub IsAwaitedBy : Control → Next → Type 0
+abbrev pub IsAwaitedBy : Control → CallerTask → Type 0
 IsAwaitedBy c next.Stop = ⊥
 IsAwaitedBy c next.Step = ⊥
 IsAwaitedBy c (next.Wait stamp) = drain_refusal c stamp ≡ None
 IsAwaitedBy c next.Nothing = (stamp : ℕ) → ¬ (drain_refusal c stamp ≡ None)
 
 -- What the caller is to do: to stop; it has begun an update; to wait for the report of a stamp; or nothing now.
-abbrev pub Updates : {E Q : Type 0} → DriveValue E Q → DriveValue E Q → Next → Type 0
+abbrev pub Updates : {E Q : Type 0} → DriveValue E Q → DriveValue E Q → CallerTask → Type 0
 Updates old new next.Stop = ((old.closed ≡ true) ⊎ IsOver old.held.control) × (new ≡ old)
-Updates old new next.Step = Notes steering.Begin old.held new.held × IsBeside old new
+Updates old new next.Step = NotesEvent steering.Begin old.held new.held × IsBeside old new
 Updates old new (next.Wait stamp) = (drain_refusal old.held.control stamp ≡ None) × (new ≡ old)
 Updates old new next.Nothing = (¬ (begin_refusal old.held.control ≡ None)) × ((stamp : ℕ) → ¬ (drain_refusal old.held.control stamp ≡ None)) × (new ≡ old)

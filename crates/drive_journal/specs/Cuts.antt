@@ -32,12 +32,12 @@ Halts (Garbled s f) = Unit {0}
 Halts _ = ⊥
 
 -- The end is kept exactly if the coordinator has halted, and else it comes back.
-abbrev pub Keeps : {E Q : Type 0} → E → List E → SteeredValue E Q → Option E → Type 0
-Keeps end ends new None = (new.control.halt ≢ None) × (new.ends ≡ ends ++ end ∷ [])
-Keeps end ends new (Some e) = (e ≡ end) × (new.control.halt ≡ None) × (new.ends ≡ ends)
+abbrev pub KeepsEnd : {E Q : Type 0} → E → List E → SteeredValue E Q → Option E → Type 0
+KeepsEnd end ends new None = (new.control.halt ≢ None) × (new.ends ≡ ends ++ end ∷ [])
+KeepsEnd end ends new (Some e) = (e ≡ end) × (new.control.halt ≡ None) × (new.ends ≡ ends)
 
 -- this event happened and was noted, and what was kept is the same
-pub record Notes {E Q : Type 0} (e : Steering) (old new : SteeredValue E Q) : Type 0 where
+pub record NotesEvent {E Q : Type 0} (e : Steering) (old new : SteeredValue E Q) : Type 0 where
   pub step : Steers old.control e new.control
   pub journal : new.journal ≡ old.journal ++ e ∷ []
   pub receipts : new.receipts ≡ old.receipts
@@ -52,5 +52,5 @@ IsCopy m (Some x) = x ≡ m
 pub record Sends {E Q : Type 0} (s : ℕ) (copy : Option Message) (old new : SteeredValue E Q) : Type 0 where
   pub message : Message
   pub fits : Fits message
-  pub noted : Notes (Send s message) old new
+  pub noted : NotesEvent (Send s message) old new
   pub same : IsCopy message copy

@@ -33,12 +33,12 @@ abbrev pub IsOver : Control → Type 0
 IsOver c = (c.halt ≢ None) ⊎ IsLast c
 
 -- nothing is left to be sent to switch s
-abbrev pub IsQuiet : {E Q : Type 0} → DriveValue E Q → ℕ → Type 0
-IsQuiet r s = (echo_at r s ≡ None) × ¬ MaySend s r.held.control
+abbrev pub IsSentAll : {E Q : Type 0} → DriveValue E Q → ℕ → Type 0
+IsSentAll r s = (echo_at r s ≡ None) × ¬ MaySend s r.held.control
 
 -- The worker of switch s is to stop: the drive is closed or has halted, or the last policy handles all packets and nothing is left to be sent to it.
 abbrev pub Stops : {E Q : Type 0} → DriveValue E Q → ℕ → Type 0
-Stops r s = (r.closed ≡ true) ⊎ ((r.held.control.halt ≢ None) ⊎ (IsLast r.held.control × IsQuiet r s))
+Stops r s = (r.closed ≡ true) ⊎ ((r.held.control.halt ≢ None) ⊎ (IsLast r.held.control × IsSentAll r s))
 
 -- all but the journal with its coordinator and what was kept is the same
 pub record IsBeside {E Q : Type 0} (old new : DriveValue E Q) : Type 0 where

@@ -4,7 +4,7 @@ use Rattle.openflow_wire.specs.declared.message.Message.{Message}
 use Rattle.openflow_wire.specs.declared.message.Message.TheVariants as to
 use Rattle.session_core.specs.declared.session.SessionState.{SessionState}
 use Rattle.session_core.specs.declared.session.SessionState.TheVariants as state
-use Rattle.update_coordinator.specs.Controls.{Site, Control}
+use Rattle.update_coordinator.specs.Controls.{Peer, Control}
 use Rattle.drive_journal.specs.declared.steering.Steering.{Steering}
 use Rattle.drive_journal.specs.declared.steering.Steering.TheVariants.{Heard}
 use Rattle.drive_journal.specs.Losses.{HaltsAtLoss}
@@ -29,5 +29,5 @@ is_fresh _ = false
 
 -- As long as nothing halted, a session that was fresh is so exactly if the journal has no HELLO of its switch.
 abbrev pub GreetingsAreNoted : Type 0
-GreetingsAreNoted = (c : Control) (es : List Steering) (d : Control) → HaltsAtLoss c → Drives c es d → d.halt ≡ None → (s : ℕ) (old new : Site) → slice_get c.sites s ≡ Some old → slice_get d.sites s ≡ Some new
+GreetingsAreNoted = (c : Control) (es : List Steering) (d : Control) → HaltsAtLoss c → Drives c es d → d.halt ≡ None → (s : ℕ) (old new : Peer) → slice_get c.peers s ≡ Some old → slice_get d.peers s ≡ Some new
     → is_fresh new.session.state ≡ (is_fresh old.session.state && not (has_greeting s es))

@@ -4,7 +4,7 @@ use Rattle.std.specs.List.{AllByRecursion, filter}
 use Rattle.openflow_wire.specs.declared.message.Message.{Message}
 use Rattle.openflow_wire.specs.declared.fault.WireFault.{WireFault}
 use Rattle.openflow_wire.specs.Writing.{Fits}
-use Rattle.of_framing.specs.Streams.{Takes, IsFront, IsFault}
+use Rattle.of_framing.specs.Streams.{TakesMessages, IsFront, IsFault}
 use Rattle.update_coordinator.specs.declared.cause.Cause.{Cause}
 use Rattle.update_coordinator.specs.Controls.{Control}
 use Rattle.drive_journal.specs.declared.steering.Steering.{Steering}
@@ -43,7 +43,7 @@ AreWritable journal = AllByRecursion IsWritable journal
 pub record HasMessage (k : ℕ) (m : Message) (bytes : List ℕ) : Type 0 where
   pub messages : List Message
   pub behind : List ℕ
-  pub taken : Takes bytes messages behind
+  pub taken : TakesMessages bytes messages behind
   pub count : length messages ≡ k
   pub long : ℕ
   pub front : IsFront behind long m
@@ -52,7 +52,7 @@ pub record HasMessage (k : ℕ) (m : Message) (bytes : List ℕ) : Type 0 where
 pub record HasFault (k : ℕ) (f : WireFault) (bytes : List ℕ) : Type 0 where
   pub messages : List Message
   pub behind : List ℕ
-  pub taken : Takes bytes messages behind
+  pub taken : TakesMessages bytes messages behind
   pub count : length messages ≡ k
   pub fault : IsFault behind f
 

@@ -4,7 +4,7 @@ ghost use Rattle.worker_desk.specs.Answers.{CanBeWritten, GivesBack, OnNewEnd, O
 ghost use Rattle.worker_desk.specs.Streams.{TellsWhereKnown};
 ghost use Rattle.openflow_wire.specs.Writing.{Fits};
 ghost use Rattle.drive_journal.specs.declared.element.Element.TheVariants as elements;
-ghost use Rattle.drive_journal.specs.Calls.{Gives, GivesEcho, GivesNext, IsAwaited, IsNext, Loses, RestsAs, HearsAs, RunsOut, Shuts, Tells};
+ghost use Rattle.drive_journal.specs.Calls.{DriveGives, GivesEcho, GivesNext, IsAwaited, IsNextElement, DriveLoses, RestsAs, HearsAs, RunsOut, Shuts, DriveTells};
 ghost use Rattle.drive_journal.specs.Drives.{Stops, echo_at};
 ghost use Rattle.drive_journal.specs.Journals.{told_before};
 
@@ -17,16 +17,16 @@ use openflow_wire::{Message, WireFault};
 use outside_net::{Link, Receipt};
 use session_core::echo_reply;
 use std::alloc::{AllocError, Global};
-use worker_desk::{Given, Kind, Shut, Told};
+use worker_desk::{Given, Shut, StepKind, Told};
 
 impl<L: DriveName, E: Link, Q: Receipt> Drive<L, E, Q> {
     /// What the worker of the switch at a place is to do next: to stop; to send the answer to what it told last, or
     /// the next message; to receive; or nothing. It receives if the switch owes a reply or did not greet yet.
     /// Out of memory, the next message may be noted as sent.
     pub fn give(&mut self, alloc: Global, place: usize) -> Result<Given<E>, AllocError>
-        requires { place < length L.start.sites }
+        requires { place < length L.start.peers }
         ensures fits { IfOk result CanBeWritten }
-        ensures answer { IfOk result (Gives place self.old self.new) }
+        ensures answer { IfOk result (DriveGives place self.old self.new) }
         // Its session is the only one.
         ensures same_end { IfOk result (OnNewEnd (λ _. ⊥)) }
         ensures memory { OnErr result (RunsOut place self.old self.new) }
@@ -42,7 +42,7 @@ impl<L: DriveName, E: Link, Q: Receipt> Drive<L, E, Q> {
 
     // The answer that is still to be sent.
     fn give_echo(&mut self, place: usize) -> Given<E>
-        requires place { place < length L.start.sites }
+        requires place { place < length L.start.peers }
         requires some { echo_at self.old place ≢ None }
         ensures fits { CanBeWritten result }
         ensures answer { GivesEcho place self.old self.new result }
@@ -59,7 +59,7 @@ impl<L: DriveName, E: Link, Q: Receipt> Drive<L, E, Q> {
 
     // The next message, or what is to be done if there is none.
     fn give_next(&mut self, alloc: Global, place: usize) -> Result<Given<E>, AllocError>
-        requires { place < length L.start.sites }
+        requires { place < length L.start.peers }
         ensures fits { IfOk result CanBeWritten }
         ensures answer { IfOk result (GivesNext place self.old self.new) }
         ensures same_end { IfOk result (OnNewEnd (λ _. ⊥)) }
@@ -68,7 +68,7 @@ impl<L: DriveName, E: Link, Q: Receipt> Drive<L, E, Q> {
         match self.send(alloc, place) {
             Ok(Some(message)) => Ok(Given::Out {
                 message,
-                made: Some(Kind::Send),
+                made: Some(StepKind::Send),
             }),
             Ok(None) => Err(AllocError),
             Err(Refused::Memory(())) => Err(AllocError),
@@ -78,7 +78,7 @@ impl<L: DriveName, E: Link, Q: Receipt> Drive<L, E, Q> {
 
     // What is to be done if nothing is to be sent.
     fn rest(&self, place: usize) -> Given<E>
-        requires { place < length L.start.sites }
+        requires { place < length L.start.peers }
         ensures answer { RestsAs place self.now result }
         ensures same_end { OnNewEnd (λ _. ⊥) result }
     {
@@ -91,7 +91,7 @@ impl<L: DriveName, E: Link, Q: Receipt> Drive<L, E, Q> {
 
     // Whether a message of the switch at a place is to come.
     pub(crate) fn awaits(&self, place: usize) -> bool
-        requires { place < length L.start.sites }
+        requires { place < length L.start.peers }
         ensures { IsTrue result ↔ IsAwaited place self.now }
     {
         self.coordinator().owes(place) || !self.coordinator().has_greeted(place)
@@ -100,10 +100,10 @@ impl<L: DriveName, E: Link, Q: Receipt> Drive<L, E, Q> {
     /// Takes the bytes of a message of the switch at a place, which came after k others, or those at which its stream
     /// has a fault. What halts the coordinator has its end kept.
     pub fn tell(&mut self, alloc: Global, place: usize, bytes: &[u8], end: E, k: u64) -> Told<E>
-        requires place { place < length L.start.sites }
+        requires place { place < length L.start.peers }
         requires name { E.named end ≡ place }
         requires stream { TellsWhereKnown (E.received end) k bytes.now }
-        ensures answer { Tells place bytes.now k end self.old self.new result }
+        ensures answer { DriveTells place bytes.now k end self.old self.new result }
         ensures back { GivesBack end result }
     {
         if self.told(place) as u64 != k {
@@ -119,10 +119,10 @@ impl<L: DriveName, E: Link, Q: Receipt> Drive<L, E, Q> {
 
     // Hears a message.
     fn hear(&mut self, alloc: Global, place: usize, message: Message, end: E) -> Told<E>
-        requires place { place < length L.start.sites }
+        requires place { place < length L.start.peers }
         requires name { E.named end ≡ place }
         requires fits { Fits message }
-        requires next { IsNext (told_before place self.old.held.journal) (E.received end) (elements.Message message) }
+        requires next { IsNextElement (told_before place self.old.held.journal) (E.received end) (elements.Message message) }
         ensures answer { HearsAs place (elements.Message message) end self.old self.new result }
         ensures back { GivesBack end result }
     {
@@ -135,7 +135,7 @@ impl<L: DriveName, E: Link, Q: Receipt> Drive<L, E, Q> {
                 self.note_echo(place, reply);
                 Told::Back {
                     end,
-                    made: Some(Kind::Heard),
+                    made: Some(StepKind::Heard),
                 }
             }
             Err(Refused::NotEnabled(end)) => Told::Back { end, made: None },
@@ -145,9 +145,9 @@ impl<L: DriveName, E: Link, Q: Receipt> Drive<L, E, Q> {
 
     // The stream has a fault.
     fn garble(&mut self, place: usize, fault: WireFault, end: E) -> Told<E>
-        requires place { place < length L.start.sites }
+        requires place { place < length L.start.peers }
         requires name { E.named end ≡ place }
-        requires next { IsNext (told_before place self.old.held.journal) (E.received end) (elements.Fault fault) }
+        requires next { IsNextElement (told_before place self.old.held.journal) (E.received end) (elements.Fault fault) }
         ensures answer { HearsAs place (elements.Fault fault) end self.old self.new result }
         ensures back { GivesBack end result }
     {
@@ -161,10 +161,10 @@ impl<L: DriveName, E: Link, Q: Receipt> Drive<L, E, Q> {
 
     /// The end of the switch at a place failed: the session is lost, unless the coordinator has halted.
     pub fn lost(&mut self, place: usize, end: E) -> Told<E>
-        requires place { place < length L.start.sites }
+        requires place { place < length L.start.peers }
         requires name { E.named end ≡ place }
         requires failed { 0 < E.faults end }
-        ensures answer { Loses place end self.old self.new result }
+        ensures answer { DriveLoses place end self.old self.new result }
         ensures back { GivesBack end result }
     {
         match self.cut(Steering::Lost(place), end) {
@@ -177,7 +177,7 @@ impl<L: DriveName, E: Link, Q: Receipt> Drive<L, E, Q> {
 
     /// Whether the worker of the switch at a place, whose end is closed, is to stop.
     pub fn shut(&self, place: usize) -> Shut<E>
-        requires { place < length L.start.sites }
+        requires { place < length L.start.peers }
         ensures answer { Shuts (Stops self.now place) result }
         ensures same_end { OnShutNewEnd (λ _. ⊥) result }
     {

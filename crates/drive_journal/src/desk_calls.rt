@@ -16,7 +16,7 @@ impl<R: Wait + Clock + Drop, L: DriveName, E: Link, Q: Receipt> Desk for DriveDe
 
     type End = E;
 
-    ghost seated = { λ s. s.place < length L.start.sites };
+    ghost seated = { λ s. s.place < length L.start.peers };
 
     ghost place = { λ s. s.place };
 

@@ -38,7 +38,7 @@ impl<L: DriveName, E: Link, Q: Receipt> Model for Drive<L, E, Q> {
 
     ghost view = { λ d. record { held = d.held; closed = d.closed; echoes = d.echoes.items } };
 
-    ghost invariant = { λ d. AreFitting d.echoes.items × (length d.echoes.items ≡ length L.start.sites) };
+    ghost invariant = { λ d. AreFitting d.echoes.items × (length d.echoes.items ≡ length L.start.peers) };
 }
 
 impl<L: DriveName, E: Link, Q: Receipt> Drive<L, E, Q> {
@@ -47,14 +47,14 @@ impl<L: DriveName, E: Link, Q: Receipt> Drive<L, E, Q> {
     ghost use Rattle.update_coordinator.specs.Calls.{drain_refusal};
     ghost use Rattle.update_coordinator.specs.Sending.{MaySend};
     ghost use Rattle.drive_journal.specs.declared.steering.Steering.TheVariants as steering;
-    ghost use Rattle.drive_journal.specs.Cuts.{Halts, HandsBack, IsAmong, Keeps, Refuses, Sends};
+    ghost use Rattle.drive_journal.specs.Cuts.{Halts, HandsBack, IsAmong, KeepsEnd, Refuses, Sends};
     ghost use Rattle.drive_journal.specs.Drives.{IsBeside, Stops, answering, echo_at};
     ghost use Rattle.drive_journal.specs.Journals.{IsWritable, MetBy, told_before};
     ghost use Rattle.drive_journal.specs.Steering.{Steers};
 
     /// A drive that begins: no answer is to be sent.
     pub fn new(alloc: Global, held: Steered<L, E, Q>) -> Result<Drive<L, E, Q>, AllocError>
-        ensures { IfOk result (λ d. d ≡ record { held = held; closed = false; echoes = replicate (length L.start.sites) None }) }
+        ensures { IfOk result (λ d. d ≡ record { held = held; closed = false; echoes = replicate (length L.start.peers) None }) }
     {
         let count = held.switch_count();
         let echoes = no_echoes(alloc, count)?;
@@ -68,14 +68,14 @@ impl<L: DriveName, E: Link, Q: Receipt> Drive<L, E, Q> {
     /// The coordinator.
     pub fn coordinator(&self) -> &Coordinator
         ensures is { result.now ≡ self.now.held.control }
-        ensures count { length result.now.sites ≡ length L.start.sites }
+        ensures count { length result.now.peers ≡ length L.start.peers }
     {
         self.held.coordinator()
     }
 
     /// How many messages of the switch at a place were heard.
     pub fn told(&self, place: usize) -> usize
-        requires { place < length L.start.sites }
+        requires { place < length L.start.peers }
         ensures { result ≡ told_before place self.now.held.journal }
     {
         self.held.told(place)
@@ -83,15 +83,15 @@ impl<L: DriveName, E: Link, Q: Receipt> Drive<L, E, Q> {
 
     /// How many switches there are.
     pub fn switch_count(&self) -> usize
-        ensures here { result ≡ length self.now.held.control.sites }
-        ensures start { result ≡ length L.start.sites }
+        ensures here { result ≡ length self.now.held.control.peers }
+        ensures start { result ≡ length L.start.peers }
     {
         self.held.switch_count()
     }
 
     /// Whether an answer is still to be sent to the switch at a place.
     pub fn has_echo(&self, place: usize) -> bool
-        requires { place < length L.start.sites }
+        requires { place < length L.start.peers }
         ensures { IsTrue result ↔ (echo_at self.now place ≢ None) }
     {
         self.echoes[place].is_some()
@@ -99,7 +99,7 @@ impl<L: DriveName, E: Link, Q: Receipt> Drive<L, E, Q> {
 
     /// Takes the answer that is still to be sent to the switch at a place.
     pub fn take_echo(&mut self, place: usize) -> Option<Message>
-        requires { place < length L.start.sites }
+        requires { place < length L.start.peers }
         ensures is { result ≡ echo_at self.old place }
         ensures fits { IfSome result Fits }
         ensures taken { self.new ≡ answering self.old place None }
@@ -109,7 +109,7 @@ impl<L: DriveName, E: Link, Q: Receipt> Drive<L, E, Q> {
 
     /// Notes what is to be answered to the last message of the switch at a place.
     pub fn note_echo(&mut self, place: usize, reply: Option<Message>)
-        requires place { place < length L.start.sites }
+        requires place { place < length L.start.peers }
         requires fits { IfSome reply Fits }
         ensures { self.new ≡ answering self.old place reply }
     {
@@ -119,7 +119,7 @@ impl<L: DriveName, E: Link, Q: Receipt> Drive<L, E, Q> {
     /// Sends the next message to the switch at a place. A copy of it is given, unless memory
     /// runs out after the message was noted.
     pub fn send(&mut self, alloc: Global, place: usize) -> Result<Option<Message>, Refused<()>>
-        requires { place < length L.start.sites }
+        requires { place < length L.start.peers }
         ensures sent { IfOk result (λ copy. Sends place copy self.old.held self.new.held × IsBeside self.old self.new) }
         ensures refused { IfErr result (Refuses (¬ MaySend place self.old.held.control)) }
         ensures err { OnErr result (self.new ≡ self.old) }
@@ -129,13 +129,13 @@ impl<L: DriveName, E: Link, Q: Receipt> Drive<L, E, Q> {
 
     /// Does what came over an end.
     pub fn cut(&mut self, event: Steering, end: E) -> Result<Option<E>, Refused<E>>
-        requires place { IsAmong (length L.start.sites) event }
+        requires place { IsAmong (length L.start.peers) event }
         requires met { MetBy E.named E.faults E.received self.old.held.journal event end }
         requires fits { IsWritable event }
         ensures step { OnOk result (Steers self.old.held.control event self.new.held.control) }
         ensures refused { IfErr result (Refuses (self.old.held.control.halt ≢ None)) }
         ensures journal { OnOk result (self.new.held.journal ≡ self.old.held.journal ++ event ∷ []) }
-        ensures kept { IfOk result (Keeps end self.old.held.ends self.new.held) }
+        ensures kept { IfOk result (KeepsEnd end self.old.held.ends self.new.held) }
         ensures halts { IfOk result (λ back. Halts event → back ≡ None) }
         ensures receipts { OnOk result (self.new.held.receipts ≡ self.old.held.receipts) }
         ensures beside { OnOk result (IsBeside self.old self.new) }
@@ -158,7 +158,7 @@ impl<L: DriveName, E: Link, Q: Receipt> Drive<L, E, Q> {
 
     /// Whether the worker of the switch at a place is to stop.
     pub fn stops(&self, place: usize) -> bool
-        requires { place < length L.start.sites }
+        requires { place < length L.start.peers }
         ensures { IsTrue result ↔ Stops self.now place }
     {
         self.closed

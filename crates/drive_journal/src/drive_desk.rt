@@ -7,7 +7,7 @@ use crate::moment::{is_done, stand_of};
 use crate::name::DriveName;
 use crate::refused::Refused;
 use crate::steered::Steered;
-use crate::updates::Next;
+use crate::updates::CallerTask;
 use outside_net::{Link, Receipt};
 use status_board::Post;
 use std::alloc::{AllocError, Global};
@@ -88,17 +88,17 @@ impl<R: Wait + Clock + Drop, L: DriveName, E: Link, Q: Receipt> DriveDesk<R, L, 
     }
 
     /// Begins the next update, or says what the caller is to do. It waits if there is nothing to do.
-    pub fn update(&self) -> Result<Next, AllocError> {
+    pub fn update(&self) -> Result<CallerTask, AllocError> {
         let mut guard = self.drive.lock(&self.rt);
         let next = match &mut *guard {
-            None => Ok(Next::Stop),
+            None => Ok(CallerTask::Stop),
             Some(drive) => drive.update(),
         };
         match next {
-            Ok(Next::Nothing) => {
+            Ok(CallerTask::Nothing) => {
                 self.rest(guard);
             }
-            Ok(Next::Step) => {
+            Ok(CallerTask::Step) => {
                 drop(guard);
                 self.bell.notify_all();
             }

@@ -2,7 +2,7 @@
 ghost use Rattle.std.specs.Prelude.{ℕ, List, Option};
 ghost use Rattle.openflow_wire.specs.Writing.{Fits};
 ghost use Rattle.worker_desk.specs.Streams.{TellsWhereKnown};
-ghost use Rattle.drive_journal.specs.Calls.{IsElement, IsNext};
+ghost use Rattle.drive_journal.specs.Calls.{IsElement, IsNextElement};
 ghost use Rattle.drive_journal.specs.Elements.{IsFitting};
 
 use of_framing::first_element;
@@ -24,7 +24,7 @@ pub enum Element {
 pub(crate) fn read_element(alloc: Global, bytes: &[u8]) -> Element
     ensures is { IsElement bytes.now result }
     ensures fits { IsFitting result }
-    ensures next { (k : ℕ) (received : Option (List ℕ)) → TellsWhereKnown received k bytes.now → IsNext k received result }
+    ensures next { (k : ℕ) (received : Option (List ℕ)) → TellsWhereKnown received k bytes.now → IsNextElement k received result }
 {
     match first_element(alloc, bytes) {
         None => Element::Rest,

@@ -10,7 +10,7 @@ use update_coordinator::Coordinator;
 
 // Does what came from a switch, and says whether it did: it does nothing if the coordinator has halted.
 pub(crate) fn take_in(coordinator: &mut Coordinator, event: &Steering) -> bool
-    requires place { IsAmong (length coordinator.old.sites) event.now }
+    requires place { IsAmong (length coordinator.old.peers) event.now }
     requires losses { HaltsAtLoss coordinator.old }
     ensures { MatchBool result (Steers coordinator.old event.now coordinator.new) ((coordinator.old.halt ≢ None) × (coordinator.new ≡ coordinator.old)) }
 {

@@ -27,4 +27,4 @@ pub use refused::Refused;
 pub use seat::DriveSeat;
 pub use steered::Steered;
 pub use steering::Steering;
-pub use updates::Next;
+pub use updates::CallerTask;

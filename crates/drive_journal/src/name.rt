@@ -1,7 +1,7 @@
 //! What a drive is named after.
 ghost use Rattle.std.specs.Prelude.{[], None};
 ghost use Rattle.update_coordinator.specs.Controls.{Control};
-ghost use Rattle.update_coordinator.specs.Starts.{start};
+ghost use Rattle.update_coordinator.specs.Starts.{initial_control};
 
 use std::marker::Brand;
 
@@ -12,5 +12,5 @@ pub trait DriveName {
 }
 
 impl DriveName for Brand {
-    ghost start = { start [] [] 0 None };
+    ghost start = { initial_control [] [] 0 None };
 }

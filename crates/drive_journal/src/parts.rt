@@ -12,7 +12,7 @@ impl<L: DriveName, E: Link, Q: Receipt> Steered<L, E, Q> {
     /// The coordinator.
     pub fn coordinator(&self) -> &Coordinator
         ensures is { result.now ≡ self.now.control }
-        ensures count { length result.now.sites ≡ length L.start.sites }
+        ensures count { length result.now.peers ≡ length L.start.peers }
     {
         &self.coordinator
     }
@@ -26,7 +26,7 @@ impl<L: DriveName, E: Link, Q: Receipt> Steered<L, E, Q> {
 
     /// How many messages of the switch at a place were heard.
     pub fn told(&self, place: usize) -> usize
-        requires { place < length L.start.sites }
+        requires { place < length L.start.peers }
         ensures { result ≡ told_before place self.now.journal }
     {
         self.told[place]
@@ -34,8 +34,8 @@ impl<L: DriveName, E: Link, Q: Receipt> Steered<L, E, Q> {
 
     /// How many switches there are: as many as at the start.
     pub fn switch_count(&self) -> usize
-        ensures here { result ≡ length self.now.control.sites }
-        ensures start { result ≡ length L.start.sites }
+        ensures here { result ≡ length self.now.control.peers }
+        ensures start { result ≡ length L.start.peers }
     {
         self.coordinator.switch_count()
     }

@@ -31,7 +31,7 @@ impl<L: DriveName, E: Link, Q: Receipt> Model for Steered<L, E, Q> {
 
     ghost view = { λ h. record { control = h.coordinator; journal = h.journal.items; receipts = h.receipts.items; ends = h.ends.items } };
 
-    ghost invariant = { λ h. IsSteered E.named E.faults E.received Q.stamped L.start h.coordinator h.journal.items h.receipts.items h.ends.items × AreCounts h.journal.items h.told.items × (length h.told.items ≡ length L.start.sites) × (length h.coordinator.sites ≡ length L.start.sites) × AreWritable h.journal.items × HaltsAtLoss h.coordinator };
+    ghost invariant = { λ h. IsSteered E.named E.faults E.received Q.stamped L.start h.coordinator h.journal.items h.receipts.items h.ends.items × AreCounts h.journal.items h.told.items × (length h.told.items ≡ length L.start.peers) × (length h.coordinator.peers ≡ length L.start.peers) × AreWritable h.journal.items × HaltsAtLoss h.coordinator };
 }
 
 impl<L: DriveName, E: Link, Q: Receipt> Steered<L, E, Q> {
@@ -39,7 +39,7 @@ impl<L: DriveName, E: Link, Q: Receipt> Steered<L, E, Q> {
     ghost use Rattle.update_coordinator.specs.Calls.{begin_refusal, drain_refusal};
     ghost use Rattle.update_coordinator.specs.Sending.{MaySend};
     ghost use Rattle.drive_journal.specs.declared.steering.Steering.TheVariants as steering;
-    ghost use Rattle.drive_journal.specs.Cuts.{Halts, HandsBack, IsAmong, Keeps, Notes, Refuses, Sends};
+    ghost use Rattle.drive_journal.specs.Cuts.{Halts, HandsBack, IsAmong, KeepsEnd, NotesEvent, Refuses, Sends};
     ghost use Rattle.drive_journal.specs.Journals.{IsWritable, MetBy};
     ghost use Rattle.drive_journal.specs.Losses.{HaltsAtLoss};
     ghost use Rattle.drive_journal.specs.Steering.{Steers};
@@ -65,7 +65,7 @@ impl<L: DriveName, E: Link, Q: Receipt> Steered<L, E, Q> {
 
     /// Begins the next update, and notes it.
     pub fn begin(&mut self) -> Result<(), Refused<()>>
-        ensures begun { OnOk result (Notes steering.Begin self.old self.new) }
+        ensures begun { OnOk result (NotesEvent steering.Begin self.old self.new) }
         ensures refused { IfErr result (Refuses (begin_refusal self.old.control ≢ None)) }
         ensures err { OnErr result (self.new ≡ self.old) }
     {
@@ -82,7 +82,7 @@ impl<L: DriveName, E: Link, Q: Receipt> Steered<L, E, Q> {
     /// Sends the next message to the switch at a place, and notes it. A copy of it is given, unless memory
     /// runs out after the message was noted.
     pub fn send(&mut self, alloc: Global, place: usize) -> Result<Option<Message>, Refused<()>>
-        requires { place < length L.start.sites }
+        requires { place < length L.start.peers }
         ensures sent { IfOk result (λ copy. Sends place copy self.old self.new) }
         ensures refused { IfErr result (Refuses (¬ MaySend place self.old.control)) }
         ensures err { OnErr result (self.new ≡ self.old) }
@@ -128,13 +128,13 @@ impl<L: DriveName, E: Link, Q: Receipt> Steered<L, E, Q> {
     /// Does what came over an end: a message, a fault of the stream, or that the session is lost. The end is kept if
     /// this halts the coordinator, and else it comes back.
     pub fn cut(&mut self, event: Steering, end: E) -> Result<Option<E>, Refused<E>>
-        requires place { IsAmong (length L.start.sites) event }
+        requires place { IsAmong (length L.start.peers) event }
         requires met { MetBy E.named E.faults E.received self.old.journal event end }
         requires fits { IsWritable event }
         ensures step { OnOk result (Steers self.old.control event self.new.control) }
         ensures refused { IfErr result (Refuses (self.old.control.halt ≢ None)) }
         ensures journal { OnOk result (self.new.journal ≡ self.old.journal ++ event ∷ []) }
-        ensures kept { IfOk result (Keeps end self.old.ends self.new) }
+        ensures kept { IfOk result (KeepsEnd end self.old.ends self.new) }
         ensures halts { IfOk result (λ back. Halts event → back ≡ None) }
         ensures receipts { OnOk result (self.new.receipts ≡ self.old.receipts) }
         ensures err { OnErr result (self.new ≡ self.old) }

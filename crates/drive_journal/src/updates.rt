@@ -12,7 +12,7 @@ use update_coordinator::{Coordinator, Phase};
 
 /// What the caller is to do.
 #[derive(Clone, Copy, Debug, PartialEq, Eq)]
-pub enum Next {
+pub enum CallerTask {
     /// It has begun an update.
     Step,
     /// To wait for the report of this stamp: 1 to 4094.
@@ -36,15 +36,15 @@ impl<L: DriveName, E: Link, Q: Receipt> Drive<L, E, Q> {
     }
 
     /// Begins the next update, or says what the caller is to do.
-    pub fn update(&mut self) -> Result<Next, AllocError>
+    pub fn update(&mut self) -> Result<CallerTask, AllocError>
         ensures answer { IfOk result (Updates self.old self.new) }
         ensures memory { OnErr result (self.new ≡ self.old) }
     {
         if self.closed || self.is_over() {
-            return Ok(Next::Stop);
+            return Ok(CallerTask::Stop);
         }
         match self.held.begin() {
-            Ok(()) => Ok(Next::Step),
+            Ok(()) => Ok(CallerTask::Step),
             Err(Refused::Memory(())) => Err(AllocError),
             Err(Refused::NotEnabled(())) => Ok(awaited(self.coordinator())),
         }
@@ -62,11 +62,11 @@ pub(crate) fn is_last(coordinator: &Coordinator) -> bool
 }
 
 // What the caller is to wait for, if no update can begin.
-fn awaited(coordinator: &Coordinator) -> Next
+fn awaited(coordinator: &Coordinator) -> CallerTask
     ensures { IsAwaitedBy coordinator.now result }
 {
     match coordinator.leaving() {
-        Some(stamp) => Next::Wait(stamp),
-        None => Next::Nothing,
+        Some(stamp) => CallerTask::Wait(stamp),
+        None => CallerTask::Nothing,
     }
 }

@@ -3,9 +3,9 @@ use Rattle.std.proofs.Common.{◌≡◌, ◌≢◌, ◌<◌, inr, ℕ, List, [],
 use Rattle.std.proofs.lemmas.Option.{slice_get-get_or}
 use Rattle.openflow_wire.specs.declared.message.Message.{Message}
 use Rattle.update_coordinator.specs.Calls.{begin_refusal, begun, drain_refusal, drained}
-use Rattle.update_coordinator.specs.Controls.{Control, Site, unsent_at}
+use Rattle.update_coordinator.specs.Controls.{Control, Peer, unsent_at}
 use Rattle.update_coordinator.specs.Sending.{IsSent}
-use Rattle.update_laws.specs.Fleets.{End}
+use Rattle.update_laws.specs.Fleets.{WiredSwitch}
 use Rattle.update_laws.proofs.Places.{get-within}
 use Rattle.world_core.specs.declared.event.Event.{Event}
 use Rattle.world_core.specs.declared.event.Event.TheVariants as event
@@ -32,15 +32,15 @@ some-halt : {X : Type 0} (o : Option X) (x : X) → o ≡ Some x → o ≢ None
 some-halt o x e = λ n. cc
 
 -- the switch of a session has a place
-within : SwitchesFollow → (w : WorldValue) (s : ℕ) (site : Site) → IsKept w → slice_get w.fleet.control.sites s ≡ Some site → s < length w.fleet.ends
-within f w s site k here = omega (arith, (f w k).ends, get-within s w.fleet.control.sites site here)
+within : SwitchesFollow → (w : WorldValue) (s : ℕ) (peer : Peer) → IsKept w → slice_get w.fleet.control.peers s ≡ Some peer → s < length w.fleet.ends
+within f w s peer k here = omega (arith, (f w k).ends, get-within s w.fleet.control.peers peer here)
 
 sends-up : SwitchesFollow → (w : WorldValue) (s : ℕ) (m : Message) (d : Control) → IsKept w → IsSent s w.fleet.control d m → Lifts w (event.Controller (of_controller.Send s)) d
 sends-up f w s m d k h =
-    let old : End = get_or w.fleet.ends s (new_end 0 0) in
-    let here : slice_get w.fleet.ends s ≡ Some old = slice_get-get_or w.fleet.ends s (new_end 0 0) (within f w s h.site k h.here) in
-    let now : End = record old { there = old.there ++ m ∷ [] } in (
-      record { running = h.running; site = h.site; here = h.here; some = not-none h.order h.rest (unsent_at w.fleet.control h.site) h.front },
+    let old : WiredSwitch = get_or w.fleet.ends s (new_end 0 0) in
+    let here : slice_get w.fleet.ends s ≡ Some old = slice_get-get_or w.fleet.ends s (new_end 0 0) (within f w s h.peer k h.here) in
+    let now : WiredSwitch = record old { there = old.there ++ m ∷ [] } in (
+      record { running = h.running; peer = h.peer; here = h.here; some = not-none h.order h.rest (unsent_at w.fleet.control h.peer) h.front },
       (
         record w { fleet = record { control = d; ends = slice_set w.fleet.ends s now } },
         record {
@@ -74,9 +74,9 @@ lifts f w Begin d e k l h m = subst (λ (x : Event). Lifts w x d) (sym m) (h.0, 
 lifts f w (Send s x) d e k l h m = subst (λ (y : Event). Lifts w y d) (sym m) (sends-up f w s x d k h)
 lifts f w (Heard s x) d e k l h m =
     let at = m.0 in
-    let now : End = record at.end_ { back = at.is.0 } in
+    let now : WiredSwitch = record at.end_ { back = at.is.0 } in
     subst (λ (y : Event). Lifts w y d) (sym m.1) (
-      (record { running = h.1.running; site = h.1.site; here = h.1.here; there = h.1.there }, record { end_ = at.end_; here = at.here; is = not-none x at.is.0 at.end_.back at.is.1 }),
+      (record { running = h.1.running; peer = h.1.peer; here = h.1.here; there = h.1.there }, record { end_ = at.end_; here = at.here; is = not-none x at.is.0 at.end_.back at.is.1 }),
       (
         record w { fleet = record { control = d; ends = slice_set w.fleet.ends s now } },
         record {
@@ -90,7 +90,7 @@ lifts f w (Heard s x) d e k l h m =
 lifts f w (Drained stamp) d e k l h m =
     subst (λ (y : Event). Lifts w y d) (sym m.1) ((h.0, m.0), (record w { fleet = record w.fleet { control = d } }, drained-up stamp w d m.0 h.0 h.1, refl))
 lifts f w (Lost s) d e k l h m = subst (λ (y : Event). Lifts w y d) (sym m) (
-  record { running = h.running; site = h.site; here = h.here; there = h.there },
+  record { running = h.running; peer = h.peer; here = h.here; there = h.there },
   (
     record w { fleet = record w.fleet { control = d } },
     record {

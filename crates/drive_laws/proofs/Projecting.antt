@@ -4,7 +4,7 @@ use Rattle.std.specs.List.{AllByRecursion}
 use Rattle.update_coordinator.specs.Controls.{Control}
 use Rattle.update_coordinator.specs.Hearing.{IsLost}
 use Rattle.update_coordinator.proofs.Places.{get_set}
-use Rattle.update_laws.specs.Fleets.{End, Fleet}
+use Rattle.update_laws.specs.Fleets.{WiredSwitch, Fleet}
 use Rattle.update_laws.proofs.Places.{get-within}
 use Rattle.world_core.specs.declared.event.Event.{Event}
 use Rattle.world_core.specs.declared.event.Event.TheVariants as event
@@ -55,7 +55,7 @@ shown w (event.Controller (of_controller.Send p)) v l h s =
         s.step.message,
         record {
           end_ = record s.step.old { there = s.step.old.there ++ s.step.message ∷ [] };
-          here = ap (λ (es : List End). slice_get es p) ends ∙ get_set w.fleet.ends p _ (get-within p w.fleet.ends s.step.old s.step.here);
+          here = ap (λ (es : List WiredSwitch). slice_get es p) ends ∙ get_set w.fleet.ends p _ (get-within p w.fleet.ends s.step.old s.step.here);
           is = (s.step.old.there, refl);
         },
         refl,

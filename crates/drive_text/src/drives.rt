@@ -11,7 +11,7 @@ use openflow_wire::{Message, encode};
 use report_text::{UpdateState, fault_number, put_bytes, put_named, put_numbered, put_state};
 use std::alloc::{AllocError, Global};
 use std::fmt::Write;
-use topology_model::Site;
+use topology_model::DeclaredSwitch;
 use update_coordinator::{Cause, Phase};
 use value_text::Text;
 
@@ -20,7 +20,7 @@ use value_text::Text;
 /// which `switches` has in the order of their places.
 pub fn drive_text(
     alloc: Global,
-    switches: &[Site],
+    switches: &[DeclaredSwitch],
     journal: &[Steering],
     phase: Phase,
     halt: Option<&Cause>,
@@ -45,7 +45,7 @@ pub fn drive_text(
 fn put_journal(
     alloc: Global,
     out: &mut String,
-    switches: &[Site],
+    switches: &[DeclaredSwitch],
     journal: &[Steering],
 ) -> Result<(), AllocError>
     requires { AreWritable journal.now }
@@ -61,7 +61,7 @@ fn put_journal(
 fn put_line(
     alloc: Global,
     out: &mut String,
-    switches: &[Site],
+    switches: &[DeclaredSwitch],
     event: &Steering,
 ) -> Result<(), AllocError>
     requires { IsWritable event.now }
@@ -75,7 +75,7 @@ fn put_line(
 fn put_event(
     alloc: Global,
     out: &mut String,
-    switches: &[Site],
+    switches: &[DeclaredSwitch],
     event: &Steering,
 ) -> Result<(), AllocError>
     requires { IsWritable event.now }

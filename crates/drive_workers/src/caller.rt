@@ -3,7 +3,7 @@ ghost use Rattle.drive_workers.specs.Faults.{AskCause};
 
 use crate::fault::DriveFault;
 use board_readers::{BoardName, Pen};
-use drive_journal::{DriveDesk, DriveName, Next};
+use drive_journal::{CallerTask, DriveDesk, DriveName};
 use outside_net::{Link, Receipt, ReportFailed, Reporter};
 use std::alloc::AllocError;
 use std::sync::Wait;
@@ -22,9 +22,9 @@ pub fn steer<R: Wait + Clock + Drop, L: DriveName, E: Link, Q: Reporter, J: Boar
         let next = desk.update();
         post_stand(desk, pen);
         match next {
-            Ok(Next::Stop) => return Ok(()),
-            Ok(Next::Step) | Ok(Next::Nothing) => {}
-            Ok(Next::Wait(stamp)) => ask(desk, reporter, stamp)?,
+            Ok(CallerTask::Stop) => return Ok(()),
+            Ok(CallerTask::Step) | Ok(CallerTask::Nothing) => {}
+            Ok(CallerTask::Wait(stamp)) => ask(desk, reporter, stamp)?,
             Err(AllocError) => return Err(DriveFault::Memory),
         }
     }

@@ -41,7 +41,7 @@ where
     Q::Receipt: Send + 'static,
     requires runs { coordinator.halt ≡ None }
     requires losses { HaltsAtLoss coordinator }
-    requires count { vec_len ends ≡ length coordinator.sites }
+    requires count { vec_len ends ≡ length coordinator.peers }
     requires ends { AreEnds E.named E.received ends.items }
     ensures journal { IfOk result (λ r. IsSteered E.named E.faults E.received Q.Receipt.stamped coordinator r.0 r.1.items r.2.items r.3.items) }
     ensures writable { IfOk result (λ r. AreWritable r.1.items) }
@@ -75,7 +75,7 @@ where
     requires board { board ≡ L.book }
     requires runs { coordinator.halt ≡ None }
     requires losses { HaltsAtLoss coordinator }
-    requires count { vec_len ends ≡ length L.start.sites }
+    requires count { vec_len ends ≡ length L.start.peers }
     requires ends { AreEnds E.named E.received ends.items }
     ensures journal { IfOk result (λ r. IsSteered E.named E.faults E.received Q.Receipt.stamped L.start r.0 r.1.items r.2.items r.3.items) }
     ensures writable { IfOk result (λ r. AreWritable r.1.items) }

@@ -39,7 +39,7 @@ pub fn drive_fleet<
 ) -> Result<Steered<L, E, Q::Receipt>, DriveFault>
 where
     Q::Receipt: Send + 'static,
-    requires count { vec_len ends ≡ length L.start.sites }
+    requires count { vec_len ends ≡ length L.start.peers }
     requires ends { AreEnds E.named E.received ends.items }
     ensures over { IfOk result (λ h. IsOver h.control) }
     ensures cause { RunCause (T.faults threads.old) (T.faults threads.new) (Q.faults reporter.old) (Q.faults reporter.new) result }
@@ -93,7 +93,7 @@ impl<
         threads: &mut T,
         pen: &mut Pen<J, R>,
     ) -> Result<(), DriveFault>
-        requires count { vec_len ends ≡ length L.start.sites }
+        requires count { vec_len ends ≡ length L.start.peers }
         requires ends { AreEnds E.named E.received ends.items }
         ensures { RunCause (T.faults threads.old) (T.faults threads.new) (P.faults reporter.old) (P.faults reporter.new) result }
     {
@@ -103,7 +103,7 @@ impl<
 
     // Starts all workers. An end that was not handed out is dropped.
     fn start_all<T: Spawner>(&self, ends: Vec<E>, threads: &mut T) -> Result<(), DriveFault>
-        requires count { vec_len ends ≡ length L.start.sites }
+        requires count { vec_len ends ≡ length L.start.peers }
         requires ends { AreEnds E.named E.received ends.items }
         ensures { StartsAs (T.faults threads.old) (T.faults threads.new) result }
     {
@@ -117,7 +117,7 @@ impl<
 
     // The worker of the switch at a place.
     fn worker(&self, place: usize, end: E) -> Result<DriveWorker<R, L, E, Q, G>, DriveFault>
-        requires place { place < length L.start.sites }
+        requires place { place < length L.start.peers }
         requires end { IsEndOf E.named E.received place end }
         ensures memory { IfErr result (λ f. f ≡ DriveFault.Memory) }
     {

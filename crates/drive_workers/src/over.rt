@@ -40,7 +40,7 @@ where
     Q::Receipt: Send + 'static,
     requires runs { coordinator.halt ≡ None }
     requires losses { HaltsAtLoss coordinator }
-    requires switches { length coordinator.sites < 2 ^ 32 }
+    requires switches { length coordinator.peers < 2 ^ 32 }
     ensures driven { IfOk result (λ r. IsDriven Q.Receipt.stamped (N.broken net.old) (N.broken net.new) coordinator r.0 r.1.items) }
     ensures cause { DriveCause (N.faults net.old) (N.faults net.new) (T.faults threads.old) (T.faults threads.new) (Q.faults reporter.old) (Q.faults reporter.new) result }
 {

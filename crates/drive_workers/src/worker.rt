@@ -16,7 +16,7 @@ pub struct DriveWorker<R: Wait + Clock + Drop, L: DriveName, E: Link, Q: Receipt
     place: usize,
     end: E,
     gate: Arc<G>,
-    ghost seated: { place < length L.start.sites },
+    ghost seated: { place < length L.start.peers },
     ghost met: { IsEndOf E.named E.received place end },
 }
 
@@ -34,7 +34,7 @@ impl<R: Wait + Clock + Drop, L: DriveName, E: Link, Q: Receipt, G: Gate> DriveWo
         end: E,
         gate: Arc<G>,
     ) -> DriveWorker<R, L, E, Q, G>
-        requires place { place < length L.start.sites }
+        requires place { place < length L.start.peers }
         requires end { IsEndOf E.named E.received place end }
     {
         DriveWorker {
@@ -52,7 +52,7 @@ fn run_worker<R: Wait + Clock + Drop, L: DriveName, E: Link, Q: Receipt, G: Gate
     place: usize,
     end: E,
 )
-    requires place { place < length L.start.sites }
+    requires place { place < length L.start.peers }
     requires end { IsEndOf E.named E.received place end }
 {
     let mut seat = DriveSeat::new(place);

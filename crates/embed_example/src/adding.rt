@@ -9,7 +9,7 @@ ghost use Rattle.openflow_wire.specs.Writing.{written};
 ghost use Rattle.policy_rows.specs.Limits.{AreWritable};
 
 use bytes::BytesMut;
-use nk_values::{ANY_PORT, Command, FlowMod, PortRows, Row, Rows};
+use nk_values::{ANY_PORT, FlowCommand, FlowMod, PortRows, Row, Rows};
 use openflow_wire::{Message, encode};
 use std::alloc::{AllocError, Global};
 
@@ -46,7 +46,7 @@ fn addition(alloc: Global, row: &Row) -> Result<BytesMut, AllocError>
     ensures { IfOk result (λ bytes. bytes.items ≡ written (to.FlowMod 0 (mod_of true row.now))) }
 {
     let change = FlowMod {
-        command: Command::Add,
+        command: FlowCommand::Add,
         pattern: row.pattern,
         priority: row.priority,
         out_port: ANY_PORT,

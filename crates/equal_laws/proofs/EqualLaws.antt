@@ -5,7 +5,7 @@ use Rattle.nk_values.specs.declared.packet.Packet.{Packet}
 use Rattle.nk_values.specs.Members.{IsIn}
 use Rattle.nk_values.specs.Packets.{IsWellShaped, IsInRange}
 use Rattle.nk_values.specs.Ranges.{IsValue}
-use Rattle.nk_values.specs.Trails.{Trail, start}
+use Rattle.nk_values.specs.Trails.{Trail, one_packet}
 use Rattle.nk_values.proofs.MemberLaws.{from-flat_map}
 use Rattle.nk_syntax.specs.Terms.{Term}
 use Rattle.nk_syntax.specs.Views.{term_row}
@@ -40,8 +40,8 @@ abbrev There : Term → Term → Type 0
 There p q = (pk x : Packet) → IsWellShaped pk → HasResult p pk x → HasResult q pk x
 
 -- what the one reaches in k hops the other reaches, and it is well shaped
-reach : (w : Wiring) (p q : Term) → IsWiring w → IsPlain p → IsPlain q → There p q → (pk : Packet) → IsWellShaped pk → (k : ℕ) (h : Trail) → Reaches w p (start pk) k h
-    → Reaches w q (start pk) k h × IsWellShaped h.newest
+reach : (w : Wiring) (p q : Term) → IsWiring w → IsPlain p → IsPlain q → There p q → (pk : Packet) → IsWellShaped pk → (k : ℕ) (h : Trail) → Reaches w p (one_packet pk) k h
+    → Reaches w q (one_packet pk) k h × IsWellShaped h.newest
 reach w p q wired a b there pk shaped zero h e = (e, subst (λ (x : Trail). IsWellShaped x.newest) e shaped)
 reach w p q wired a b there pk shaped (suc k) h (g, r, l) =
     let before = reach w p q wired a b there pk shaped k g r in
@@ -54,7 +54,7 @@ reach w p q wired a b there pk shaped (suc k) h (g, r, l) =
           (moved-shaped n.packet n.end (a.shaped g.newest n.packet before.1 n.made) range.0 range.1),
     )
 
-finish : (w : Wiring) (p q : Term) → IsWiring w → IsPlain p → IsPlain q → There p q → (pk : Packet) → IsWellShaped pk → (h : Trail) → Finishes w p (start pk) h → Finishes w q (start pk) h
+finish : (w : Wiring) (p q : Term) → IsWiring w → IsPlain p → IsPlain q → There p q → (pk : Packet) → IsWellShaped pk → (h : Trail) → Finishes w p (one_packet pk) h → Finishes w q (one_packet pk) h
 finish w p q wired a b there pk shaped h f =
     let r = reach w p q wired a b there pk shaped f.hops f.copy f.reached in
     let n = from-leave w p f.copy h a.bare f.leaves in
@@ -69,7 +69,7 @@ finish w p q wired a b there pk shaped h f =
 -- a packet with a complete history came in at an edge port, without a tag
 came-in : (w : Wiring) (p : Term) (pk : Packet) (tag : Option ℕ) (h : Trail) → IsComplete w p pk tag h → (tag ≡ None) × IsIn w.edges (standing pk)
 came-in w p pk tag h (none, (n, m)) =
-    let a = from-chain (edge_term w) (term_row (rest w p ∷ [])) n (start pk) h m in (none, (from-edges w.edges n (start pk) a.0 a.1).0)
+    let a = from-chain (edge_term w) (term_row (rest w p ∷ [])) n (one_packet pk) h m in (none, (from-edges w.edges n (one_packet pk) a.0 a.1).0)
 
 complete : (w : Wiring) (p q : Term) → IsWiring w → IsPlain p → IsPlain q → There p q → (pk : Packet) (tag : Option ℕ) (h : Trail) → IsWellShaped pk → IsComplete w p pk tag h → IsComplete w q pk tag h
 complete w p q wired a b there pk tag h shaped c =
@@ -84,7 +84,7 @@ complete-alike w p q wired a b alike pk tag h shaped =
 -- so did one with an open history
 open-from : (w : Wiring) (p : Term) (pk : Packet) (tag : Option ℕ) (k : ℕ) (h : Trail) → IsOpen w p pk tag k h → IsIn w.edges (standing pk)
 open-from w p pk tag k h (none, n, m) =
-    let a = from-flat_map (times k (den (hop w p) n)) (den (edge_term w) n (start pk)) h m in (from-edges w.edges n (start pk) a.0 a.1).0
+    let a = from-flat_map (times k (den (hop w p) n)) (den (edge_term w) n (one_packet pk)) h m in (from-edges w.edges n (one_packet pk) a.0 a.1).0
 
 flying : (w : Wiring) (p q : Term) → IsWiring w → IsPlain p → IsPlain q → There p q → (pk : Packet) (tag : Option ℕ) (k : ℕ) (h : Trail) → IsWellShaped pk → IsOpen w p pk tag k h → IsOpen w q pk tag k h
 flying w p q wired a b there pk tag k h shaped c =

@@ -24,7 +24,7 @@ use Rattle.fdd_differ.specs.Unnamed.{AreFewNames, IsFreshOf}
 use Rattle.fdd_differ.proofs.KindLaws.{left_by_kind, kind_by_left}
 use Rattle.fdd_differ.proofs.WitnessLaws.{kind_agrees}
 use Rattle.fdd_store.specs.contracts.id.IdPartialEq.TheImpl as id_impl
-use Rattle.fdd_store.specs.Leaves.{Adds}
+use Rattle.fdd_store.specs.Leaves.{AddsCopies}
 use Rattle.fdd_store.specs.Operations.{ChoiceOf}
 use Rattle.fdd_store.specs.Stores.{Kept, Has, Gives, Grows, tree_at}
 use Rattle.fdd_store.proofs.ForkLaws.{node_then_as, node_else_as}
@@ -89,7 +89,7 @@ kind_of p = elim (eqb_tells p.header.eth_typ 2048) [
 
 -- ---- restrictions
 
-pub restricts_leaf : (k : Frame) (a : Tree) (cs ds : List (List Lit)) → a ≡ Leaf cs → Adds (frame_cell k) cs [] ds → Restricts k a (Leaf ds)
+pub restricts_leaf : (k : Frame) (a : Tree) (cs ds : List (List Lit)) → a ≡ Leaf cs → AddsCopies (frame_cell k) cs [] ds → Restricts k a (Leaf ds)
 restricts_leaf k a cs ds e h =
     let s = settles (frame_cell k) cs ds h in
     subst (λ (x : Tree). Restricts k x (Leaf ds)) (sym e) (record {

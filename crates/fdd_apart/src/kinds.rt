@@ -6,7 +6,7 @@ ghost use Rattle.fdd_nodes.specs.Cells.{IsOpen};
 ghost use Rattle.nk_values.specs.Lits.{lit_field};
 ghost use Rattle.fdd_nodes.specs.Names.{IsFew};
 ghost use Rattle.fdd_nodes.specs.Roots.{IsLeaf};
-ghost use Rattle.fdd_store.specs.Leaves.{Adds};
+ghost use Rattle.fdd_store.specs.Leaves.{AddsCopies};
 ghost use Rattle.fdd_store.specs.Looks.{Forked};
 ghost use Rattle.fdd_store.specs.Made.{IsMade};
 ghost use Rattle.fdd_store.specs.Stores.{Kept, Has, Gives, Grows, tree_at};
@@ -139,7 +139,7 @@ fn restrict_leaf(alloc: Global, store: &mut Store, frame: Frame, a: Id) -> Resul
 
 // Copies without what a cell fixes.
 fn stripped(alloc: Global, cell: &Cell, copies: &[Assignments]) -> Result<Leaf, AllocError>
-    ensures { IfOk result (λ r. Adds cell.now copies.now [] r) }
+    ensures { IfOk result (λ r. AddsCopies cell.now copies.now [] r) }
 {
     let mut leaf = Leaf::empty(alloc);
     for c in copies {

@@ -6,12 +6,12 @@ use Rattle.std.proofs.lemmas.List.Sorted.{Contains-permutation, IsPermutation-sy
 use Rattle.nk_values.specs.declared.lit.Lit.{Lit}
 use Rattle.nk_values.specs.Members.{IsIn, SameMembers}
 use Rattle.nk_values.proofs.MemberLaws.{in-left, in-right, in-either}
-use Rattle.fdd_nodes.specs.Copies.{Puts}
+use Rattle.fdd_nodes.specs.Copies.{PutsCopy}
 
 pub same_itself : {X : Type 0} (xs : List X) → SameMembers xs xs
 same_itself xs = record { front = λ x h. h; back = λ x h. h }
 
-pub same_put : (cs ds es : List (List Lit)) (c : List Lit) → SameMembers cs ds → Puts c cs es → SameMembers es (ds ++ c ∷ [])
+pub same_put : (cs ds es : List (List Lit)) (c : List Lit) → SameMembers cs ds → PutsCopy c cs es → SameMembers es (ds ++ c ∷ [])
 same_put cs ds es c s p = record {
   front = λ x h. elim (p.only x h) [ inl w ↦ in-left ds (c ∷ []) x (s.front x w) | inr e ↦ in-right ds (c ∷ []) x (inl e) ];
   back = λ x h. elim (in-either ds (c ∷ []) x h) [

@@ -14,7 +14,7 @@ use Rattle.nk_values.specs.Members.{IsIn}
 use Rattle.nk_values.specs.Ranks.{lit_cmp}
 use Rattle.nk_values.specs.contracts.lit.LitOrd.TheImpl.Laws.{total-law, matches_eq-law}
 use Rattle.nk_values.proofs.LitLaws.{lit_eq-Decides}
-use Rattle.fdd_nodes.specs.Copies.{copy_cmp, copy_eq, IsPlace, Puts}
+use Rattle.fdd_nodes.specs.Copies.{copy_cmp, copy_eq, IsPlace, PutsCopy}
 use Rattle.nk_values.specs.declared.packet.Packet.{Packet}
 use Rattle.fdd_nodes.specs.Trees.{outcomes, SameAnswers}
 use Rattle.nk_values.proofs.MemberLaws.{in-left, in-right, in-either}
@@ -136,7 +136,7 @@ pub rising_none : IsStrictlySortedBy copy_cmp []
 unfolding IsStrictlySortedBy
 rising_none = tt
 
-pub puts_insert : (c : List Lit) (old : List (List Lit)) (i : ℕ) → Puts c old (take i old ++ c ∷ drop i old)
+pub puts_insert : (c : List Lit) (old : List (List Lit)) (i : ℕ) → PutsCopy c old (take i old ++ c ∷ drop i old)
 puts_insert c old i =
     let whole = take-append-drop i old in
     record {
@@ -154,7 +154,7 @@ puts_insert c old i =
       ];
     }
 
-pub puts_there : (c : List Lit) (old : List (List Lit)) → IsIn old c → Puts c old old
+pub puts_there : (c : List Lit) (old : List (List Lit)) → IsIn old c → PutsCopy c old old
 puts_there c old h = record { kept = λ x k. k; has = h; only = λ x k. inl k }
 
 -- one copy more of a list that rises as far

@@ -68,7 +68,7 @@ pub record IsPlace (c : List Lit) (cs : List (List Lit)) (i : ℕ) : Type 0 wher
   pub behind : AllByRecursion (λ x. copy_cmp x c ≡ Greater) (drop i cs)
 
 -- new has the copy c, beside what old has
-pub record Puts (c : List Lit) (old new : List (List Lit)) : Type 0 where
+pub record PutsCopy (c : List Lit) (old new : List (List Lit)) : Type 0 where
   pub kept : (x : List Lit) → IsIn old x → IsIn new x
   pub has : IsIn new c
   pub only : (x : List Lit) → IsIn new x → IsIn old x ⊎ (c ≡ x)

@@ -41,7 +41,7 @@ impl Model for Leaf {
 impl Leaf {
     ghost use Rattle.std.specs.Prelude.{[], ◌∷◌, OnOk, OnErr};
     ghost use Rattle.std.specs.List.Sorted.{IsStrictlySortedBy};
-    ghost use Rattle.fdd_nodes.specs.Copies.{Puts, copy_cmp};
+    ghost use Rattle.fdd_nodes.specs.Copies.{PutsCopy, copy_cmp};
     ghost use Rattle.fdd_nodes.specs.Trees.{SameAnswers};
 
     /// The leaf with no copy.
@@ -101,7 +101,7 @@ impl Leaf {
 
     /// Adds a copy, if it is not there.
     pub fn put(&mut self, copy: Assignments) -> Result<(), AllocError>
-        ensures ok { OnOk result (Puts copy self.old self.new) }
+        ensures ok { OnOk result (PutsCopy copy self.old self.new) }
         ensures err { OnErr result (self.new ≡ self.old) }
     {
         if let Some(place) = place_for(&self.copies, &copy) {

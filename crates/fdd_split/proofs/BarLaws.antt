@@ -3,27 +3,27 @@ use Rattle.std.proofs.Common.{◌≡◌, ◌⊎◌, inl, inr, sym, subst, List, 
 use Rattle.nk_values.specs.declared.lit.Lit.{Lit}
 use Rattle.fdd_nodes.specs.Trees.{Tree, Assigns}
 use Rattle.fdd_split.specs.declared.bars.Bar.{Bar}
-use Rattle.fdd_split.specs.Bars.{Bars, IsBarredBy, Adds, Narrows}
+use Rattle.fdd_split.specs.Bars.{SomeBars, IsBarredBy, AddsBar, Narrows}
 
-pub bars_pushed : (k : List Bar) (b : Bar) (y : Lit) → Bars (k ++ b ∷ []) y → Bars k y ⊎ IsBarredBy b y
+pub bars_pushed : (k : List Bar) (b : Bar) (y : Lit) → SomeBars (k ++ b ∷ []) y → SomeBars k y ⊎ IsBarredBy b y
 bars_pushed [] b y (inl h) = inr h
 bars_pushed [] b y (inr h) = absurd h
 bars_pushed (c ∷ k) b y (inl h) = inl (inl h)
 bars_pushed (c ∷ k) b y (inr h) = elim (bars_pushed k b y h) [ inl w ↦ inl (inr w) | inr w ↦ inr w ]
 
-pub bars_kept : (k : List Bar) (b : Bar) (y : Lit) → Bars k y → Bars (k ++ b ∷ []) y
+pub bars_kept : (k : List Bar) (b : Bar) (y : Lit) → SomeBars k y → SomeBars (k ++ b ∷ []) y
 bars_kept [] b y h = absurd h
 bars_kept (c ∷ k) b y (inl h) = inl h
 bars_kept (c ∷ k) b y (inr h) = inr (bars_kept k b y h)
 
-pub bars_last : (k : List Bar) (b : Bar) (y : Lit) → IsBarredBy b y → Bars (k ++ b ∷ []) y
+pub bars_last : (k : List Bar) (b : Bar) (y : Lit) → IsBarredBy b y → SomeBars (k ++ b ∷ []) y
 bars_last [] b y h = inl h
 bars_last (c ∷ k) b y h = inr (bars_last k b y h)
 
 -- a bar more, in a list from which what it covers was left out
 pub record Omits (old new : List Bar) (b : Bar) : Type 0 where
-  pub kept : (x : Lit) → Bars old x → Bars new x ⊎ IsBarredBy b x
-  pub only : (x : Lit) → Bars new x → Bars old x
+  pub kept : (x : Lit) → SomeBars old x → SomeBars new x ⊎ IsBarredBy b x
+  pub only : (x : Lit) → SomeBars new x → SomeBars old x
 
 pub omits_none : (b : Bar) → Omits [] [] b
 omits_none b = record { kept = λ x h. inl h; only = λ x h. h }
@@ -43,14 +43,14 @@ omits_more old new b c h = record {
   only = λ x w. elim (bars_pushed new c x w) [ inl v ↦ bars_kept old c x (h.only x v) | inr v ↦ bars_last old c x v ];
 }
 
-pub adds_last : (old new : List Bar) (b : Bar) → Omits old new b → Adds old (new ++ b ∷ []) b
+pub adds_last : (old new : List Bar) (b : Bar) → Omits old new b → AddsBar old (new ++ b ∷ []) b
 adds_last old new b h = record {
   kept = λ x w. elim (h.kept x w) [ inl v ↦ bars_kept new b x v | inr v ↦ bars_last new b x v ];
   has = λ x w. bars_last new b x w;
   only = λ x w. elim (bars_pushed new b x w) [ inl v ↦ inl (h.only x v) | inr v ↦ inr v ];
 }
 
-pub narrows_more : (k j : List Bar) (b : Bar) (t : Tree) → Adds k j b → Narrows k j b t
+pub narrows_more : (k j : List Bar) (b : Bar) (t : Tree) → AddsBar k j b → Narrows k j b t
 narrows_more k j b t h = record { kept = h.kept; has = λ x s v. h.has x v; only = h.only }
 
 pub narrows_same : (k j : List Bar) (b : Bar) (t : Tree) → j ≡ k → ((x : Lit) → Assigns t x → ¬ IsBarredBy b x) → Narrows k j b t

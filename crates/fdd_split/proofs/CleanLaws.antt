@@ -18,7 +18,7 @@ use Rattle.fdd_store.specs.Made.{AreProper, IsProper}
 use Rattle.fdd_store.proofs.MoveLaws.{one_leaf}
 use Rattle.fdd_split.specs.declared.bars.Bar.{Bar}
 use Rattle.fdd_split.specs.declared.bars.Bar.TheVariants.{Place, Literal}
-use Rattle.fdd_split.specs.Bars.{Bars}
+use Rattle.fdd_split.specs.Bars.{SomeBars}
 use Rattle.fdd_split.specs.Divides.{Divides}
 use Rattle.fdd_split.specs.Threats.{HasNoThreat}
 use Rattle.fdd_split.proofs.AnswerLaws.{holds_or, alone_assigned}
@@ -29,9 +29,9 @@ use Rattle.fdd_split.proofs.TidyLaws.{copies_one, leaf_proper, once_in}
 
 -- a literal of the field that the packet holds is barred
 record Caught (k : List Bar) (p : Packet) (f : Field) : Type 0 where
-  always : (y : Lit) → lit_field y ≡ f → Holds p y → Bars k y
+  always : (y : Lit) → lit_field y ≡ f → Holds p y → SomeBars k y
 
-caught_or : (k : List Bar) (p : Packet) (f : Field) → Caught k p f ⊎ ((y : Lit) → lit_field y ≡ f → Holds p y → ¬ Bars k y)
+caught_or : (k : List Bar) (p : Packet) (f : Field) → Caught k p f ⊎ ((y : Lit) → lit_field y ≡ f → Holds p y → ¬ SomeBars k y)
 caught_or [] p f = inr (λ y e h b. b)
 caught_or (Place n ∷ k) p f = elim (eqb_tells (place f) n) [
   | inl s ↦ inl (record { always = λ y e h. inl (ap place e ∙ s.1) })
@@ -57,7 +57,7 @@ caught_or (Literal m ∷ k) p f = elim (field_cases (lit_field m) f) [
 -- the packet's number, or none where what it holds is barred
 record Kept (k : List Bar) (p : Packet) (f : Field) : Type 0 where
   value : ℕ
-  which : ((value ≡ free) × Caught k p f) ⊎ ((value ≡ get p f) × ((y : Lit) → lit_field y ≡ f → Holds p y → ¬ Bars k y))
+  which : ((value ≡ free) × Caught k p f) ⊎ ((value ≡ get p f) × ((y : Lit) → lit_field y ≡ f → Holds p y → ¬ SomeBars k y))
 
 kept : (k : List Bar) (p : Packet) (f : Field) → Kept k p f
 kept k p f = elim (caught_or k p f) [
@@ -94,13 +94,13 @@ get-cleaned k p Ip4Dst = refl
 get-cleaned k p TcpSrcPort = refl
 get-cleaned k p TcpDstPort = refl
 
-cleaned_holds : (k : List Bar) (p : Packet) (y : Lit) → Holds p y → ¬ Bars k y → Holds (cleaned k p) y
+cleaned_holds : (k : List Bar) (p : Packet) (y : Lit) → Holds p y → ¬ SomeBars k y → Holds (cleaned k p) y
 cleaned_holds k p y h n = elim (kept k p (lit_field y)).which [
   | inl w ↦ absurd (n (w.1.always y refl h))
   | inr w ↦ get-cleaned k p (lit_field y) ∙ w.0 ∙ h
 ]
 
-cleaned_held : (k : List Bar) (p : Packet) (y : Lit) → Holds (cleaned k p) y → Holds p y × (¬ Bars k y)
+cleaned_held : (k : List Bar) (p : Packet) (y : Lit) → Holds (cleaned k p) y → Holds p y × (¬ SomeBars k y)
 cleaned_held k p y h = elim (kept k p (lit_field y)).which [
   | inl w ↦ absurd (lit_not_free y (sym h ∙ get-cleaned k p (lit_field y) ∙ w.0))
   | inr w ↦
@@ -113,20 +113,20 @@ pub unbarred_of : (r : Tree) (k : List Bar) (a : Tree) (n : ℕ) → IsReady k a
 unbarred_of (Leaf cs) k a n w d m h = absurd h
 unbarred_of (Node l t e) k a n w (inl d) m h = w.unbarred m (subst (λ (x : Tree). Tests x m) (sym d.1) h)
 unbarred_of (Node l t e) k a n w (inr (inl b)) m (inl s) =
-    subst (λ (x : Lit). ¬ Bars k x) s (w.unbarred l (subst (λ (x : Tree). Tests x l) (sym b.is) (inl refl)))
+    subst (λ (x : Lit). ¬ SomeBars k x) s (w.unbarred l (subst (λ (x : Tree). Tests x l) (sym b.is) (inl refl)))
 unbarred_of (Node l t e) k a n w (inr (inl b)) m (inr (inl h)) =
     λ z. unbarred_of t b.yes_bars b.yes _ (ready_then k a n w l t e b) b.then_is m h (b.yes_narrows.kept m z)
 unbarred_of (Node l t e) k a n w (inr (inl b)) m (inr (inr h)) =
     λ z. unbarred_of e b.no_bars b.no _ (ready_else k a n w l t e b) b.else_is m h (b.no_narrows.kept m z)
 unbarred_of (Node l t e) k a n w (inr (inr d)) m (inl s) =
-    subst (λ (x : Lit). ¬ Bars k x) s (threat_free k a l w.made.proper d.threat)
+    subst (λ (x : Lit). ¬ SomeBars k x) s (threat_free k a l w.made.proper d.threat)
 unbarred_of (Node l t e) k a n w (inr (inr d)) m (inr (inl h)) =
     λ z. unbarred_of t _ d.part _ (ready_part k a n w l t e d) d.then_is m h (d.yes_narrows.kept m z)
 unbarred_of (Node l t e) k a n w (inr (inr d)) m (inr (inr h)) =
     λ z. unbarred_of e _ a _ (ready_rest k a n w l t e d) d.else_is m h (d.no_narrows.kept m z)
 
 -- on a packet that holds nothing barred of what is assigned
-pub once_on : (r : Tree) (k : List Bar) (q : Packet) → AreProper r → HasNoThreat k r → IsUnbarred k r → ((y : Lit) → Assigns r y → Bars k y → ¬ Holds q y) → EachOnce (answers r q)
+pub once_on : (r : Tree) (k : List Bar) (q : Packet) → AreProper r → HasNoThreat k r → IsUnbarred k r → ((y : Lit) → Assigns r y → SomeBars k y → ¬ Holds q y) → EachOnce (answers r q)
 once_on r k q h n u avoid =
     let pr : IsProper (leaf_at r q) = leaf_proper r q h in
     let p : Packet = cleaned k q in

@@ -15,7 +15,7 @@ use Rattle.fdd_nodes.specs.Trees.{apply}
 use Rattle.fdd_nodes.specs.Cells.{free}
 use Rattle.fdd_nodes.specs.Copies.{IsCopy, IsCopyFrom, assigned}
 use Rattle.fdd_nodes.proofs.CellLaws.{lit_not_free}
-use Rattle.fdd_store.specs.Entries.{IsFieldOf}
+use Rattle.fdd_store.specs.Digests.{IsFieldOf}
 use Rattle.fdd_split.specs.Threats.{KeepsField, IsAlone}
 
 pub leaves_more : (l : Lit) (c : List Lit) (f : Field) → lit_field l ≢ f → KeepsField c f → KeepsField (l ∷ c) f

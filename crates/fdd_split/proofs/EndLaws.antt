@@ -18,7 +18,7 @@ use Rattle.fdd_store.proofs.ForkLaws.{level, rank_small}
 use Rattle.fdd_store.proofs.MadeLaws.{tests_from}
 use Rattle.fdd_split.specs.declared.bars.Bar.{Bar}
 use Rattle.fdd_split.specs.declared.bars.Bar.TheVariants.{Place, Literal}
-use Rattle.fdd_split.specs.Bars.{Bars, Narrows}
+use Rattle.fdd_split.specs.Bars.{SomeBars, Narrows}
 
 abbrev pub bars_by : Bar → Lit → Bool
 bars_by (Place n) l = place (lit_field l) == n
@@ -44,7 +44,7 @@ pending k t = length (distinct (free_of k (assigned_in t)))
 abbrev pub weight : List Bar → Tree → ℕ
 weight k t = pending k t + level t
 
-barred_or : (k : List Bar) (l : Lit) → ((are_bars k l ≡ true) × Bars k l) ⊎ ((are_bars k l ≡ false) × (¬ Bars k l))
+barred_or : (k : List Bar) (l : Lit) → ((are_bars k l ≡ true) × SomeBars k l) ⊎ ((are_bars k l ≡ false) × (¬ SomeBars k l))
 barred_or [] l = inr (refl, λ h. h)
 barred_or (Place n ∷ k) l = elim (eqb_tells (place (lit_field l)) n) [
   | inl y ↦ inl (ap (λ b. cond b true (are_bars k l)) y.0, inl y.1)
@@ -61,16 +61,16 @@ barred_or (Literal m ∷ k) l = elim (eqb_tells (rank m) (rank l)) [
   ]
 ]
 
-to_free : (k : List Bar) (ls : List Lit) (x : Lit) → IsIn ls x → ¬ Bars k x → IsIn (free_of k ls) x
+to_free : (k : List Bar) (ls : List Lit) (x : Lit) → IsIn ls x → ¬ SomeBars k x → IsIn (free_of k ls) x
 to_free k [] x h n = absurd h
 to_free k (l ∷ ls) x h n = elim (barred_or k l) [
   | inl w ↦ subst (λ (b : Bool). IsIn (cond b (free_of k ls) (l ∷ free_of k ls)) x) (sym w.0)
-      (elim h [ inl e ↦ absurd (n (subst (λ (z : Lit). Bars k z) e w.1)) | inr i ↦ to_free k ls x i n ])
+      (elim h [ inl e ↦ absurd (n (subst (λ (z : Lit). SomeBars k z) e w.1)) | inr i ↦ to_free k ls x i n ])
   | inr w ↦ subst (λ (b : Bool). IsIn (cond b (free_of k ls) (l ∷ free_of k ls)) x) (sym w.0)
       (elim h [ inl e ↦ inl e | inr i ↦ inr (to_free k ls x i n) ])
 ]
 
-of_free : (k : List Bar) (ls : List Lit) (x : Lit) → IsIn (free_of k ls) x → IsIn ls x × (¬ Bars k x)
+of_free : (k : List Bar) (ls : List Lit) (x : Lit) → IsIn (free_of k ls) x → IsIn ls x × (¬ SomeBars k x)
 of_free k [] x h = absurd h
 of_free k (l ∷ ls) x h = elim (barred_or k l) [
   | inl w ↦
@@ -78,7 +78,7 @@ of_free k (l ∷ ls) x h = elim (barred_or k l) [
   | inr w ↦
       let h' : IsIn (l ∷ free_of k ls) x = subst (λ (b : Bool). IsIn (cond b (free_of k ls) (l ∷ free_of k ls)) x) w.0 h in
       elim h' [
-        | inl e ↦ (inl e, subst (λ (z : Lit). ¬ Bars k z) e w.1)
+        | inl e ↦ (inl e, subst (λ (z : Lit). ¬ SomeBars k z) e w.1)
         | inr i ↦ let r = of_free k ls x i in (inr r.0, r.1)
       ]
 ]
@@ -118,11 +118,11 @@ one_more l ls n = elim (bool_or (has_lit l ls)) [
   | inr f ↦ ap (λ b. length (cond b (distinct ls) (l ∷ distinct ls))) f ∙ omega arith
 ]
 
-pub pending_within : (k j : List Bar) (t u : Tree) → ((x : Lit) → Assigns u x → Assigns t x) → ((x : Lit) → Bars k x → Bars j x) → pending j u ≤ pending k t
+pub pending_within : (k j : List Bar) (t u : Tree) → ((x : Lit) → Assigns u x → Assigns t x) → ((x : Lit) → SomeBars k x → SomeBars j x) → pending j u ≤ pending k t
 pending_within k j t u s b = count_within (free_of j (assigned_in u)) (free_of k (assigned_in t)) (λ m i.
     let r = of_free j (assigned_in u) m i in to_free k (assigned_in t) m (assigned_there t m (s m (there_assigned u m r.0))) (λ z. r.1 (b m z)))
 
-pub pending_falls : (k j : List Bar) (t u : Tree) (l : Lit) → ((x : Lit) → Assigns u x → Assigns t x) → ((x : Lit) → Bars k x → Bars j x) → Assigns t l → ¬ Bars k l → (Assigns u l → Bars j l) → pending j u < pending k t
+pub pending_falls : (k j : List Bar) (t u : Tree) (l : Lit) → ((x : Lit) → Assigns u x → Assigns t x) → ((x : Lit) → SomeBars k x → SomeBars j x) → Assigns t l → ¬ SomeBars k l → (Assigns u l → SomeBars j l) → pending j u < pending k t
 pending_falls k j t u l s b a n h =
     let w : length (distinct (l ∷ free_of j (assigned_in u))) ≤ pending k t = count_within (l ∷ free_of j (assigned_in u)) (free_of k (assigned_in t)) (λ m i. elim i [
       | inl e ↦ subst (λ (z : Lit). IsIn (free_of k (assigned_in t)) z) e (to_free k (assigned_in t) l (assigned_there t l a) n)
@@ -141,16 +141,16 @@ level_within (Node l t e) (Node m y n) h s =
     let c = rank_small l in
     omega (arith, a, b, c)
 
-pub weight_of_part : (k i : List Bar) (l : Lit) (a u : Tree) → IsMade a → Cuts l a u → Narrows k i (Place (place (lit_field l))) u → Assigns a l → ¬ Bars k l → weight i u < weight k a
+pub weight_of_part : (k i : List Bar) (l : Lit) (a u : Tree) → IsMade a → Cuts l a u → Narrows k i (Place (place (lit_field l))) u → Assigns a l → ¬ SomeBars k l → weight i u < weight k a
 weight_of_part k i l a u h c w s n =
     let p = pending_falls k i a u l c.assigns w.kept s n (λ z. w.has l z refl) in
     let v = level_within a u h c.tests in
     omega (arith, p, v)
 
-pub weight_of_rest : (k j : List Bar) (l : Lit) (a : Tree) → Narrows k j (Literal l) a → Assigns a l → ¬ Bars k l → weight j a < weight k a
+pub weight_of_rest : (k j : List Bar) (l : Lit) (a : Tree) → Narrows k j (Literal l) a → Assigns a l → ¬ SomeBars k l → weight j a < weight k a
 weight_of_rest k j l a w s n =
     let p = pending_falls k j a a l (λ x z. z) w.kept s n (λ z. w.has l z refl) in
     omega (arith, p)
 
-pub weight_of_branch : (k j : List Bar) (a u : Tree) → ((x : Lit) → Assigns u x → Assigns a x) → ((x : Lit) → Bars k x → Bars j x) → level u < level a → weight j u < weight k a
+pub weight_of_branch : (k j : List Bar) (a u : Tree) → ((x : Lit) → Assigns u x → Assigns a x) → ((x : Lit) → SomeBars k x → SomeBars j x) → level u < level a → weight j u < weight k a
 weight_of_branch k j a u s b v = let p = pending_within k j a u s b in omega (arith, p, v)

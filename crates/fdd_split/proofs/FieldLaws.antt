@@ -11,10 +11,10 @@ use Rattle.nk_values.specs.Ranges.{place}
 use Rattle.nk_values.proofs.MemberLaws.{in-left, in-right, in-either}
 use Rattle.fdd_nodes.specs.Copies.{IsCopy, IsCopyFrom}
 use Rattle.fdd_nodes.specs.Trees.{Tree, Leaf, IsSetBy}
-use Rattle.fdd_store.specs.Entries.{SetsField}
+use Rattle.fdd_store.specs.Digests.{SetsField}
 use Rattle.fdd_store.specs.Made.{IsMade, AreProper}
 use Rattle.fdd_split.specs.declared.bars.Bar.{Bar}
-use Rattle.fdd_split.specs.Bars.{Bars}
+use Rattle.fdd_split.specs.Bars.{SomeBars}
 use Rattle.fdd_split.specs.Pairs.{FieldThreat, Meets, MeetsSome, IsBefore, IsCandidate, IsFirstOf, IsFirstWith}
 use Rattle.fdd_split.specs.Threats.{Threat, KeepsField}
 use Rattle.fdd_split.proofs.CopyLaws.{behind_leaves, held}
@@ -136,7 +136,7 @@ each_field k cs fs o every h =
     first_as (LeafThreat k cs fs) (Threat k (Leaf cs)) o (λ x t. t.threat) (λ x t. record { threat = t; among = every (lit_field x) }) h
 
 -- no literal of a threat is barred
-pub field_free : (k : List Bar) (cs ds : List (List Lit)) (f : Field) (x : Lit) → ((c : List Lit) → IsIn cs c → IsCopy c) → ((d : List Lit) → IsIn ds d → IsCopy d) → FieldThreat k cs ds f x → ¬ Bars k x
+pub field_free : (k : List Bar) (cs ds : List (List Lit)) (f : Field) (x : Lit) → ((c : List Lit) → IsIn cs c → IsCopy c) → ((d : List Lit) → IsIn ds d → IsCopy d) → FieldThreat k cs ds f x → ¬ SomeBars k x
 field_free k cs ds f x hc hd t b =
     t.meets.clear x b (held t.one t.other t.meets.packet x (hc t.one t.among) (hd t.other t.has_other) t.meets.same
     (inl (t.sets, subst (λ (g : Field). KeepsField t.other g) (sym t.field) t.keeps)))

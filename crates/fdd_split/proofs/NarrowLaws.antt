@@ -22,7 +22,7 @@ use Rattle.fdd_store.proofs.MadeLaws.{made_then, made_else, then_beyond}
 use Rattle.fdd_store.proofs.MoveLaws.{leaf_assigns}
 use Rattle.fdd_split.specs.declared.bars.Bar.{Bar}
 use Rattle.fdd_split.specs.declared.bars.Bar.TheVariants.{Place}
-use Rattle.fdd_split.specs.Bars.{Bars, Narrows}
+use Rattle.fdd_split.specs.Bars.{SomeBars, Narrows}
 use Rattle.fdd_split.specs.Threats.{Threat, IsAlone, IsClear, KeepsField}
 use Rattle.fdd_split.proofs.AnswerLaws.{holds_or, alone_assigned}
 use Rattle.fdd_split.proofs.CopyLaws.{field_of, leaves_value, sets_value, set_value, moved_at, local, holds_other, held_other, not_free, one_held, held}
@@ -108,7 +108,7 @@ module _ (a : Tree) (p : Packet) (x : Lit) (c d c2 d2 : List Lit) (bare : get p 
   ])
 
 -- a threat of what is left is one of the whole, or tested there
-module _ (k bars : List Bar) (l : Lit) (a u : Tree) (x : Lit) (cut : Cuts l a u) (hu : IsMade u) (pa : AreProper a) (un : ¬ Bars k l) (w : Narrows k bars (Place (place (lit_field l))) u) where
+module _ (k bars : List Bar) (l : Lit) (a u : Tree) (x : Lit) (cut : Cuts l a u) (hu : IsMade u) (pa : AreProper a) (un : ¬ SomeBars k l) (w : Narrows k bars (Place (place (lit_field l))) u) where
   -- the first copy assigns x, and the second leaves its field
   narrowed_by : (p : Packet) (c d : List Lit) → IsClear bars p → IsIn (leaf_at u p) c → IsIn (leaf_at u p) d → apply c p ≡ apply d p → IsIn c x → KeepsField d (lit_field x) → Threat k a x ⊎ Tests a x
   narrowed_by p c d clear hc hd one sets leaves =
@@ -140,11 +140,11 @@ module _ (k bars : List Bar) (l : Lit) (a u : Tree) (x : Lit) (cut : Cuts l a u)
           packet = put x q;
           clear = λ y b v. elim (field_cases (lit_field x) (lit_field y)) [
             | inl s ↦
-                clear x (w.kept x (subst (λ (z : Lit). Bars k z) (sym (one_held (put x q) x y s (get-with_same q (lit_field x) (lit_value x)) v)) b)) hx
+                clear x (w.kept x (subst (λ (z : Lit). SomeBars k z) (sym (one_held (put x q) x y s (get-with_same q (lit_field x) (lit_value x)) v)) b)) hx
             | inr d1 ↦
                 let wq : Holds q y = held_other q (lit_field x) (lit_value x) y d1 v in
                 elim (field_cases (lit_field l) (lit_field y)) [
-                  | inl s ↦ un (subst (λ (z : Lit). Bars k z) (sym (one_held q l y s hl wq)) b)
+                  | inl s ↦ un (subst (λ (z : Lit). SomeBars k z) (sym (one_held q l y s hl wq)) b)
                   | inr d2 ↦
                       clear y (w.kept y b) (held_other p (lit_field x) free y d1 (held_other p0 (lit_field l) (lit_value l) y d2 wq))
                 ]

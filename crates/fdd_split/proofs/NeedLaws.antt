@@ -22,7 +22,7 @@ use Rattle.fdd_store.proofs.MoveLaws.{leaf_assigns, one_leaf, same_through}
 use Rattle.fdd_store.proofs.SameLaws.{same_trans, same_sym}
 use Rattle.fdd_split.specs.declared.bars.Bar.{Bar}
 use Rattle.fdd_split.specs.declared.bars.Bar.TheVariants.{Place, Literal}
-use Rattle.fdd_split.specs.Bars.{Bars}
+use Rattle.fdd_split.specs.Bars.{SomeBars}
 use Rattle.fdd_split.specs.Divides.{Divides, Doubles}
 use Rattle.fdd_split.specs.Laws.{IsLike}
 use Rattle.fdd_split.specs.Split.{IsIdleOn, HasNoIdle}
@@ -63,11 +63,11 @@ not_idle w k l y n t e h ra lt le i = h.reduced.0 (record {
 
 -- where a test of a made diagram holds, and where not
 
-branch_yes : (w : Way) (k j : List Bar) (l : Lit) (y n : Tree) → IsMade (Node l y n) → Reaches w k (Node l y n) → ((x : Lit) → Bars k x → Bars j x) → ((x : Lit) → Assigns y x → place (lit_field x) ≡ place (lit_field l) → Bars j x) → ((x : Lit) → Bars j x → Bars k x ⊎ (place (lit_field x) ≡ place (lit_field l))) → Reaches (with_true w l) j y
+branch_yes : (w : Way) (k j : List Bar) (l : Lit) (y n : Tree) → IsMade (Node l y n) → Reaches w k (Node l y n) → ((x : Lit) → SomeBars k x → SomeBars j x) → ((x : Lit) → Assigns y x → place (lit_field x) ≡ place (lit_field l) → SomeBars j x) → ((x : Lit) → SomeBars j x → SomeBars k x ⊎ (place (lit_field x) ≡ place (lit_field l))) → Reaches (with_true w l) j y
 branch_yes w k j l y n h ra kept has only =
     reaches_yes w k j l (Node l y n) y ra (λ p z v. (z.passes l (inl refl)).0 v) (then_beyond l y n h) (λ m s. inr (inl s)) (λ m s. inl s) kept has only
 
-branch_no : (w : Way) (k j : List Bar) (l : Lit) (y n : Tree) → IsMade (Node l y n) → Reaches w k (Node l y n) → ((x : Lit) → Bars k x → Bars j x) → ((x : Lit) → Assigns n x → l ≡ x → Bars j x) → ((x : Lit) → Bars j x → Bars k x ⊎ (l ≡ x)) → Reaches (with_false w l) j n
+branch_no : (w : Way) (k j : List Bar) (l : Lit) (y n : Tree) → IsMade (Node l y n) → Reaches w k (Node l y n) → ((x : Lit) → SomeBars k x → SomeBars j x) → ((x : Lit) → Assigns n x → l ≡ x → SomeBars j x) → ((x : Lit) → SomeBars j x → SomeBars k x ⊎ (l ≡ x)) → Reaches (with_false w l) j n
 branch_no w k j l y n h ra kept has only =
     reaches_no w k j l (Node l y n) n ra (λ p z v x. v ((z.passes l (inl refl)).1 x)) (else_later l y n h) (λ m s. inr (inr s)) (λ m s. inr s) kept has only
 
@@ -133,7 +133,7 @@ module _ (w : Way) (k : List Bar) (a : Tree) (n : ℕ) (l : Lit) (t e : Tree) (r
   assigned : Assigns a l
   assigned = threat_assigned k a l d.threat
 
-  free_here : ¬ Bars k l
+  free_here : ¬ SomeBars k l
   free_here = threat_free k a l r.made.proper d.threat
 
   later_else : IsLater l e
@@ -162,7 +162,7 @@ module _ (w : Way) (k : List Bar) (a : Tree) (n : ℕ) (l : Lit) (t e : Tree) (r
       let kp : List Bar = d.yes_bars in
       let rt : IsReady kp d.part (step * (place (lit_field l) + 1)) = ready_part k a n r l t e d in
       let lt : IsLike d.part t = like_of t kp d.part d.then_is in
-      let avoid : (y : Lit) → Assigns t y → Bars kp y → ¬ Holds q y = λ y s b x. elim (d.yes_narrows.only y b) [
+      let avoid : (y : Lit) → Assigns t y → SomeBars kp y → ¬ Holds q y = λ y s b x. elim (d.yes_narrows.only y b) [
         | inl u ↦ z.lacks y (d.cuts.assigns y (lt.assigns y s)) u x
         | inr u ↦
             d.cuts.beyond.clean (subst (λ (v : Lit). Assigns d.part v) (sym (one_held q l y (sym (same_field _ _ u)) hq x)) (lt.assigns y s))

@@ -11,7 +11,7 @@ use Rattle.fdd_store.specs.Results.{Cuts}
 use Rattle.fdd_store.proofs.MadeLaws.{tests_from, ordered_by, places_past, ranks_past, made_then, made_else, then_beyond, else_later}
 use Rattle.fdd_split.specs.declared.bars.Bar.{Bar}
 use Rattle.fdd_split.specs.declared.bars.Bar.TheVariants.{Place, Literal}
-use Rattle.fdd_split.specs.Bars.{Bars, Narrows}
+use Rattle.fdd_split.specs.Bars.{SomeBars, Narrows}
 use Rattle.fdd_split.specs.Threats.{Threat, ComesFirst}
 use Rattle.fdd_split.specs.Divides.{Divides, Branches, Doubles}
 use Rattle.fdd_split.proofs.AnswerLaws.{like_of, threat_assigned}
@@ -20,7 +20,7 @@ use Rattle.fdd_split.proofs.NarrowLaws.{narrowed}
 
 -- the diagram tests nothing that is barred
 abbrev pub IsUnbarred : List Bar → Tree → Type 0
-IsUnbarred k a = (m : Lit) → Tests a m → ¬ Bars k m
+IsUnbarred k a = (m : Lit) → Tests a m → ¬ SomeBars k m
 
 -- no threat comes before n
 abbrev pub ThreatsFrom : ℕ → List Bar → Tree → Type 0
@@ -71,7 +71,7 @@ module _ (k : List Bar) (l : Lit) (y n : Tree) (h : IsMade (Node l y n)) (u : Is
 
 -- the parts where a first threat is tested
 module _ (k : List Bar) (l : Lit) (a : Tree) (h : IsMade a) (u : IsUnbarred k a) (d : Threat k a l) (first : ComesFirst k a l) (before : IsLater l a) where
-  free_here : ¬ Bars k l
+  free_here : ¬ SomeBars k l
   free_here = threat_free k a l h.proper d
 
   pub ordered_else_of : (n : ℕ) → IsOrderedFrom n a → IsOrderedFrom (rank l + 1) a

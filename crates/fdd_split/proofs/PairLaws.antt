@@ -18,7 +18,7 @@ use Rattle.fdd_nodes.proofs.CellLaws.{lit_not_free, get-open}
 use Rattle.fdd_split.specs.declared.bars.Bar.{Bar}
 use Rattle.fdd_split.specs.declared.pairs.Meeting.{Meeting}
 use Rattle.fdd_split.specs.declared.pairs.Meeting.TheVariants.{Never, Always, Where}
-use Rattle.fdd_split.specs.Bars.{Bars}
+use Rattle.fdd_split.specs.Bars.{SomeBars}
 use Rattle.fdd_split.specs.Pairs.{Meets, MeetsFirst, IsMeeting, IsStopped, IsAfterAlone}
 use Rattle.fdd_split.specs.Threats.{IsAlone, IsClear, KeepsField}
 use Rattle.fdd_split.proofs.CopyLaws.{behind_leaves, held, moved, sets_value, holds_other, held_other, one_put, leaves_more}
@@ -79,11 +79,11 @@ module _ (k : List Bar) (l : Lit) (cs d : List Lit) (hc : IsCopyFrom (place (lit
     same = subst (λ (x : Packet). apply cs x ≡ apply d m.packet) (put_held m.packet l (holds_here m.packet m.same)) m.same;
   }
 
-  meets_rest : ¬ Bars k l → Meets k cs d → Meets k (l ∷ cs) d
+  meets_rest : ¬ SomeBars k l → Meets k cs d → Meets k (l ∷ cs) d
   meets_rest n m = record {
     packet = put l m.packet;
     clear = λ y b h. elim (field_cases (lit_field l) (lit_field y)) [
-      | inl e ↦ n (subst (λ (x : Lit). Bars k x) (sym (one_put m.packet l y e h)) b)
+      | inl e ↦ n (subst (λ (x : Lit). SomeBars k x) (sym (one_put m.packet l y e h)) b)
       | inr z ↦ m.clear y b (held_other m.packet (lit_field l) (lit_value l) y z h)
     ];
     same = ap (λ (x : Packet). apply cs x) (put_again m.packet l) ∙ moved cs d m.packet (put l m.packet) rest other m.same

@@ -18,7 +18,7 @@ use Rattle.fdd_store.specs.Made.{AreProper, IsLater}
 use Rattle.fdd_store.proofs.MoveLaws.{one_leaf}
 use Rattle.fdd_split.specs.declared.bars.Bar.{Bar}
 use Rattle.fdd_split.specs.declared.bars.Bar.TheVariants.{Place, Literal}
-use Rattle.fdd_split.specs.Bars.{Bars, IsBarredBy}
+use Rattle.fdd_split.specs.Bars.{SomeBars, IsBarredBy}
 use Rattle.fdd_split.specs.Threats.{Threat, IsClear}
 use Rattle.fdd_split.proofs.AnswerLaws.{holds_or, alone_assigned}
 use Rattle.fdd_split.proofs.CopyLaws.{moved, holds_other, held_other, not_free, one_held, one_put, held}
@@ -35,7 +35,7 @@ pub leaf_other : (t : Tree) (p : Packet) (f : Field) (n : ℕ) → ((m : Lit) �
 leaf_other t p f n h = one_leaf t p (with_value p f n) (λ m k. (holds_other p f n m (h m k), held_other p f n m (h m k)))
 
 -- a packet without a number in a field holds nothing barred, if it held nothing that is barred but at that field
-pub clear_without : (k j : List Bar) (p : Packet) (f : Field) → IsClear k p → ((y : Lit) → Bars j y → Bars k y ⊎ (f ≡ lit_field y)) → IsClear j (with_value p f free)
+pub clear_without : (k j : List Bar) (p : Packet) (f : Field) → IsClear k p → ((y : Lit) → SomeBars j y → SomeBars k y ⊎ (f ≡ lit_field y)) → IsClear j (with_value p f free)
 clear_without k j p f h o y b w = elim (field_cases f (lit_field y)) [
   | inl e ↦ not_free p f y e w
   | inr d ↦ elim (o y b) [
@@ -46,7 +46,7 @@ clear_without k j p f h o y b w = elim (field_cases f (lit_field y)) [
 
 module _ (k j : List Bar) (m : Lit) (t e : Tree) (x : Lit) where
   -- a threat where a test holds
-  pub down_yes : AreProper t → ((n : Lit) → Tests t n → lit_field m ≢ lit_field n) → ¬ Assigns t m → ((y : Lit) → Bars j y → Bars k y ⊎ IsBarredBy (Place (place (lit_field m))) y) → (h : Threat k (Node m t e) x) → Holds h.packet m → Threat j t x
+  pub down_yes : AreProper t → ((n : Lit) → Tests t n → lit_field m ≢ lit_field n) → ¬ Assigns t m → ((y : Lit) → SomeBars j y → SomeBars k y ⊎ IsBarredBy (Place (place (lit_field m))) y) → (h : Threat k (Node m t e) x) → Holds h.packet m → Threat j t x
   down_yes pr past clean only h y =
       let p : Packet = h.packet in
       let q : Packet = with_value p (lit_field m) free in
@@ -71,7 +71,7 @@ module _ (k j : List Bar) (m : Lit) (t e : Tree) (x : Lit) where
       }
 
   -- and where it does not hold
-  pub down_no : ((y : Lit) → Bars j y → Bars k y ⊎ IsBarredBy (Literal m) y) → (h : Threat k (Node m t e) x) → ¬ Holds h.packet m → Threat j e x
+  pub down_no : ((y : Lit) → SomeBars j y → SomeBars k y ⊎ IsBarredBy (Literal m) y) → (h : Threat k (Node m t e) x) → ¬ Holds h.packet m → Threat j e x
   down_no only h n =
       let there : leaf_at (Node m t e) h.packet ≡ leaf_at e h.packet = leaf_at-else m t e h.packet n in
       record {
@@ -86,7 +86,7 @@ module _ (k j : List Bar) (m : Lit) (t e : Tree) (x : Lit) where
       }
 
   -- a threat of the branch where a test holds is one of the whole
-  pub up_yes : AreProper t → ((n : Lit) → Tests t n → lit_field m ≢ lit_field n) → ¬ Bars k m → ((y : Lit) → Bars k y → Bars j y) → ((y : Lit) → Assigns t y → IsBarredBy (Place (place (lit_field m))) y → Bars j y) → Threat j t x → Threat k (Node m t e) x
+  pub up_yes : AreProper t → ((n : Lit) → Tests t n → lit_field m ≢ lit_field n) → ¬ SomeBars k m → ((y : Lit) → SomeBars k y → SomeBars j y) → ((y : Lit) → Assigns t y → IsBarredBy (Place (place (lit_field m))) y → SomeBars j y) → Threat j t x → Threat k (Node m t e) x
   up_yes pr past un kept has h =
       let p : Packet = h.packet in
       let q : Packet = put m p in
@@ -95,7 +95,7 @@ module _ (k j : List Bar) (m : Lit) (t e : Tree) (x : Lit) where
       record {
         packet = q;
         clear = λ z b w. elim (field_cases (lit_field m) (lit_field z)) [
-          | inl s ↦ un (subst (λ (v : Lit). Bars k v) (sym (one_put p m z s w)) b)
+          | inl s ↦ un (subst (λ (v : Lit). SomeBars k v) (sym (one_put p m z s w)) b)
           | inr d ↦ h.clear z (kept z b) (held_other p (lit_field m) (lit_value m) z d w)
         ];
         one = h.one;
@@ -111,7 +111,7 @@ module _ (k j : List Bar) (m : Lit) (t e : Tree) (x : Lit) where
       }
 
   -- and of the branch where it does not hold
-  pub up_no : AreProper e → IsLater m e → ((y : Lit) → Bars k y → Bars j y) → ((y : Lit) → Assigns e y → IsBarredBy (Literal m) y → Bars j y) → Threat j e x → Threat k (Node m t e) x
+  pub up_no : AreProper e → IsLater m e → ((y : Lit) → SomeBars k y → SomeBars j y) → ((y : Lit) → Assigns e y → IsBarredBy (Literal m) y → SomeBars j y) → Threat j e x → Threat k (Node m t e) x
   up_no pr later kept has h = elim (holds_or h.packet m) [
     | inl y ↦
         let p : Packet = h.packet in
@@ -154,7 +154,7 @@ module _ (k j : List Bar) (m : Lit) (t e : Tree) (x : Lit) where
   ]
 
 -- where less is barred
-pub threat_less : (k j : List Bar) (a : Tree) (x : Lit) → ((y : Lit) → Bars k y → Bars j y) → Threat j a x → Threat k a x
+pub threat_less : (k j : List Bar) (a : Tree) (x : Lit) → ((y : Lit) → SomeBars k y → SomeBars j y) → Threat j a x → Threat k a x
 threat_less k j a x kept h = record {
   packet = h.packet;
   clear = λ z b w. h.clear z (kept z b) w;
@@ -167,6 +167,6 @@ threat_less k j a x kept h = record {
 }
 
 -- a threat is of a literal that is not barred
-pub threat_free : (k : List Bar) (a : Tree) (x : Lit) → AreProper a → Threat k a x → ¬ Bars k x
+pub threat_free : (k : List Bar) (a : Tree) (x : Lit) → AreProper a → Threat k a x → ¬ SomeBars k x
 threat_free k a x pr h b =
     h.clear x b (held h.one h.other h.packet x (leaf_copy a h.packet h.one pr h.has_one) (leaf_copy a h.packet h.other pr h.has_other) h.same h.alone)

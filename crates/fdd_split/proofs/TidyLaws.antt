@@ -22,7 +22,7 @@ use Rattle.fdd_store.specs.Made.{IsMade, IsBeyond, AreProper, IsProper}
 use Rattle.fdd_store.proofs.MadeLaws.{then_beyond, respects_with}
 use Rattle.fdd_store.proofs.CopyLaws.{one_copy}
 use Rattle.fdd_split.specs.declared.bars.Bar.{Bar}
-use Rattle.fdd_split.specs.Bars.{Bars}
+use Rattle.fdd_split.specs.Bars.{SomeBars}
 use Rattle.fdd_split.specs.Threats.{HasNoThreat, IsAlone}
 use Rattle.fdd_split.specs.Divides.{Divides}
 use Rattle.fdd_split.proofs.AnswerLaws.{holds_or}
@@ -34,7 +34,7 @@ pub record IsTidy (k : List Bar) (r : Tree) : Type 0 where
   pub respects : Respects open_cell r
   pub none : HasNoThreat k r
 
-tidy_node : (k i j : List Bar) (l : Lit) (t e : Tree) → AreProper t → IsBeyond l t → ((y : Lit) → Bars i y → Bars k y ⊎ (place (lit_field y) ≡ place (lit_field l))) → ((y : Lit) → Bars j y → Bars k y ⊎ (l ≡ y)) → IsTidy i t → IsTidy j e → IsTidy k (Node l t e)
+tidy_node : (k i j : List Bar) (l : Lit) (t e : Tree) → AreProper t → IsBeyond l t → ((y : Lit) → SomeBars i y → SomeBars k y ⊎ (place (lit_field y) ≡ place (lit_field l))) → ((y : Lit) → SomeBars j y → SomeBars k y ⊎ (l ≡ y)) → IsTidy i t → IsTidy j e → IsTidy k (Node l t e)
 tidy_node k i j l t e pr b left right ht he = record {
   respects = (respects_with t l open_cell b ht.respects, he.respects);
   none = λ x h. elim (holds_or h.packet l) [

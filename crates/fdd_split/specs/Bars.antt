@@ -13,18 +13,18 @@ IsBarredBy (Place n) l = place (lit_field l) ≡ n
 IsBarredBy (Literal m) l = m ≡ l
 
 -- some of them bars the literal
-abbrev pub Bars : List Bar → Lit → Type 0
-Bars [] l = ⊥
-Bars (b ∷ bs) l = IsBarredBy b l ⊎ Bars bs l
+abbrev pub SomeBars : List Bar → Lit → Type 0
+SomeBars [] l = ⊥
+SomeBars (b ∷ bs) l = IsBarredBy b l ⊎ SomeBars bs l
 
 -- new bars what old and b bar, and nothing that neither bars
-pub record Adds (old new : List Bar) (b : Bar) : Type 0 where
-  pub kept : (x : Lit) → Bars old x → Bars new x
-  pub has : (x : Lit) → IsBarredBy b x → Bars new x
-  pub only : (x : Lit) → Bars new x → Bars old x ⊎ IsBarredBy b x
+pub record AddsBar (old new : List Bar) (b : Bar) : Type 0 where
+  pub kept : (x : Lit) → SomeBars old x → SomeBars new x
+  pub has : (x : Lit) → IsBarredBy b x → SomeBars new x
+  pub only : (x : Lit) → SomeBars new x → SomeBars old x ⊎ IsBarredBy b x
 
 -- the same, but of what b bars only the literals that the diagram assigns need be barred
 pub record Narrows (old new : List Bar) (b : Bar) (t : Tree) : Type 0 where
-  pub kept : (x : Lit) → Bars old x → Bars new x
-  pub has : (x : Lit) → Assigns t x → IsBarredBy b x → Bars new x
-  pub only : (x : Lit) → Bars new x → Bars old x ⊎ IsBarredBy b x
+  pub kept : (x : Lit) → SomeBars old x → SomeBars new x
+  pub has : (x : Lit) → Assigns t x → IsBarredBy b x → SomeBars new x
+  pub only : (x : Lit) → SomeBars new x → SomeBars old x ⊎ IsBarredBy b x

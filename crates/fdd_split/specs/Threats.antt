@@ -9,7 +9,7 @@ use Rattle.nk_values.specs.Members.{IsIn}
 use Rattle.nk_values.specs.Ranks.{rank}
 use Rattle.fdd_nodes.specs.Trees.{Tree, leaf_at, apply, Tests}
 use Rattle.fdd_split.specs.declared.bars.Bar.{Bar}
-use Rattle.fdd_split.specs.Bars.{Bars}
+use Rattle.fdd_split.specs.Bars.{SomeBars}
 
 -- the copy does not assign the field
 abbrev pub KeepsField : List Lit → Field → Type 0
@@ -21,7 +21,7 @@ IsAlone c d x = (IsIn c x × KeepsField d (lit_field x)) ⊎ (IsIn d x × KeepsF
 
 -- the packet holds no barred literal
 abbrev pub IsClear : List Bar → Packet → Type 0
-IsClear k p = (x : Lit) → Bars k x → ¬ Holds p x
+IsClear k p = (x : Lit) → SomeBars k x → ¬ Holds p x
 
 -- of some packet that holds no barred literal two copies make one packet, and just one of them assigns x
 pub record Threat (k : List Bar) (a : Tree) (x : Lit) : Type 0 where
@@ -39,7 +39,7 @@ HasNoThreat k a = (x : Lit) → ¬ Threat k a x
 
 -- the diagram tests nothing that is barred
 abbrev pub TestsNoBarred : List Bar → Tree → Type 0
-TestsNoBarred k a = (m : Lit) → Tests a m → ¬ Bars k m
+TestsNoBarred k a = (m : Lit) → Tests a m → ¬ SomeBars k m
 
 -- no threat comes before the literal
 abbrev pub ComesFirst : List Bar → Tree → Lit → Type 0

@@ -18,7 +18,7 @@ use Rattle.fdd_nodes.proofs.MakesLaws.{source, at_field}
 pub use Rattle.fdd_star.specs.Shared.{id_eq}
 use Rattle.fdd_star.specs.Stars.{Turns, StarOf, IsShallow}
 use Rattle.fdd_star.proofs.StarLaws.{few_within, star_shallow}
-use Rattle.fdd_store.specs.Entries.{SetsField}
+use Rattle.fdd_store.specs.Digests.{SetsField}
 use Rattle.fdd_store.specs.Stores.{Kept, Gives, tree_at}
 use Rattle.fdd_store.proofs.MoveLaws.{leaf_assigns}
 

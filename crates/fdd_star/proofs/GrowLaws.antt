@@ -29,7 +29,7 @@ use Rattle.fdd_nodes.proofs.MakesLaws.{source, outcome, among_lists}
 use Rattle.fdd_star.specs.declared.reach.Reach.{Reach}
 use Rattle.fdd_star.specs.declared.visits.Visit.{Visit}
 use Rattle.fdd_star.specs.Asks.{Asks, AsksMore, ComesTo, IsVisitOf, Walks}
-use Rattle.fdd_star.specs.Reaches.{copies_of, asked_of, AsksAll, IsTold, Notes, Grows}
+use Rattle.fdd_star.specs.Reaches.{reached_copies, asked_of, AsksAll, IsTold, NotesPacket, Grows}
 use Rattle.fdd_star.proofs.FillLaws.{leaf_assigns}
 use Rattle.fdd_star.proofs.TurnLaws.{in_same, outcome_left, outcome_in}
 use Rattle.fdd_store.specs.Stores.{Kept, Has, tree_at}
@@ -172,45 +172,45 @@ asks_visit k t q v r s h a = record {
 pub record Adds (c : Packet) (x : List Lit) (ds : List (List Lit)) (old new : Reach) : Type 0 where
   pub told : IsTold c new
   pub more : List (List Lit)
-  pub joined : copies_of new ≡ copies_of old ++ more
-  pub has : (d : List Lit) → IsIn ds d → IsIn (outcomes (copies_of new) c) (apply d (apply x c))
+  pub joined : reached_copies new ≡ reached_copies old ++ more
+  pub has : (d : List Lit) → IsIn ds d → IsIn (outcomes (reached_copies new) c) (apply d (apply x c))
   pub only : (y : List Lit) → IsIn more y → (d : List Lit) × IsIn ds d × (y ≡ after x d)
-  pub late : (y : List Lit) → IsIn more y → ¬ IsIn (outcomes (copies_of old) c) (apply y c)
+  pub late : (y : List Lit) → IsIn more y → ¬ IsIn (outcomes (reached_copies old) c) (apply y c)
 
-pub adds_none : (c : Packet) (x : List Lit) (r s : Reach) → IsTold c s → copies_of s ≡ copies_of r → Adds c x [] r s
+pub adds_none : (c : Packet) (x : List Lit) (r s : Reach) → IsTold c s → reached_copies s ≡ reached_copies r → Adds c x [] r s
 adds_none c x r s t e = record {
   told = t;
   more = [];
-  joined = e ∙ sym (append-nil (copies_of r));
+  joined = e ∙ sym (append-nil (reached_copies r));
   has = λ d h. absurd h;
   only = λ y h. absurd h;
   late = λ y h. absurd h;
 }
 
 -- a copy that makes a packet which is there
-adds_old : (c : Packet) (x : List Lit) (ds : List (List Lit)) (d : List Lit) (r s s' : Reach) → Adds c x ds r s → IsTold c s' → copies_of s' ≡ copies_of s → IsIn (outcomes (copies_of s) c) (apply d (apply x c)) → Adds c x (ds ++ d ∷ []) r s'
+adds_old : (c : Packet) (x : List Lit) (ds : List (List Lit)) (d : List Lit) (r s s' : Reach) → Adds c x ds r s → IsTold c s' → reached_copies s' ≡ reached_copies s → IsIn (outcomes (reached_copies s) c) (apply d (apply x c)) → Adds c x (ds ++ d ∷ []) r s'
 adds_old c x ds d r s s' a t e h = record {
   told = t;
   more = a.more;
   joined = e ∙ a.joined;
   has = λ d' k. outcome_in _ _ c _ (sym e) (elim (in-either ds (d ∷ []) d' k) [
     | inl i ↦ a.has d' i
-    | inr i ↦ elim i [ inl w ↦ subst (λ (z : List Lit). IsIn (outcomes (copies_of s) c) (apply z (apply x c))) w h | inr n ↦ absurd n ]
+    | inr i ↦ elim i [ inl w ↦ subst (λ (z : List Lit). IsIn (outcomes (reached_copies s) c) (apply z (apply x c))) w h | inr n ↦ absurd n ]
   ]);
   only = λ y k. let w = a.only y k in (w.0, in-left ds (d ∷ []) w.0 w.1, w.2);
   late = a.late;
 }
 
 -- a copy that makes a new one
-adds_new : (c : Packet) (x : List Lit) (ds : List (List Lit)) (d y : List Lit) (r s s' : Reach) → Adds c x ds r s → IsTold c s' → copies_of s' ≡ copies_of s ++ y ∷ [] → y ≡ after x d → apply y c ≡ apply d (apply x c) → ¬ IsIn (outcomes (copies_of s) c) (apply d (apply x c)) → Adds c x (ds ++ d ∷ []) r s'
+adds_new : (c : Packet) (x : List Lit) (ds : List (List Lit)) (d y : List Lit) (r s s' : Reach) → Adds c x ds r s → IsTold c s' → reached_copies s' ≡ reached_copies s ++ y ∷ [] → y ≡ after x d → apply y c ≡ apply d (apply x c) → ¬ IsIn (outcomes (reached_copies s) c) (apply d (apply x c)) → Adds c x (ds ++ d ∷ []) r s'
 adds_new c x ds d y r s s' a t e ey makes new = record {
   told = t;
   more = a.more ++ y ∷ [];
-  joined = e ∙ ap (λ (zs : List (List Lit)). zs ++ y ∷ []) a.joined ∙ append_assoc (copies_of r) a.more (y ∷ []);
+  joined = e ∙ ap (λ (zs : List (List Lit)). zs ++ y ∷ []) a.joined ∙ append_assoc (reached_copies r) a.more (y ∷ []);
   has = λ d' k. outcome_in _ _ c _ (sym e) (elim (in-either ds (d ∷ []) d' k) [
     | inl i ↦ outcome_left _ _ c _ (a.has d' i)
     | inr i ↦ elim i [
-      | inl w ↦ subst (λ (z : List Lit). IsIn (outcomes (copies_of s ++ y ∷ []) c) (apply z (apply x c))) w (subst (IsIn (outcomes (copies_of s ++ y ∷ []) c)) makes (outcome (copies_of s ++ y ∷ []) y c (in-right (copies_of s) (y ∷ []) y (inl refl))))
+      | inl w ↦ subst (λ (z : List Lit). IsIn (outcomes (reached_copies s ++ y ∷ []) c) (apply z (apply x c))) w (subst (IsIn (outcomes (reached_copies s ++ y ∷ []) c)) makes (outcome (reached_copies s ++ y ∷ []) y c (in-right (reached_copies s) (y ∷ []) y (inl refl))))
       | inr n ↦ absurd n
     ]
   ]);
@@ -221,7 +221,7 @@ adds_new c x ds d y r s s' a t e ey makes new = record {
   late = λ z k h. elim (in-either a.more (y ∷ []) z k) [
     | inl i ↦ a.late z i h
     | inr i ↦ elim i [
-      | inl w ↦ new (outcome_in _ _ c _ (sym a.joined) (outcome_left (copies_of r) a.more c _ (subst (IsIn (outcomes (copies_of r) c)) (ap (λ (v : List Lit). apply v c) (sym w) ∙ makes) h)))
+      | inl w ↦ new (outcome_in _ _ c _ (sym a.joined) (outcome_left (reached_copies r) a.more c _ (subst (IsIn (outcomes (reached_copies r) c)) (ap (λ (v : List Lit). apply v c) (sym w) ∙ makes) h)))
       | inr n ↦ absurd n
     ]
   ];
@@ -232,18 +232,18 @@ outcomes_more [] y c = refl
 outcomes_more (x ∷ xs) y c = ap (λ (zs : List Packet). apply x c ∷ zs) (outcomes_more xs y c)
 
 -- a copy of the leaf more
-pub adds_more : (c : Packet) (x : List Lit) (ds : List (List Lit)) (d : List Lit) (q : Packet) (r s s' : Reach) → IsCopy x → q ≡ apply d (apply x c) → Adds c x ds r s → Notes q (after x d) s s' → Adds c x (ds ++ d ∷ []) r s'
+pub adds_more : (c : Packet) (x : List Lit) (ds : List (List Lit)) (d : List Lit) (q : Packet) (r s s' : Reach) → IsCopy x → q ≡ apply d (apply x c) → Adds c x ds r s → NotesPacket q (after x d) s s' → Adds c x (ds ++ d ∷ []) r s'
 adds_more c x ds d q r s s' copy e a n =
     let makes = after_apply x d c copy in
     elim n.which [
       | inl w ↦
           let told : IsTold c s' = w.1 ∙ a.told ∙ ap (λ (zs : List (List Lit)). outcomes zs c) (sym w.2) in
-          let there = subst (IsIn (outcomes (copies_of s) c)) e (in_same _ _ q a.told w.0) in
+          let there = subst (IsIn (outcomes (reached_copies s) c)) e (in_same _ _ q a.told w.0) in
           adds_old c x ds d r s s' a told w.2 there
       | inr w ↦
-          let keys = ap (λ (zs : List Packet). zs ++ q ∷ []) a.told ∙ ap (λ (z : Packet). outcomes (copies_of s) c ++ z ∷ []) (e ∙ sym makes) in
-          let told : IsTold c s' = w.1 ∙ keys ∙ sym (outcomes_more (copies_of s) (after x d) c) ∙ ap (λ (zs : List (List Lit)). outcomes zs c) (sym w.2) in
-          let new : ¬ IsIn (outcomes (copies_of s) c) (apply d (apply x c)) = λ k. w.0 (in_same _ _ q (sym a.told) (subst (IsIn (outcomes (copies_of s) c)) (sym e) k)) in
+          let keys = ap (λ (zs : List Packet). zs ++ q ∷ []) a.told ∙ ap (λ (z : Packet). outcomes (reached_copies s) c ++ z ∷ []) (e ∙ sym makes) in
+          let told : IsTold c s' = w.1 ∙ keys ∙ sym (outcomes_more (reached_copies s) (after x d) c) ∙ ap (λ (zs : List (List Lit)). outcomes zs c) (sym w.2) in
+          let new : ¬ IsIn (outcomes (reached_copies s) c) (apply d (apply x c)) = λ k. w.0 (in_same _ _ q (sym a.told) (subst (IsIn (outcomes (reached_copies s) c)) (sym e) k)) in
           adds_new c x ds d (after x d) r s s' a told w.2 refl makes new
     ]
 
@@ -253,7 +253,7 @@ pub grows_none : (p : Tree) (c : Packet) (r : Reach) → IsTold c r → Grows p 
 grows_none p c r t = record {
   told = t;
   more = [];
-  joined = sym (append-nil (copies_of r));
+  joined = sym (append-nil (reached_copies r));
   has = λ x q h. absurd h;
   only = λ y h. absurd h;
   late = λ y h. absurd h;
@@ -266,7 +266,7 @@ pub grows_more : (p : Tree) (c : Packet) (xs ys : List (List Lit)) (r s t : Reac
 grows_more p c xs ys r s t g h = record {
   told = h.told;
   more = g.more ++ h.more;
-  joined = h.joined ∙ ap (λ (zs : List (List Lit)). zs ++ h.more) g.joined ∙ append_assoc (copies_of r) g.more h.more;
+  joined = h.joined ∙ ap (λ (zs : List (List Lit)). zs ++ h.more) g.joined ∙ append_assoc (reached_copies r) g.more h.more;
   has = λ x q k w. elim (in-either xs ys x k) [
     | inl i ↦ outcome_in _ _ c q (sym h.joined) (outcome_left _ _ c q (g.has x q i w))
     | inr i ↦ h.has x q i w
@@ -301,7 +301,7 @@ grows_one p c x r s copy a k = record {
       elim h [
         | inl e ↦
             let among = subst (λ (z : List Lit). IsIn (leaf_at p (apply z c)) o.copy) (sym e) o.among in
-            subst (IsIn (outcomes (copies_of s) c)) (ap (λ (z : List Lit). apply o.copy (apply z c)) e ∙ o.makes) (a.has o.copy among)
+            subst (IsIn (outcomes (reached_copies s) c)) (ap (λ (z : List Lit). apply o.copy (apply z c)) e ∙ o.makes) (a.has o.copy among)
         | inr n ↦ absurd n
       ];
   only = λ y h.

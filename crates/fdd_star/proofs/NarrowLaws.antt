@@ -19,14 +19,14 @@ use Rattle.fdd_nodes.specs.Names.{IsFew}
 use Rattle.fdd_nodes.specs.Trees.{Tree, Node, outcomes, answers, SameAnswers}
 use Rattle.fdd_nodes.proofs.SplitLaws.{leaf_at-then, leaf_at-else}
 use Rattle.fdd_star.specs.Cells.{Among, IsClosed}
-use Rattle.fdd_star.specs.Narrow.{AreBut, IsAt, IsNarrowed, IsOn}
+use Rattle.fdd_star.specs.Narrow.{AreBut, IsDiagramAt, IsNarrowed, IsOn}
 use Rattle.fdd_star.specs.Reaches.{IsNamedBy, StarBut}
 use Rattle.fdd_star.specs.Stars.{IsDeep}
 use Rattle.fdd_star.proofs.LeadLaws.{holds_in, barred_in}
 use Rattle.fdd_star.proofs.FieldLaws.{agrees_holds, agrees_out, holds_on, turns_to, turns_from, Held}
 use Rattle.fdd_star.proofs.StarLaws.{choice_few}
 use Rattle.fdd_star.proofs.TurnLaws.{in_same}
-use Rattle.fdd_store.specs.Entries.{SetsField}
+use Rattle.fdd_store.specs.Digests.{SetsField}
 use Rattle.fdd_store.specs.Operations.{ChoiceOf, CofactorOf}
 use Rattle.fdd_store.specs.Stores.{Kept, Has, Grows, tree_at}
 use Rattle.fdd_store.proofs.StoreLaws.{has_grown, tree_grown}
@@ -179,10 +179,10 @@ few_on cs ds l t e a b few ha hb = choice_few (Node l t e) l a b few (inl refl)
 
 -- diagrams of a store
 
-pub at_on : (k : Kept) (P Q : Tree → Type 0) → ((t : Tree) → P t → Q t) → (a : ℕ) → IsAt k P a → IsAt k Q a
+pub at_on : (k : Kept) (P Q : Tree → Type 0) → ((t : Tree) → P t → Q t) → (a : ℕ) → IsDiagramAt k P a → IsDiagramAt k Q a
 at_on k P Q f a h = record { has = h.has; is = f (tree_at k a) h.is }
 
-pub at_itself : (old new : Kept) (P : Tree → Tree → Type 0) (a : ℕ) → ((t : Tree) → P t t) → Grows old new → Has old a → IsAt new (P (tree_at old a)) a
+pub at_itself : (old new : Kept) (P : Tree → Tree → Type 0) (a : ℕ) → ((t : Tree) → P t t) → Grows old new → Has old a → IsDiagramAt new (P (tree_at old a)) a
 at_itself old new P a f g h = record { has = has_grown old new a g h; is = subst (P (tree_at old a)) (sym (tree_grown old new a g h)) (f (tree_at old a)) }
 
 pub ok_on : {X E : Type 0} (r : Result X E) (P Q : X → Type 0) → ((x : X) → P x → Q x) → IfOk r P → IfOk r Q

@@ -19,7 +19,7 @@ use Rattle.fdd_nodes.proofs.NameLaws.{count_within, named, tests_literal, assign
 use Rattle.fdd_store.specs.Operations.{ChoiceOf}
 use Rattle.fdd_star.specs.declared.reach.Reach.{Reach}
 use Rattle.fdd_star.specs.Asks.{Asks}
-use Rattle.fdd_star.specs.Reaches.{copies_of, asked_of, IsClosed, IsNamedBy, Misses, StarBut}
+use Rattle.fdd_star.specs.Reaches.{reached_copies, asked_of, IsClosed, IsNamedBy, Misses, StarBut}
 use Rattle.fdd_star.specs.Stars.{Turns, StarOf, IsShallow}
 use Rattle.fdd_star.proofs.FillLaws.{EscapesAll, fill_agrees, apply_fill, turns_filled, filled_turns}
 
@@ -37,11 +37,11 @@ set_by : (cs : List (List Lit)) (m : Lit) → IsSetBy cs m → (x : List Lit) ×
 set_by [] m h = absurd h
 set_by (c ∷ cs) m h = elim h [ inl k ↦ (c, inl refl, k) | inr k ↦ let w = set_by cs m k in (w.0, inr w.1, w.2) ]
 
-named_leaf : (p : Tree) (c : Packet) (r : Reach) (cs : List (List Lit)) → IsClosed p c r → SameMembers cs (copies_of r) → IsNamedBy p (Leaf cs)
+named_leaf : (p : Tree) (c : Packet) (r : Reach) (cs : List (List Lit)) → IsClosed p c r → SameMembers cs (reached_copies r) → IsNamedBy p (Leaf cs)
 named_leaf p c r cs h s = record { tests = λ m k. absurd k; assigns = λ m k. let w = set_by cs m k in h.named w.0 m (s.front w.0 w.1) w.2 }
 
 -- on the packets of the cell that hold nothing which was asked, the copies answer as the star
-pub star_leaf : (p : Tree) (c : Packet) (r : Reach) (cs : List (List Lit)) → IsClosed p c r → SameMembers cs (copies_of r) → StarBut p c (asked_of r) (Leaf cs)
+pub star_leaf : (p : Tree) (c : Packet) (r : Reach) (cs : List (List Lit)) → IsClosed p c r → SameMembers cs (reached_copies r) → StarBut p c (asked_of r) (Leaf cs)
 star_leaf p c r cs h s = record {
   made = λ pk out g miss k.
       let o = source cs pk out k in
@@ -51,7 +51,7 @@ star_leaf p c r cs h s = record {
       (w.0, w.1, subst (λ (z : Packet). Turns p w.0 z out) (fill_agrees c pk g) (subst (Turns p w.0 (fill c pk)) same turns));
   all = λ n pk out g miss k.
       let w = filled_turns p n c out pk (escapes pk miss) (subst (λ (z : Packet). Turns p n z out) (sym (fill_agrees c pk g)) k) in
-      let o = source (copies_of r) c w.0 (h.all n w.0 w.1) in
+      let o = source (reached_copies r) c w.0 (h.all n w.0 w.1) in
       let same = ap (apply o.copy) (sym (fill_agrees c pk g)) ∙ apply_fill o.copy c pk ∙ ap (λ z. fill z pk) o.makes ∙ w.2 in
       subst (IsIn (outcomes cs pk)) same (outcome cs o.copy pk (s.back o.copy o.among));
   normal = record { ordered = tt; respects = λ m k z. lit_not_free m (sym z ∙ get-open (lit_field m)); tight = tt };
@@ -61,7 +61,7 @@ star_leaf p c r cs h s = record {
   where
     escapes : (pk : Packet) → Misses c (asked_of r) pk → EscapesAll p c pk
     escapes pk miss n q w m k =
-        let o = source (copies_of r) c q (h.all n q w) in
+        let o = source (reached_copies r) c q (h.all n q w) in
         let i = h.asks o.copy m o.among (subst (λ (z : Packet). Asks p z m) (sym o.makes) k) in
         miss m i (h.is_open m i)
 

@@ -13,7 +13,7 @@ use Rattle.nk_values.specs.Lits.{lit_field}
 use Rattle.nk_values.specs.Packets.{IsInRange}
 use Rattle.fdd_nodes.specs.Cells.{IsFresh, IsValid, fill}
 use Rattle.fdd_nodes.proofs.CellLaws.{fill_in_range}
-use Rattle.fdd_star.specs.Reaches.{copies_of, Starts, Grows, Fewer, Turned, IsClosed}
+use Rattle.fdd_star.specs.Reaches.{reached_copies, Starts, Grows, Fewer, Turned, IsClosed}
 use Rattle.fdd_star.specs.Stars.{Turns, IsDeep}
 use Rattle.fdd_star.proofs.FillLaws.{asks_free, asks_tests, turns_free, turns_filled, filled_turns, filled_once, fresh_escapes}
 
@@ -68,37 +68,37 @@ turned_start p c r s = record {
     no_turn p (suc k) c q b h = absurd (omega (arith, b))
 
 -- all that one turn more reaches is noted
-turned_all : (p : Tree) (c : Packet) (n place : ℕ) (r s : Reach) → Turned p c n place r → Grows p c (drop place (copies_of r)) r s → (k : ℕ) (q : Packet) → k < suc (suc n) → Turns p k c q → IsIn (outcomes (copies_of s) c) q
+turned_all : (p : Tree) (c : Packet) (n place : ℕ) (r s : Reach) → Turned p c n place r → Grows p c (drop place (reached_copies r)) r s → (k : ℕ) (q : Packet) → k < suc (suc n) → Turns p k c q → IsIn (outcomes (reached_copies s) c) q
 turned_all p c n place r s t g zero q b h = outcome_in _ _ c q (sym g.joined) (outcome_left _ _ c q (t.all q (0, omega arith, h)))
 turned_all p c n place r s t g (suc k) q b h =
     let w = last_turn p k c q h in
-    let o = source (copies_of r) c w.0 (t.all w.0 (k, omega (arith, b), w.1)) in
+    let o = source (reached_copies r) c w.0 (t.all w.0 (k, omega (arith, b), w.1)) in
     let step = subst (λ (y : Packet). IsIn (answers p y) q) (sym o.makes) w.2 in
-    elim (in_parts place (copies_of r) o.copy o.among) [
+    elim (in_parts place (reached_copies r) o.copy o.among) [
       | inl i ↦ outcome_in _ _ c q (sym g.joined) (outcome_left _ _ c q (t.all q (fewer_turn p n c (apply o.copy c) q (t.early o.copy i) step)))
       | inr i ↦ g.has o.copy q i step
     ]
 
-pub turned_more : (p : Tree) (c : Packet) (n place : ℕ) (r s : Reach) → Turned p c n place r → Grows p c (drop place (copies_of r)) r s → Turned p c (suc n) (length (copies_of r)) s
+pub turned_more : (p : Tree) (c : Packet) (n place : ℕ) (r s : Reach) → Turned p c n place r → Grows p c (drop place (reached_copies r)) r s → Turned p c (suc n) (length (reached_copies r)) s
 turned_more p c n place r s t g =
-    let front = ap (take (length (copies_of r))) g.joined ∙ take-append_seam (copies_of r) g.more in
-    let behind = ap (drop (length (copies_of r))) g.joined ∙ drop-append_seam (copies_of r) g.more in
-    let from_drop : (x : List Lit) → IsIn (drop place (copies_of r)) x → IsIn (copies_of r) x = λ x i. in_same _ _ x (take-append-drop place (copies_of r)) (in-right (take place (copies_of r)) (drop place (copies_of r)) x i) in
+    let front = ap (take (length (reached_copies r))) g.joined ∙ take-append_seam (reached_copies r) g.more in
+    let behind = ap (drop (length (reached_copies r))) g.joined ∙ drop-append_seam (reached_copies r) g.more in
+    let from_drop : (x : List Lit) → IsIn (drop place (reached_copies r)) x → IsIn (reached_copies r) x = λ x i. in_same _ _ x (take-append-drop place (reached_copies r)) (in-right (take place (reached_copies r)) (drop place (reached_copies r)) x i) in
     record {
       told = g.told;
-      within = (let e = ap length g.joined ∙ length-append (copies_of r) g.more in omega (arith, e));
-      made = λ x h. elim (in-either (copies_of r) g.more x (in_same _ _ x g.joined h)) [
+      within = (let e = ap length g.joined ∙ length-append (reached_copies r) g.more in omega (arith, e));
+      made = λ x h. elim (in-either (reached_copies r) g.more x (in_same _ _ x g.joined h)) [
         | inl i ↦ fewer_more p (suc n) c (apply x c) (t.made x i)
         | inr i ↦ let w = g.only x i in fewer_turn p (suc n) c (apply w.0 c) (apply x c) (t.made w.0 (from_drop w.0 w.1)) w.2.made
       ];
       all = λ q h. turned_all p c n place r s t g h.0 q h.1 h.2;
       early = λ x h. t.made x (in_same _ _ x front h);
       late = λ x h k. g.late x (in_same _ _ x behind h) (t.all (apply x c) k);
-      named = λ x m h k. elim (in-either (copies_of r) g.more x (in_same _ _ x g.joined h)) [
+      named = λ x m h k. elim (in-either (reached_copies r) g.more x (in_same _ _ x g.joined h)) [
         | inl i ↦ t.named x m i k
         | inr i ↦ let w = g.only x i in elim (w.2.named m k) [ inl v ↦ t.named w.0 m (from_drop w.0 w.1) v | inr v ↦ v ]
       ];
-      asks = λ x m h k. elim (in_parts place (copies_of r) x (in_same _ _ x front h)) [
+      asks = λ x m h k. elim (in_parts place (reached_copies r) x (in_same _ _ x front h)) [
         | inl i ↦ g.kept m (t.asks x m i k)
         | inr i ↦ g.asks x m i k
       ];
@@ -110,17 +110,17 @@ turned_more p c n place r s t g =
     }
 
 -- where the last turn added nothing, no number of turns does
-closed_all : (p : Tree) (c : Packet) (n : ℕ) (r : Reach) → Turned p c n (length (copies_of r)) r → (k : ℕ) (q : Packet) → Turns p k c q → IsIn (outcomes (copies_of r) c) q
+closed_all : (p : Tree) (c : Packet) (n : ℕ) (r : Reach) → Turned p c n (length (reached_copies r)) r → (k : ℕ) (q : Packet) → Turns p k c q → IsIn (outcomes (reached_copies r) c) q
 closed_all p c n r t zero q h = t.all q (0, omega arith, h)
 closed_all p c n r t (suc k) q h =
     let w = last_turn p k c q h in
-    let o = source (copies_of r) c w.0 (closed_all p c n r t k w.0 w.1) in
-    t.all q (fewer_turn p n c (apply o.copy c) q (t.early o.copy (in_same _ _ o.copy (sym (take-length (copies_of r))) o.among)) (subst (λ (y : Packet). IsIn (answers p y) q) (sym o.makes) w.2))
+    let o = source (reached_copies r) c w.0 (closed_all p c n r t k w.0 w.1) in
+    t.all q (fewer_turn p n c (apply o.copy c) q (t.early o.copy (in_same _ _ o.copy (sym (take-length (reached_copies r))) o.among)) (subst (λ (y : Packet). IsIn (answers p y) q) (sym o.makes) w.2))
 
-pub closed_of : (p : Tree) (c : Packet) (n place : ℕ) (r : Reach) → n ≤ 513 → place ≡ length (copies_of r) → Turned p c n place r → IsClosed p c r
+pub closed_of : (p : Tree) (c : Packet) (n place : ℕ) (r : Reach) → n ≤ 513 → place ≡ length (reached_copies r) → Turned p c n place r → IsClosed p c r
 closed_of p c n place r b e t' =
     let t = subst (λ (k : ℕ). Turned p c n k r) e t' in
-    let whole : (x : List Lit) → IsIn (copies_of r) x → IsIn (take (length (copies_of r)) (copies_of r)) x = λ x h. in_same _ _ x (sym (take-length (copies_of r))) h in
+    let whole : (x : List Lit) → IsIn (reached_copies r) x → IsIn (take (length (reached_copies r)) (reached_copies r)) x = λ x h. in_same _ _ x (sym (take-length (reached_copies r))) h in
     record {
       made = λ x h. let w = t.early x (whole x h) in (w.0, (let k = w.1 in omega (arith, k, b)), w.2);
       all = closed_all p c n r t;
@@ -131,9 +131,9 @@ closed_of p c n place r b e t' =
     }
 
 -- what a turn more than 512 adds is late, also for the packet that is filled with a fresh one
-pub deep_of : (p : Tree) (c : Packet) (place : ℕ) (r : Reach) (x : List Lit) (g : Packet) → IsValid c → IsInRange g → IsFresh g p → Turned p c 513 place r → IsIn (drop place (copies_of r)) x → IsDeep p (fill c g) (fill (apply x c) g)
+pub deep_of : (p : Tree) (c : Packet) (place : ℕ) (r : Reach) (x : List Lit) (g : Packet) → IsValid c → IsInRange g → IsFresh g p → Turned p c 513 place r → IsIn (drop place (reached_copies r)) x → IsDeep p (fill c g) (fill (apply x c) g)
 deep_of p c place r x g v range fresh t h =
-    let w = t.made x (in_same _ _ x (take-append-drop place (copies_of r)) (in-right (take place (copies_of r)) (drop place (copies_of r)) x h)) in
+    let w = t.made x (in_same _ _ x (take-append-drop place (reached_copies r)) (in-right (take place (reached_copies r)) (drop place (reached_copies r)) x h)) in
     record {
       in_range = fill_in_range c g v range;
       made = (w.0, (let b = w.1 in omega (arith, b)), turns_filled p w.0 c (apply x c) g (fresh_escapes p c g fresh) w.2);
@@ -145,7 +145,7 @@ deep_of p c place r x g v range fresh t h =
 
 -- the same, as a loop has it
 
-pub turned_next : (p : Tree) (c : Packet) (n place until : ℕ) (r s : Reach) → until ≡ length (copies_of r) → Turned p c n place r → Grows p c (drop place (copies_of r)) r s → Turned p c (n + 1) until s
+pub turned_next : (p : Tree) (c : Packet) (n place until : ℕ) (r s : Reach) → until ≡ length (reached_copies r) → Turned p c n place r → Grows p c (drop place (reached_copies r)) r s → Turned p c (n + 1) until s
 turned_next p c n place until r s e t g = subst (λ (k : ℕ). Turned p c k until s) (sym (add-one n)) (subst (λ (k : ℕ). Turned p c (suc n) k s) (sym e) (turned_more p c n place r s t g))
 
 in_drop : (n : ℕ) (xs : List (List Lit)) (x : List Lit) → n < length xs → x ≡ get_or xs n x → IsIn (drop n xs) x
@@ -154,8 +154,8 @@ in_drop zero (y ∷ ys) x h e = inl (sym e)
 in_drop (suc n) (y ∷ ys) x h e = in_drop n ys x (omega (arith, h)) e
 
 pub deep_named : (p : Tree) (c q : Packet) (n place : ℕ) (r : Reach) (x : List Lit) (g pk out : Packet) → pk ≡ fill c g → out ≡ fill q g → q ≡ apply x c → IsValid c → IsInRange g → IsFresh g p
-    → n ≡ 513 → Turned p c n place r → place < length (copies_of r) → x ≡ get_or (copies_of r) place x → IsDeep p pk out
+    → n ≡ 513 → Turned p c n place r → place < length (reached_copies r) → x ≡ get_or (reached_copies r) place x → IsDeep p pk out
 deep_named p c q n place r x g pk out epk eout eq v range fresh en turned b at =
     let out' = eout ∙ ap (λ (z : Packet). fill z g) eq in
     let turned' = subst (λ (k : ℕ). Turned p c k place r) en turned in
-    subst (λ (z : Packet). IsDeep p z out) (sym epk) (subst (IsDeep p (fill c g)) (sym out') (deep_of p c place r x g v range fresh turned' (in_drop place (copies_of r) x b at)))
+    subst (λ (z : Packet). IsDeep p z out) (sym epk) (subst (IsDeep p (fill c g)) (sym out') (deep_of p c place r x g v range fresh turned' (in_drop place (reached_copies r) x b at)))

@@ -28,6 +28,6 @@ pub record AreBut (cs : List Packet) (l : Lit) (known : Known) (ds : List Packet
   pub among : (c : Packet) → IsIn cs c → ¬ Knows c l known → IsIn ds c
 
 -- the place is one of the store's, and its diagram has the property
-pub record IsAt (k : Kept) (P : Tree → Type 0) (a : ℕ) : Type 0 where
+pub record IsDiagramAt (k : Kept) (P : Tree → Type 0) (a : ℕ) : Type 0 where
   pub has : Has k a
   pub is : P (tree_at k a)

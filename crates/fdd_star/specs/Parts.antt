@@ -7,7 +7,7 @@ use Rattle.nk_values.specs.Members.{IsIn}
 use Rattle.fdd_nodes.specs.Cells.{IsOpen}
 use Rattle.fdd_nodes.specs.Trees.{Tree, Tests}
 use Rattle.fdd_star.specs.declared.parts.Parts.{Parts}
-use Rattle.fdd_star.specs.Narrow.{IsAt, IsNarrowed}
+use Rattle.fdd_star.specs.Narrow.{IsDiagramAt, IsNarrowed}
 use Rattle.fdd_star.specs.Reaches.{StarBut}
 use Rattle.fdd_star.specs.Shared.{AreShared}
 use Rattle.fdd_store.specs.Stores.{Kept, Gives, tree_at}
@@ -17,5 +17,5 @@ pub record HasParts (k : Kept) (p : Tree) (c : Packet) (old new : List Lit) (s :
   pub all : Gives k s.all (StarBut p c new)
   pub missed : new ≡ old ++ s.left.items
   pub asked : (m : Lit) → IsIn s.left.items m → IsOpen c (lit_field m) × Tests p m
-  pub body : IsAt k (IsNarrowed p c) s.body
+  pub body : IsDiagramAt k (IsNarrowed p c) s.body
   pub shared : AreShared k (tree_at k s.body) c new s.shared

@@ -12,20 +12,20 @@ use Rattle.fdd_star.specs.declared.reach.Reach.{Reach}
 use Rattle.fdd_star.specs.Asks.{Asks}
 use Rattle.fdd_star.specs.Stars.{Turns, AtMost}
 
-abbrev pub copies_of : Reach → List (List Lit)
-copies_of r = r.copies.items
+abbrev pub reached_copies : Reach → List (List Lit)
+reached_copies r = r.copies.items
 
 abbrev pub asked_of : Reach → List Lit
 asked_of r = r.asked.keys
 
 -- the cells are those that the copies make of the cell
 abbrev pub IsTold : Packet → Reach → Type 0
-IsTold c r = r.cells.keys ≡ outcomes (copies_of r) c
+IsTold c r = r.cells.keys ≡ outcomes (reached_copies r) c
 
 -- the cell's packet alone, and nothing was asked
 pub record Starts (c : Packet) (r : Reach) : Type 0 where
   pub told : IsTold c r
-  pub copies : copies_of r ≡ [] ∷ []
+  pub copies : reached_copies r ≡ [] ∷ []
   pub asked : asked_of r ≡ []
 
 -- new has the literals among what was asked, beside what old has
@@ -35,13 +35,13 @@ pub record AsksAll (ls : List Lit) (old new : Reach) : Type 0 where
   pub only : (m : Lit) → IsIn (asked_of new) m → IsIn (asked_of old) m ⊎ IsIn ls m
 
 -- the packet was there, or it is last now, and so is the copy x
-pub record Notes (q : Packet) (x : List Lit) (old new : Reach) : Type 0 where
+pub record NotesPacket (q : Packet) (x : List Lit) (old new : Reach) : Type 0 where
   pub asked : asked_of new ≡ asked_of old
-  pub which : (IsIn old.cells.keys q × (new.cells.keys ≡ old.cells.keys) × (copies_of new ≡ copies_of old))
-      ⊎ ((¬ IsIn old.cells.keys q) × (new.cells.keys ≡ old.cells.keys ++ q ∷ []) × (copies_of new ≡ copies_of old ++ x ∷ []))
+  pub which : (IsIn old.cells.keys q × (new.cells.keys ≡ old.cells.keys) × (reached_copies new ≡ reached_copies old))
+      ⊎ ((¬ IsIn old.cells.keys q) × (new.cells.keys ≡ old.cells.keys ++ q ∷ []) × (reached_copies new ≡ reached_copies old ++ x ∷ []))
 
 -- the copy y makes an answer to what the copy x makes, and has only literals of x and what is assigned
-pub record IsNext (p : Tree) (c : Packet) (x y : List Lit) : Type 0 where
+pub record IsNextCopy (p : Tree) (c : Packet) (x y : List Lit) : Type 0 where
   pub made : IsIn (answers p (apply x c)) (apply y c)
   pub named : (m : Lit) → IsIn y m → IsIn x m ⊎ Assigns p m
 
@@ -49,10 +49,10 @@ pub record IsNext (p : Tree) (c : Packet) (x y : List Lit) : Type 0 where
 pub record Grows (p : Tree) (c : Packet) (xs : List (List Lit)) (old new : Reach) : Type 0 where
   pub told : IsTold c new
   pub more : List (List Lit)
-  pub joined : copies_of new ≡ copies_of old ++ more
-  pub has : (x : List Lit) (q : Packet) → IsIn xs x → IsIn (answers p (apply x c)) q → IsIn (outcomes (copies_of new) c) q
-  pub only : (y : List Lit) → IsIn more y → (x : List Lit) × IsIn xs x × IsNext p c x y
-  pub late : (y : List Lit) → IsIn more y → ¬ IsIn (outcomes (copies_of old) c) (apply y c)
+  pub joined : reached_copies new ≡ reached_copies old ++ more
+  pub has : (x : List Lit) (q : Packet) → IsIn xs x → IsIn (answers p (apply x c)) q → IsIn (outcomes (reached_copies new) c) q
+  pub only : (y : List Lit) → IsIn more y → (x : List Lit) × IsIn xs x × IsNextCopy p c x y
+  pub late : (y : List Lit) → IsIn more y → ¬ IsIn (outcomes (reached_copies old) c) (apply y c)
   pub kept : (m : Lit) → IsIn (asked_of old) m → IsIn (asked_of new) m
   pub asks : (x : List Lit) (m : Lit) → IsIn xs x → Asks p (apply x c) m → IsIn (asked_of new) m
   pub asked : (m : Lit) → IsIn (asked_of new) m → IsIn (asked_of old) m ⊎ ((x : List Lit) × IsIn xs x × Asks p (apply x c) m)
@@ -65,23 +65,23 @@ Fewer p n pk out = (k : ℕ) × (k < n) × Turns p k pk out
 -- fewer do, and what they ask is noted; the others make nothing of that.
 pub record Turned (p : Tree) (c : Packet) (n place : ℕ) (r : Reach) : Type 0 where
   pub told : IsTold c r
-  pub within : place ≤ length (copies_of r)
-  pub made : (x : List Lit) → IsIn (copies_of r) x → Fewer p (suc n) c (apply x c)
-  pub all : (q : Packet) → Fewer p (suc n) c q → IsIn (outcomes (copies_of r) c) q
-  pub early : (x : List Lit) → IsIn (take place (copies_of r)) x → Fewer p n c (apply x c)
-  pub late : (x : List Lit) → IsIn (drop place (copies_of r)) x → ¬ Fewer p n c (apply x c)
-  pub named : (x : List Lit) (m : Lit) → IsIn (copies_of r) x → IsIn x m → Assigns p m
-  pub asks : (x : List Lit) (m : Lit) → IsIn (take place (copies_of r)) x → Asks p (apply x c) m → IsIn (asked_of r) m
+  pub within : place ≤ length (reached_copies r)
+  pub made : (x : List Lit) → IsIn (reached_copies r) x → Fewer p (suc n) c (apply x c)
+  pub all : (q : Packet) → Fewer p (suc n) c q → IsIn (outcomes (reached_copies r) c) q
+  pub early : (x : List Lit) → IsIn (take place (reached_copies r)) x → Fewer p n c (apply x c)
+  pub late : (x : List Lit) → IsIn (drop place (reached_copies r)) x → ¬ Fewer p n c (apply x c)
+  pub named : (x : List Lit) (m : Lit) → IsIn (reached_copies r) x → IsIn x m → Assigns p m
+  pub asks : (x : List Lit) (m : Lit) → IsIn (take place (reached_copies r)) x → Asks p (apply x c) m → IsIn (asked_of r) m
   pub is_open : (m : Lit) → IsIn (asked_of r) m → IsOpen c (lit_field m)
   pub tests : (m : Lit) → IsIn (asked_of r) m → Tests p m
 
 -- All that any number of turns reach from the cell's packet is reached in 512; what was asked on the way is of fields that
 -- the cell leaves open.
 pub record IsClosed (p : Tree) (c : Packet) (r : Reach) : Type 0 where
-  pub made : (x : List Lit) → IsIn (copies_of r) x → AtMost p 512 c (apply x c)
-  pub all : (n : ℕ) (q : Packet) → Turns p n c q → IsIn (outcomes (copies_of r) c) q
-  pub named : (x : List Lit) (m : Lit) → IsIn (copies_of r) x → IsIn x m → Assigns p m
-  pub asks : (x : List Lit) (m : Lit) → IsIn (copies_of r) x → Asks p (apply x c) m → IsIn (asked_of r) m
+  pub made : (x : List Lit) → IsIn (reached_copies r) x → AtMost p 512 c (apply x c)
+  pub all : (n : ℕ) (q : Packet) → Turns p n c q → IsIn (outcomes (reached_copies r) c) q
+  pub named : (x : List Lit) (m : Lit) → IsIn (reached_copies r) x → IsIn x m → Assigns p m
+  pub asks : (x : List Lit) (m : Lit) → IsIn (reached_copies r) x → Asks p (apply x c) m → IsIn (asked_of r) m
   pub is_open : (m : Lit) → IsIn (asked_of r) m → IsOpen c (lit_field m)
   pub tests : (m : Lit) → IsIn (asked_of r) m → Tests p m
 

@@ -2,7 +2,7 @@
 ghost use Rattle.std.specs.Prelude.{IfOk};
 ghost use Rattle.fdd_nodes.specs.Names.{IsFew};
 ghost use Rattle.fdd_nodes.specs.declared.cell.Known.TheVariants.{No, Yes};
-ghost use Rattle.fdd_star.specs.Narrow.{AreBut, IsAt, IsNarrowed, IsOn};
+ghost use Rattle.fdd_star.specs.Narrow.{AreBut, IsDiagramAt, IsNarrowed, IsOn};
 ghost use Rattle.fdd_store.specs.Looks.{Forked};
 ghost use Rattle.fdd_store.specs.Made.{IsMade};
 ghost use Rattle.fdd_store.specs.Stores.{Has, Grows, tree_at};
@@ -30,7 +30,7 @@ pub(crate) fn narrowed(
     requires has { Has store.old p }
     requires few { IsFew (tree_at store.old p) }
     ensures grows { Grows store.old store.new }
-    ensures body { IfOk result (IsAt store.new (IsNarrowed (tree_at store.old p) cell.now)) }
+    ensures body { IfOk result (IsDiagramAt store.new (IsNarrowed (tree_at store.old p) cell.now)) }
 {
     if asked.len() < 2 || *cell == Cell::open() {
         return Ok(p);
@@ -58,7 +58,7 @@ fn on_reached(
     requires has { Has store.old p }
     requires few { IsFew (tree_at store.old p) }
     ensures grows { Grows store.old store.new }
-    ensures body { IfOk result (IsAt store.new (IsNarrowed (tree_at store.old p) cell.now)) }
+    ensures body { IfOk result (IsDiagramAt store.new (IsNarrowed (tree_at store.old p) cell.now)) }
 {
     let mut cells = IndexSet::new(alloc);
     if add_led_to(alloc, store, allowance, &mut cells, p, cell)? {
@@ -98,7 +98,7 @@ fn on_cells(alloc: Global, store: &mut Store, a: Id, cells: &[Cell]) -> Result<I
     requires has { Has store.old a }
     requires few { IsFew (tree_at store.old a) }
     ensures grows { Grows store.old store.new }
-    ensures on { IfOk result (IsAt store.new (IsOn cells.now (tree_at store.old a))) }
+    ensures on { IfOk result (IsDiagramAt store.new (IsOn cells.now (tree_at store.old a))) }
 {
     if cells.is_empty() {
         return Ok(a);
@@ -134,7 +134,7 @@ fn on_sides(
     requires there { AreBut cells.now l No there.now }
     requires away { AreBut cells.now l Yes away.now }
     ensures grows { Grows store.old store.new }
-    ensures on { IfOk result (IsAt store.new (IsOn cells.now (tree_at store.old a))) }
+    ensures on { IfOk result (IsDiagramAt store.new (IsOn cells.now (tree_at store.old a))) }
 {
     if away.is_empty() {
         return on_cells(alloc, store, yes, there);

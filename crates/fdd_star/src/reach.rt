@@ -26,7 +26,7 @@ impl Reach {
     ghost use Rattle.fdd_nodes.specs.Trees.{Tree, apply};
     ghost use Rattle.fdd_star.specs.Asks.{AreVisits, IsVisitOf};
     ghost use Rattle.fdd_star.specs.Faults.{IsErrorIn};
-    ghost use Rattle.fdd_star.specs.Reaches.{copies_of, Starts, IsTold, Notes, AsksAll, Grows, IsClosed};
+    ghost use Rattle.fdd_star.specs.Reaches.{reached_copies, Starts, IsTold, NotesPacket, AsksAll, Grows, IsClosed};
     ghost use Rattle.fdd_store.specs.Stores.{Has, tree_at};
 
     /// What any number of turns reach, or an output that takes 513 turns. The fault fills the cell with another packet, which
@@ -93,10 +93,10 @@ impl Reach {
     ) -> Result<(), AllocError>
         requires has { Has store.now p }
         requires visits { AreVisits store.now visits.old }
-        requires place { from ≤ length (copies_of self.old) }
+        requires place { from ≤ length (reached_copies self.old) }
         requires told { IsTold cell.now self.old }
         ensures visits { OnOk result (AreVisits store.now visits.new) }
-        ensures grown { OnOk result (Grows (tree_at store.now p) cell.now (drop from (copies_of self.old)) self.old self.new) }
+        ensures grown { OnOk result (Grows (tree_at store.now p) cell.now (drop from (reached_copies self.old)) self.old self.new) }
     {
         for i in from..self.copies.len() {
             let copy = self.copies[i].copy()?;
@@ -172,7 +172,7 @@ impl Reach {
         copy: &Assignments,
         next: &Assignments,
     ) -> Result<(), AllocError>
-        ensures { OnOk result (Notes cell (after copy.now next.now) self.old self.new) }
+        ensures { OnOk result (NotesPacket cell (after copy.now next.now) self.old self.new) }
     {
         if self.cells.insert(cell)? {
             self.copies.push(copy.followed_by(alloc, next)?)?;

@@ -7,14 +7,14 @@ ghost use Rattle.nk_values.specs.Ranges.{place};
 ghost use Rattle.fdd_nodes.specs.Copies.{IsCopy};
 ghost use Rattle.fdd_nodes.specs.Roots.{IsLeaf};
 ghost use Rattle.fdd_nodes.specs.Trees as trees;
-ghost use Rattle.fdd_store.specs.Entries.{IsEntry, SetsField, behind};
+ghost use Rattle.fdd_store.specs.Digests.{IsDigest, SetsField, behind};
 ghost use Rattle.fdd_store.specs.Looks.{Looks};
 ghost use Rattle.fdd_store.specs.Made.{IsMade};
 ghost use Rattle.fdd_store.specs.Stores.{Has, IsBelow, IsRight, IsStore, Grows, Gives, shape_tree, tree_at, trees as all_trees};
 
 use crate::call::Call;
 use crate::copies::SharedCopies;
-use crate::entry::{Entry, fields_set};
+use crate::digest::{Digest, fields_set};
 use crate::id::Id;
 use crate::shape::Shape;
 use fdd_nodes::Leaf;
@@ -32,7 +32,7 @@ const FEW_COPIES: usize = 8;
 pub struct Store {
     shapes: IndexSet<Shape>,
     known: IndexMap<Call, Id>,
-    entries: Vec<Entry>,
+    digests: Vec<Digest>,
     copies: SharedCopies,
     ends: Ends,
     assigned: IndexMap<Lit, Id>,
@@ -43,7 +43,7 @@ impl Drop for Store {
         let Store {
             shapes: _shapes,
             known: _known,
-            entries: _entries,
+            digests: _digests,
             copies: _copies,
             ends: _ends,
             assigned: _assigned,
@@ -52,14 +52,14 @@ impl Drop for Store {
 }
 
 impl Model for Store {
-    ghost use Rattle.fdd_store.specs.Entries.{AreEntries};
+    ghost use Rattle.fdd_store.specs.Digests.{AreDigests};
     ghost use Rattle.fdd_store.specs.Stores.{Kept, IsStore};
 
     ghost Value = { Kept };
 
     ghost view = { λ s. record { shapes = s.shapes.keys; known = s.known.entries } };
 
-    ghost invariant = { λ s. IsStore (record { shapes = s.shapes.keys; known = s.known.entries }) × AreEntries (record { shapes = s.shapes.keys; known = s.known.entries }) s.entries.items };
+    ghost invariant = { λ s. IsStore (record { shapes = s.shapes.keys; known = s.known.entries }) × AreDigests (record { shapes = s.shapes.keys; known = s.known.entries }) s.digests.items };
 }
 
 /// How many nodes and leaves there are, and how many results.
@@ -92,7 +92,7 @@ impl Store {
         Store {
             shapes: IndexSet::new(alloc),
             known: IndexMap::new(alloc),
-            entries: Vec::new(alloc),
+            digests: Vec::new(alloc),
             copies: SharedCopies::new(alloc),
             ends: Ends {
                 all: Id::at(0),
@@ -179,14 +179,14 @@ impl Store {
     }
 
     // What is told of a diagram.
-    fn entry(&self, a: Id) -> &Entry
+    fn digest(&self, a: Id) -> &Digest
         requires { Has self.now a }
-        ensures entry { IsEntry self.now a (tree_at self.now a) result.now }
+        ensures digest { IsDigest self.now a (tree_at self.now a) result.now }
         ensures made { IsMade (tree_at self.now a) }
     {
-        match self.entries.get(a.place()) {
+        match self.digests.get(a.place()) {
             None => unreachable!(),
-            Some(entry) => entry,
+            Some(digest) => digest,
         }
     }
 
@@ -200,7 +200,7 @@ impl Store {
             Look::Leaf => a,
             Look::Fork(m, _, _) => {
                 if m.field().place() == f.place() {
-                    self.entry(a).behind
+                    self.digest(a).behind
                 } else {
                     a
                 }
@@ -213,7 +213,7 @@ impl Store {
         requires { Has self.now a }
         ensures { IsTrue result ↔ SetsField (tree_at self.now a) f }
     {
-        self.entry(a).sets.has(f)
+        self.digest(a).sets.has(f)
     }
 
     /// Whether two diagrams are one.
@@ -230,16 +230,16 @@ impl Store {
     }
 
     // Puts a node or a leaf, with what is told of it.
-    fn put(&mut self, shape: Shape, entry: Entry) -> Result<Id, AllocError>
+    fn put(&mut self, shape: Shape, digest: Digest) -> Result<Id, AllocError>
         requires below { IsBelow (length self.old.shapes) shape }
         requires made { IsMade (shape_tree (all_trees self.old.shapes) shape) }
-        requires right { IsEntry self.old (length self.old.shapes) (shape_tree (all_trees self.old.shapes) shape) entry }
+        requires right { IsDigest self.old (length self.old.shapes) (shape_tree (all_trees self.old.shapes) shape) digest }
         ensures grows { Grows self.old self.new }
         ensures place { IfOk result (λ i. Gives self.new i (λ t. t ≡ shape_tree (all_trees self.old.shapes) shape)) }
         ensures err { OnErr result (self.new ≡ self.old) }
     {
-        self.entries.truncate(self.shapes.len());
-        self.entries.push(entry)?;
+        self.digests.truncate(self.shapes.len());
+        self.digests.push(digest)?;
         let (place, _) = self.shapes.insert_full(shape)?;
         Ok(Id::at(place))
     }
@@ -275,18 +275,18 @@ impl Store {
     }
 
     // Puts a leaf, of copies that are kept.
-    #[tactic(auto, using(crate::proofs::EntryLaws::sets_leaf))]
+    #[tactic(auto, using(crate::proofs::DigestLaws::sets_leaf))]
     fn put_copies(&mut self, alloc: Global, leaf: &Leaf) -> Result<Id, AllocError>
         ensures grows { Grows self.old self.new }
         ensures place { IfOk result (λ i. Gives self.new i (λ t. t ≡ trees.Leaf leaf.now)) }
         ensures err { OnErr result (self.new ≡ self.old) }
     {
         let shared = self.copies.leaf(alloc, leaf)?;
-        let entry = Entry {
+        let digest = Digest {
             behind: Id::at(0),
             sets: fields_set(shared.copies()),
         };
-        self.put(Shape::Copies(shared), entry)
+        self.put(Shape::Copies(shared), digest)
     }
 
     /// The diagram of a test that is not idle.
@@ -298,19 +298,19 @@ impl Store {
         ensures place { IfOk result (λ i. Gives self.new i (λ x. x ≡ trees.Node l (tree_at self.old t) (tree_at self.old e))) }
         ensures err { OnErr result (self.new ≡ self.old) }
     {
-        let entry = self.entry_of(l, t, e);
-        self.put(Shape::Fork(l, t, e), entry)
+        let digest = self.digest_of(l, t, e);
+        self.put(Shape::Fork(l, t, e), digest)
     }
 
     // What is told of a test with its branches.
-    #[tactic(auto, using(crate::proofs::EntryLaws::sets_test))]
-    fn entry_of(&self, l: Lit, t: Id, e: Id) -> Entry
+    #[tactic(auto, using(crate::proofs::DigestLaws::sets_test))]
+    fn digest_of(&self, l: Lit, t: Id, e: Id) -> Digest
         requires has_then { Has self.now t }
         requires has_else { Has self.now e }
-        ensures { IsEntry self.now (length self.now.shapes) (trees.Node l (tree_at self.now t) (tree_at self.now e)) result }
+        ensures { IsDigest self.now (length self.now.shapes) (trees.Node l (tree_at self.now t) (tree_at self.now e)) result }
     {
-        let (yes, no) = (self.entry(t), self.entry(e));
-        Entry {
+        let (yes, no) = (self.digest(t), self.digest(e));
+        Digest {
             behind: self.behind(l.field(), e),
             sets: yes.sets.with(&no.sets),
         }
@@ -347,6 +347,6 @@ impl Store {
     {
         self.shapes.truncate(size.shapes);
         self.known.truncate(size.known);
-        self.entries.truncate(size.shapes);
+        self.digests.truncate(size.shapes);
     }
 }

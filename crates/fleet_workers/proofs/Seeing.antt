@@ -3,7 +3,7 @@ use Rattle.std.proofs.Common.{◌≡◌, ◌≤◌, ◌⊎◌, inl, inr, false, 
 use Rattle.std.specs.List.{AllByRecursion}
 use Rattle.nk_values.specs.Members.{IsIn}
 use Rattle.status_board.specs.declared.post.Post.{Post}
-use Rattle.status_board.specs.Posts.{last_of, newest, opening}
+use Rattle.status_board.specs.Posts.{last_post, newest, opening}
 use Rattle.board_readers.specs.Sights.{IsKnown}
 use Rattle.update_coordinator.specs.declared.phase.Phase.TheVariants as phase
 use Rattle.watch_laws.specs.Watching.{ArePosts, IsPostOf}
@@ -36,7 +36,7 @@ known-posts start events posts [] first all known = tt
 known-posts start events posts (p ∷ ps) first all known = (known-post start events posts p first all known.0, known-posts start events posts ps first all known.1)
 
 -- the newest of some posts is one of them, or what comes before them
-last-known : (P : Post → Type 0) (first : Post) (posts : List Post) → P first → AllByRecursion P posts → P (last_of first posts)
+last-known : (P : Post → Type 0) (first : Post) (posts : List Post) → P first → AllByRecursion P posts → P (last_post first posts)
 last-known P first [] p all = p
 last-known P first (q ∷ qs) p all = last-known P q qs all.0 all.1
 

@@ -2,7 +2,7 @@
 use Rattle.std.specs.Prelude.{◌≡◌, ◌≤◌, true, List, [], ◌∷◌, ◌++◌, length}
 use Rattle.std.specs.List.{AllByRecursion}
 pub use Rattle.status_board.specs.declared.post.Post.{Post}
-use Rattle.status_board.specs.Posts.{last_of, opening}
+use Rattle.status_board.specs.Posts.{last_post, opening}
 use Rattle.board_readers.specs.Sights.{AreSeen, do_rise}
 use Rattle.watch_laws.specs.Watching.{ArePosts, IsPosted, IsPostOf}
 use Rattle.world_core.specs.declared.event.Event.{Event}
@@ -22,5 +22,5 @@ pub record AreSightsOf (start : WorldValue) (events : List Event) (posts : List 
   pub posts_are : posts ≡ seen ++ last ∷ []
   pub each : AllByRecursion (IsPostOf start events) posts
   pub rising : do_rise seen ≡ true
-  pub repeats : (last_of opening seen).count ≤ last.count
+  pub repeats : (last_post opening seen).count ≤ last.count
   pub whole : last.count ≡ length events

@@ -57,9 +57,9 @@ abbrev pub carries : ℕ → Flight → Bool
 carries stamp f = option_eq nat_eq f.tag (Some stamp)
 
 -- the copies of a queue, if there is one
-abbrev pub copies_of : Option (List Numbered) → List Flight
-copies_of None = []
-copies_of (Some es) = flights_of es
+abbrev pub queue_copies : Option (List Numbered) → List Flight
+queue_copies None = []
+queue_copies (Some es) = flights_of es
 
 -- The marks rise by number, up to the one that is given next, and those that lead to a queue tell of its copies, each
 -- once and in order.

@@ -44,7 +44,7 @@ impl Model for Flights {
 impl Flights {
     ghost use Rattle.std.specs.Prelude.{◌++◌, ◌∷◌, [], take, option_map, OnOk, OnErr};
     ghost use Rattle.std.specs.List.{filter, list_any, remove};
-    ghost use Rattle.flight_queues.specs.Merged.{carries, copies_of, stands_at};
+    ghost use Rattle.flight_queues.specs.Merged.{carries, queue_copies, stands_at};
 
     /// None.
     pub fn new(alloc: Global) -> Flights
@@ -94,7 +94,7 @@ impl Flights {
 
     /// The queue of a switch, if a copy ever came to it: the copies that came to it and are in flight.
     pub fn queue(&self, switch: u64) -> Option<&Queue>
-        ensures { copies_of (option_map (λ q. q.now) result) ≡ filter (stands_at switch) self.now }
+        ensures { queue_copies (option_map (λ q. q.now) result) ≡ filter (stands_at switch) self.now }
     {
         let place = self.places.get(&switch)?;
         Some(&self.queues[*place])

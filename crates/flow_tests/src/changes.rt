@@ -1,6 +1,6 @@
 // Modifications and deletions, on a table of two rows.
 use flow_table::{ChangeError, ChangeFault, Table};
-use nk_values::{ANY_PORT, Action, Actions, Command, FlowMod, Pattern};
+use nk_values::{ANY_PORT, Action, Actions, FlowCommand, FlowMod, Pattern};
 use std::alloc::Global;
 
 // The pattern of packets that come in by port 1.
@@ -24,7 +24,7 @@ fn to_five() -> Pattern {
 fn change(
     alloc: Global,
     table: &mut Table,
-    command: Command,
+    command: FlowCommand,
     pattern: Pattern,
     priority: u16,
     out: u16,
@@ -62,15 +62,23 @@ fn output(table: &Table, priority: u16) -> Option<u16> {
 // 6: the outputs of both after it, or nothing where the change failed.
 fn both_after(
     alloc: Global,
-    command: Command,
+    command: FlowCommand,
     pattern: Pattern,
     priority: u16,
     out: u16,
     out_port: u16,
 ) -> Result<(Option<u16>, Option<u16>), ChangeError> {
     let mut table = Table::new(alloc, 2);
-    change(alloc, &mut table, Command::Add, at(), 5, 2, ANY_PORT)?;
-    change(alloc, &mut table, Command::Add, to_five(), 6, 3, ANY_PORT)?;
+    change(alloc, &mut table, FlowCommand::Add, at(), 5, 2, ANY_PORT)?;
+    change(
+        alloc,
+        &mut table,
+        FlowCommand::Add,
+        to_five(),
+        6,
+        3,
+        ANY_PORT,
+    )?;
     change(alloc, &mut table, command, pattern, priority, out, out_port)?;
     Ok((output(&table, 5), output(&table, 6)))
 }
@@ -78,7 +86,7 @@ fn both_after(
 #[test]
 fn removes_by_key(rt: HostRuntime) {
     let alloc = rt.alloc();
-    let strict = Command::DeleteStrict;
+    let strict = FlowCommand::DeleteStrict;
     assert_eq!(rt;
         both_after(alloc, strict, at(), 5, 0, ANY_PORT),
         Ok((None, Some(3)))
@@ -96,8 +104,8 @@ fn removes_by_key(rt: HostRuntime) {
 #[test]
 fn modifies_what_is_more_specific(rt: HostRuntime) {
     let alloc = rt.alloc();
-    let modify = Command::Modify;
-    let strict = Command::ModifyStrict;
+    let modify = FlowCommand::Modify;
+    let strict = FlowCommand::ModifyStrict;
     assert_eq!(rt;
         both_after(alloc, modify, at(), 9, 0, ANY_PORT),
         Ok((Some(0), Some(0)))
@@ -115,7 +123,7 @@ fn modifies_what_is_more_specific(rt: HostRuntime) {
 #[test]
 fn removes_by_out_port(rt: HostRuntime) {
     let alloc = rt.alloc();
-    let delete = Command::Delete;
+    let delete = FlowCommand::Delete;
     assert_eq!(rt;
         both_after(alloc, delete, at(), 0, 0, 3),
         Ok((Some(2), None))
@@ -129,11 +137,11 @@ fn removes_by_out_port(rt: HostRuntime) {
 // Two modifications of an empty table for one row: the output of the first, and what came of the second.
 fn modified_nothing(alloc: Global) -> Result<(Option<u16>, Result<(), ChangeError>), ChangeError> {
     let mut table = Table::new(alloc, 1);
-    change(alloc, &mut table, Command::Modify, at(), 5, 2, ANY_PORT)?;
+    change(alloc, &mut table, FlowCommand::Modify, at(), 5, 2, ANY_PORT)?;
     let second = change(
         alloc,
         &mut table,
-        Command::ModifyStrict,
+        FlowCommand::ModifyStrict,
         to_five(),
         6,
         3,

@@ -1,7 +1,7 @@
 // Look-ups in tables to which rows are added.
 use flow_index::{ChangeError, ChangeFault, Table};
 use nk_values::{
-    ANY_PORT, Action, Actions, Command, FlowMod, Header, Pattern, Prefix, Tag, UNTAGGED,
+    ANY_PORT, Action, Actions, FlowCommand, FlowMod, Header, Pattern, Prefix, Tag, UNTAGGED,
 };
 use std::alloc::Global;
 use std::test::Fail;
@@ -59,7 +59,7 @@ fn add(
 ) -> Result<(), ChangeError> {
     let actions = Actions::one(Action::Output(out));
     let mut change = FlowMod {
-        command: Command::Add,
+        command: FlowCommand::Add,
         pattern,
         priority,
         out_port: ANY_PORT,
@@ -135,7 +135,7 @@ fn remove(
     priority: u16,
 ) -> Result<(), ChangeError> {
     let mut change = FlowMod {
-        command: Command::DeleteStrict,
+        command: FlowCommand::DeleteStrict,
         pattern,
         priority,
         out_port: ANY_PORT,

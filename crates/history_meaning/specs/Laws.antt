@@ -1,7 +1,7 @@
 -- Laws of the meaning.
 use Rattle.std.specs.Prelude.{◌≡◌, ℕ, suc, map}
 use Rattle.nk_values.specs.Members.{Within}
-use Rattle.nk_values.specs.Trails.{Trail, start, renewed, IsPast}
+use Rattle.nk_values.specs.Trails.{Trail, one_packet, renewed, IsPast}
 use Rattle.nk_syntax.specs.Terms.{Term, Terms, Filter, Assign, Sum, Seq, Star, Dup, no_terms, term}
 use Rattle.history_meaning.specs.Meaning.{den}
 use Rattle.history_meaning.specs.Network.{Wiring, IsFuture}
@@ -26,7 +26,7 @@ abbrev mutual
 
 -- a policy without `dup` renews the newest packet of a history, by that packet alone
 abbrev pub FlatRenewsTheNewest : Type 0
-FlatRenewsTheNewest = (p : Term) → IsFlat p → (n : ℕ) (h : Trail) → den p n h ≡ map (λ (t : Trail). renewed h t.newest) (den p n (start h.newest))
+FlatRenewsTheNewest = (p : Term) → IsFlat p → (n : ℕ) (h : Trail) → den p n h ≡ map (λ (t : Trail). renewed h t.newest) (den p n (one_packet h.newest))
 
 -- each future of a copy has the copy's history as its past, whatever the policy
 abbrev pub FuturesGoOn : Type 0

@@ -3,14 +3,14 @@ use Rattle.std.specs.Prelude.{◌≡◌}
 use Rattle.nk_values.specs.Acts.{IsSettable}
 use Rattle.nk_values.specs.declared.packet.Packet.{Packet}
 use Rattle.nk_values.specs.Packets.{IsWellShaped}
-use Rattle.nk_values.specs.Trails.{Trail, start}
+use Rattle.nk_values.specs.Trails.{Trail, one_packet}
 use Rattle.nk_syntax.specs.Terms.{Term, Terms, Filter, Assign, Sum, Seq, Star, Dup, no_terms, term}
 use Rattle.history_meaning.specs.Meaning.{IsResult}
 
 -- q is the newest packet of a result of the policy from the history of pk alone
 pub record HasResult (p : Term) (pk q : Packet) : Type 0 where
   pub history : Trail
-  pub is_result : IsResult p (start pk) history
+  pub is_result : IsResult p (one_packet pk) history
   pub newest : history.newest ≡ q
 
 -- no `dup`, and only assignments that a switch can make

@@ -97,6 +97,6 @@ pub record IsUnordered (x : Packet) (v : PortView) (cs : List (List Lit)) (u : A
   pub first : first_apart x routes ≡ Some u
 
 -- nothing is said of memory
-abbrev pub Bars : Packet → PortView → List (List Lit) → ActionsError → Type 0
-Bars x v cs error.Memory = Unit {0}
-Bars x v cs (error.Fault u) = IsUnordered x v cs u
+abbrev pub RefusesLeaf : Packet → PortView → List (List Lit) → ActionsError → Type 0
+RefusesLeaf x v cs error.Memory = Unit {0}
+RefusesLeaf x v cs (error.Fault u) = IsUnordered x v cs u

@@ -7,7 +7,7 @@ ghost use Rattle.nk_values.specs.Tags.{IsVlanId};
 ghost use Rattle.fdd_nodes.specs.Cells.{IsValid};
 ghost use Rattle.leaf_actions.specs.Acting.{ActsAs};
 ghost use Rattle.leaf_actions.specs.Chains.{keeps, Climbs};
-ghost use Rattle.leaf_actions.specs.Listing.{setting, change, changed, retagged, port_number, listed, IsActionList, Bars};
+ghost use Rattle.leaf_actions.specs.Listing.{setting, change, changed, retagged, port_number, listed, IsActionList, RefusesLeaf};
 ghost use Rattle.leaf_actions.specs.Settable.{AreSettable, settable};
 
 use crate::alone::listed_alone;
@@ -66,7 +66,7 @@ pub fn actions(
     ensures list { IfOk result (IsActionList cell.now view.now leaf.now) }
     ensures acts { IfOk result (ActsAs cell.now view.now leaf.now) }
     ensures fits { IfOk result (AllByRecursion FitsAction) }
-    ensures barred { IfErr result (Bars cell.now view.now leaf.now) }
+    ensures barred { IfErr result (RefusesLeaf cell.now view.now leaf.now) }
 {
     let copies = leaf.copies();
     if let [copy] = copies {

@@ -16,7 +16,7 @@ use Rattle.netkat_parser.specs.Grammar.{Bad}
 use Rattle.netkat_parser.specs.Answers.{spot}
 use Rattle.netkat_parser.specs.Going.{Reach, Comes}
 use Rattle.netkat_parser.specs.Cuts.{EndsAt, IsSignAt, IsRunAt, comment_behind}
-use Rattle.netkat_parser.specs.Views.{View, Shows, HasNoRun, Takes, TakesNumber, TakesRun, MovesOn}
+use Rattle.netkat_parser.specs.Views.{View, Shows, HasNoRun, TakesSign, TakesNumber, TakesRun, MovesOn}
 use Rattle.netkat_parser.specs.Standing.{Stays, TakesFront, StopsThere, Steps, Leaves, Advances}
 use Rattle.netkat_parser.proofs.Cutting.{ahead-append, at-sign}
 use Rattle.std.proofs.lemmas.List.{append-nil, drop-drop}
@@ -28,7 +28,7 @@ stays-same v text end = λ x h. (x, h, λ rest o e k. k)
 filled : (text : List ℕ) (end : Bool) (g : Sign) (n : ℕ) → IsSignAt text end g n → g ≢ End → text ≢ []
 filled text end g n s ne e = ne (sym (s.sign [] (λ k. refl)) ∙ ap (λ t. sign (t ++ [])) e)
 
-pub sign-takes : (old new : View) (text : List ℕ) (end : Bool) (g : Sign) (n : ℕ) → IsSignAt text end g n → Takes old g new → Steps old text end new (Ok n)
+pub sign-takes : (old new : View) (text : List ℕ) (end : Bool) (g : Sign) (n : ℕ) → IsSignAt text end g n → TakesSign old g new → Steps old text end new (Ok n)
 sign-takes old new text end g n s t = (
   s.some (filled text end g n s t.0),
   s.within,

@@ -30,7 +30,7 @@ use Rattle.netkat_parser.specs.Grammar.{Spot, Got, Read, Bad, step, stray, stray
 use Rattle.netkat_parser.specs.Answers.{spot}
 use Rattle.netkat_parser.specs.Going.{Frame, Negated, Bracketed, depth_of, is_inside, is_based, Phase, Operand, Relation, Number, Behind, Reach, made, Leads, ComesIn, Comes}
 use Rattle.netkat_parser.specs.Showing.{IsOperand, AreChain}
-use Rattle.netkat_parser.specs.Views.{View, Shows, IsStage, AreLevels, Takes, EndsNot, StopsAt, TakesNumber, StopsAtRun, GoesOn, GivesWhole, MayStand, HasNoRun, Keeps, Reaches, Follows, Moves, MovesOn}
+use Rattle.netkat_parser.specs.Views.{View, Shows, IsStage, AreLevels, TakesSign, EndsNot, StopsAt, TakesNumber, StopsAtRun, GoesOn, GivesWhole, MayStand, HasNoRun, KeepsView, Reaches, FollowsNots, Moves, MovesOn}
 use Rattle.netkat_parser.proofs.Goes.{IsChain, leads-bad, at-semicolon, at-plus, at-close, at-stray, at-end, at-open, at-not, at-leaf, at-star, no-star}
 
 abbrev bad : TextFault → List ℕ → Got Term
@@ -73,7 +73,7 @@ levels-pop old new x l e f = ap reverse e ∙ reverse-append new (x ∷ []) ∙ 
 
 pub takes-atom : (v : View) (g : Sign) (pol : Pol) (p : Term) → g ≢ to_sign.End → v.stage ≡ stage.Operand → g ≢ to_sign.Not → g ≢ to_sign.Open
     → ((i : Bool) → v.inside ≡ i → IsOperand i pol p) → ((d : ℕ) (s : Spot) → IsLeaf d v.inside s g (Read p (step s)))
-    → Takes v g (record { named = v.named; stage = stage.Behind pol true; levels = v.levels; inside = v.inside; chain = v.chain })
+    → TakesSign v g (record { named = v.named; stage = stage.Behind pol true; levels = v.levels; inside = v.inside; chain = v.chain })
 takes-atom v g pol p ne e nn nb op lf = (
   ne,
   λ x h.
@@ -90,23 +90,23 @@ takes-atom v g pol p ne e nn nb op lf = (
 )
 
 pub takes-skip : (v : View) (pol : Pol) → v.stage ≡ stage.Operand → term_of pol ≡ Filter One
-    → Takes v to_sign.Skip (record { named = v.named; stage = stage.Behind pol true; levels = v.levels; inside = v.inside; chain = v.chain })
+    → TakesSign v to_sign.Skip (record { named = v.named; stage = stage.Behind pol true; levels = v.levels; inside = v.inside; chain = v.chain })
 takes-skip v pol e is = takes-atom v to_sign.Skip pol (Filter One) (λ z. cc) e (λ z. cc) (λ z. cc) (λ i k. filter-operand i pol One is) (λ d s. refl)
 
 pub takes-drop : (v : View) (pol : Pol) → v.stage ≡ stage.Operand → term_of pol ≡ Filter Zero
-    → Takes v to_sign.Drop (record { named = v.named; stage = stage.Behind pol true; levels = v.levels; inside = v.inside; chain = v.chain })
+    → TakesSign v to_sign.Drop (record { named = v.named; stage = stage.Behind pol true; levels = v.levels; inside = v.inside; chain = v.chain })
 takes-drop v pol e is = takes-atom v to_sign.Drop pol (Filter Zero) (λ z. cc) e (λ z. cc) (λ z. cc) (λ i k. filter-operand i pol Zero is) (λ d s. refl)
 
 dup-leaf : (d : ℕ) (i : Bool) (s : Spot) → i ≡ false → IsLeaf d i s to_sign.Dup (Read Dup (step s))
 dup-leaf d i s e = subst (λ k. IsLeaf d k s to_sign.Dup (Read Dup (step s))) (sym e) refl
 
 pub takes-dup : (v : View) (pol : Pol) → v.stage ≡ stage.Operand → v.inside ≡ false → term_of pol ≡ Dup
-    → Takes v to_sign.Dup (record { named = v.named; stage = stage.Behind pol true; levels = v.levels; inside = v.inside; chain = v.chain })
+    → TakesSign v to_sign.Dup (record { named = v.named; stage = stage.Behind pol true; levels = v.levels; inside = v.inside; chain = v.chain })
 takes-dup v pol e outside is =
     takes-atom v to_sign.Dup pol Dup (λ z. cc) e (λ z. cc) (λ z. cc) (λ i k. outside-operand i v.inside pol Dup outside k is) (λ d s. dup-leaf d v.inside s outside)
 
 pub takes-name : (v : View) (f : Field) → v.stage ≡ stage.Operand
-    → Takes v (to_sign.Name f) (record { named = v.named; stage = stage.Relation f; levels = v.levels; inside = v.inside; chain = v.chain })
+    → TakesSign v (to_sign.Name f) (record { named = v.named; stage = stage.Relation f; levels = v.levels; inside = v.inside; chain = v.chain })
 takes-name v f e = (
   λ z. cc,
   λ x h.
@@ -175,7 +175,7 @@ stops-dup v e inside = λ x h text e' r.
     (leads-bad x.frames x.summands x.factors fault.NotPredicate text))
 
 pub takes-open : (v : View) (none : Chain) → v.stage ≡ stage.Operand → length v.levels < 200 → AreChain v.inside none [] []
-    → Takes v to_sign.Open (record { named = v.named; stage = v.stage; levels = level.Bracket v.chain ∷ v.levels; inside = v.inside; chain = none })
+    → TakesSign v to_sign.Open (record { named = v.named; stage = v.stage; levels = level.Bracket v.chain ∷ v.levels; inside = v.inside; chain = none })
 takes-open v none e lt empty = (
   λ z. cc,
   λ x h.
@@ -188,7 +188,7 @@ takes-open v none e lt empty = (
 )
 
 pub takes-not : (v : View) → v.stage ≡ stage.Operand → length v.levels < 200
-    → Takes v to_sign.Not (record { named = v.named; stage = v.stage; levels = level.Not v.inside ∷ v.levels; inside = true; chain = v.chain })
+    → TakesSign v to_sign.Not (record { named = v.named; stage = v.stage; levels = level.Not v.inside ∷ v.levels; inside = true; chain = v.chain })
 takes-not v e lt = (
   λ z. cc,
   λ x h.
@@ -207,7 +207,7 @@ may true = tt
 may false = tt
 
 pub takes-equals : (v : View) (f : Field) → v.stage ≡ stage.Relation f
-    → Takes v to_sign.Equals (record { named = v.named; stage = stage.Number f operator.Test; levels = v.levels; inside = v.inside; chain = v.chain })
+    → TakesSign v to_sign.Equals (record { named = v.named; stage = stage.Number f operator.Test; levels = v.levels; inside = v.inside; chain = v.chain })
 takes-equals v f e = (
   λ z. cc,
   λ x h. (
@@ -221,7 +221,7 @@ takes-equals v f e = (
 )
 
 pub takes-becomes : (v : View) (f : Field) → v.stage ≡ stage.Relation f → v.inside ≡ false
-    → Takes v to_sign.Becomes (record { named = v.named; stage = stage.Number f operator.Assign; levels = v.levels; inside = v.inside; chain = v.chain })
+    → TakesSign v to_sign.Becomes (record { named = v.named; stage = stage.Number f operator.Assign; levels = v.levels; inside = v.inside; chain = v.chain })
 takes-becomes v f e outside = (
   λ z. cc,
   λ x h.
@@ -311,7 +311,7 @@ past-star p false fs ss qs s o ne h = h
 
 pub takes-semicolon : (v : View) (pol : Pol) (atom : Bool) (new : Chain) → v.stage ≡ stage.Behind pol atom → GoesOn v.levels to_sign.Semicolon
     → ((i : Bool) (ss qs : List Term) (p : Term) → AreChain i v.chain ss qs → IsOperand i pol p → AreChain i new ss (qs ++ p ∷ []))
-    → Takes v to_sign.Semicolon (record { named = v.named; stage = stage.Operand; levels = v.levels; inside = v.inside; chain = new })
+    → TakesSign v to_sign.Semicolon (record { named = v.named; stage = stage.Operand; levels = v.levels; inside = v.inside; chain = new })
 takes-semicolon v pol atom new e goes grows = (
   λ z. cc,
   λ x h.
@@ -329,7 +329,7 @@ takes-semicolon v pol atom new e goes grows = (
 
 pub takes-plus : (v : View) (pol : Pol) (atom : Bool) (new : Chain) → v.stage ≡ stage.Behind pol atom → GoesOn v.levels to_sign.Plus
     → ((i : Bool) (ss qs : List Term) (p : Term) → AreChain i v.chain ss qs → IsOperand i pol p → AreChain i new (ss ++ seq_of (qs ++ p ∷ []) ∷ []) [])
-    → Takes v to_sign.Plus (record { named = v.named; stage = stage.Operand; levels = v.levels; inside = v.inside; chain = new })
+    → TakesSign v to_sign.Plus (record { named = v.named; stage = stage.Operand; levels = v.levels; inside = v.inside; chain = new })
 takes-plus v pol atom new e goes grows = (
   λ z. cc,
   λ x h.
@@ -381,7 +381,7 @@ module _ (v : View) (pol closed : Pol) (atom : Bool) (outer : Chain) (ls : List 
 
 pub takes-close : (v : View) (pol closed : Pol) (atom : Bool) (outer : Chain) (ls : List Level) → v.stage ≡ stage.Behind pol atom → v.levels ≡ level.Bracket outer ∷ ls
     → ((i : Bool) (ss qs : List Term) (p : Term) → AreChain i v.chain ss qs → IsOperand i pol p → IsOperand i closed (sum_of (ss ++ seq_of (qs ++ p ∷ []) ∷ [])))
-    → Takes v to_sign.Close (record { named = v.named; stage = stage.Behind closed true; levels = ls; inside = v.inside; chain = outer })
+    → TakesSign v to_sign.Close (record { named = v.named; stage = stage.Behind closed true; levels = ls; inside = v.inside; chain = outer })
 takes-close v pol closed atom outer ls e l grows = (
   λ z. cc,
   λ x h.
@@ -424,7 +424,7 @@ ends-not v pol neg atom was ls g e l makes star = (
 )
 
 pub takes-star : (v : View) (pol star : Pol) → v.stage ≡ stage.Behind pol true → v.inside ≡ false → ((p : Term) → term_of pol ≡ p → term_of star ≡ to.Star p)
-    → Takes v to_sign.Star (record { named = v.named; stage = stage.Behind star false; levels = v.levels; inside = v.inside; chain = v.chain })
+    → TakesSign v to_sign.Star (record { named = v.named; stage = stage.Behind star false; levels = v.levels; inside = v.inside; chain = v.chain })
 takes-star v pol star e outside makes = (
   λ z. cc,
   λ x h.
@@ -558,10 +558,10 @@ module _ (v : View) (pol whole : Pol) (atom : Bool)
 
 -- ---- signs behind nots that end
 
-pub follows-none : (v : View) (g : Sign) → Follows v g v
+pub follows-none : (v : View) (g : Sign) → FollowsNots v g v
 follows-none v g = (λ text r. r, λ x h. (x, h, λ text o e k. k))
 
-pub follows-not : (old mid new : View) (g : Sign) → Follows old g mid → EndsNot mid g new → Follows old g new
+pub follows-not : (old mid new : View) (g : Sign) → FollowsNots old g mid → EndsNot mid g new → FollowsNots old g new
 follows-not old mid new g m k = (
   λ text r. k.1 text (m.0 text r),
   λ x h.
@@ -570,12 +570,12 @@ follows-not old mid new g m k = (
       (z.0, z.1, λ text o e q. y.2 text o e (z.2 text o e q)),
 )
 
-reaches-keeps : (old mid new : View) (g : Sign) → Follows old g mid → Keeps mid new → Reaches old g new
+reaches-keeps : (old mid new : View) (g : Sign) → FollowsNots old g mid → KeepsView mid new → Reaches old g new
 reaches-keeps old mid new g m k = λ x h.
     let y = m.1 x h in
     (y.0, k.0 y.0 y.1, λ text o e q. y.2 text o e (subst (λ n. Comes y.0 (spot text n) o) k.1 q))
 
-pub takes-behind : (old mid new : View) (g : Sign) → Follows old g mid → Takes mid g new → Takes old g new
+pub takes-behind : (old mid new : View) (g : Sign) → FollowsNots old g mid → TakesSign mid g new → TakesSign old g new
 takes-behind old mid new g m k = (
   k.0,
   λ x h.
@@ -584,12 +584,12 @@ takes-behind old mid new g m k = (
       (z.0, z.1, λ text o e q. y.2 text o e (z.2 text o e q)),
 )
 
-pub stops-behind : (old mid : View) (g : Sign) (f : TextFault) → Follows old g mid → StopsAt mid g f → StopsAt old g f
+pub stops-behind : (old mid : View) (g : Sign) (f : TextFault) → FollowsNots old g mid → StopsAt mid g f → StopsAt old g f
 stops-behind old mid g f m k = λ x h text e r.
     let y = m.1 x h in
     y.2 text (bad f text) e (k y.0 y.1 text e (m.0 text r))
 
-pub passes-on : (U : Type 0) (old mid new : View) (g : Sign) (h : Halt) → Follows old g mid → Moves mid g new (Err h) → MovesOn {U = U} old g new (Err h)
+pub passes-on : (U : Type 0) (old mid new : View) (g : Sign) (h : Halt) → FollowsNots old g mid → Moves mid g new (Err h) → MovesOn {U = U} old g new (Err h)
 passes-on U old mid new g (halt.Fault f) m k = stops-behind old mid g f m k
 passes-on U old mid new g halt.Done m k = (k.0, reaches-keeps old mid new g m k.1, k.2)
 passes-on U old mid new g halt.Memory m k = reaches-keeps old mid new g m k

@@ -13,7 +13,7 @@ use Rattle.netkat_parser.specs.Signs.{past, run, past_run}
 use Rattle.netkat_parser.specs.Signs as signs
 use Rattle.netkat_parser.specs.Numbers.{number}
 use Rattle.netkat_parser.specs.Printed.{IsRoomy, guard_named, guards_named, term_named, terms_named}
-use Rattle.netkat_parser.specs.Grammar.{Spot, Got, Read, Bad, step, gathered, negated, taken, all_taken, sum_of, seq_of, closed, closed_by, starred, starred_by, ended, ended_by, start, is_named, is_too_many, with_pair, protos, literal, IsNumber, IsRun, IsPair, IsLeaf, IsPolicy, AreSummands, IsSequence, AreFactors, IsUnary, IsAtom, IsText, sum, last_summand, more_summands, sequence, last_factor, more_factors, negation, post, bracket, leaf}
+use Rattle.netkat_parser.specs.Grammar.{Spot, Got, Read, Bad, step, gathered, negated, taken, all_taken, sum_of, seq_of, closed, closed_by, starred, starred_by, ended, ended_by, first_spot, is_named, is_too_many, with_pair, protos, literal, IsNumber, IsRun, IsPair, IsLeaf, IsPolicy, AreSummands, IsSequence, AreFactors, IsUnary, IsAtom, IsText, sum, last_summand, more_summands, sequence, last_factor, more_factors, negation, post, bracket, leaf}
 use Rattle.netkat_parser.proofs.Rooms.{protos-push}
 
 abbrev Names : Type 0
@@ -237,6 +237,6 @@ nothing-roomy = record { pairs = omega arith; protos = omega arith }
 
 pub text-few : (text : List ℕ) (p : Term) → IsText text p → IsRoomy (term_named p [])
 text-few text p h =
-    let whole = policy-named 0 false (start text) h.1.0 h.1.1 in
-    let all : Named false (start text) (Read p h.0) = along false (start text) (Read p h.0) _ h.1.2 (ended-named (start text) h.1.0 whole) in
+    let whole = policy-named 0 false (first_spot text) h.1.0 h.1.1 in
+    let all : Named false (first_spot text) (Read p h.0) = along false (first_spot text) (Read p h.0) _ h.1.2 (ended-named (first_spot text) h.1.0 whole) in
     subst IsRoomy all.names (all.roomy nothing-roomy)

@@ -24,7 +24,7 @@ use Rattle.netkat_parser.specs.Grammar.{is_too_many, with_pair}
 use Rattle.netkat_parser.specs.Answers.{spot}
 use Rattle.netkat_parser.specs.Going.{made, Comes}
 use Rattle.netkat_parser.specs.Cuts.{relation, IsSignAt, IsRunAt, IsSignAhead, IsValueAhead, IsPairAt}
-use Rattle.netkat_parser.specs.Views.{View, Takes, TakesPair, GoesOn}
+use Rattle.netkat_parser.specs.Views.{View, TakesSign, TakesPair, GoesOn}
 use Rattle.netkat_parser.specs.Standing.{Leaves, Steps}
 use Rattle.netkat_parser.proofs.Cutting.{ahead-append, at-sign}
 use Rattle.netkat_parser.proofs.Moving.{takes-name, takes-equals, takes-becomes, takes-number, levels-pop}
@@ -86,7 +86,7 @@ module _ (text : List ℕ) (f : Field) (op : Operator) (l : Lit) (n m k : ℕ) (
 -- ---- the pair is taken
 
 takes-relation : (v : View) (f : Field) (op : Operator) → v.stage ≡ stage.Relation f → (op ≡ operator.Assign → v.inside ≡ false)
-    → Takes v (relation op) (record { named = v.named; stage = stage.Number f op; levels = v.levels; inside = v.inside; chain = v.chain })
+    → TakesSign v (relation op) (record { named = v.named; stage = stage.Number f op; levels = v.levels; inside = v.inside; chain = v.chain })
 takes-relation v f operator.Test e out = takes-equals v f e
 takes-relation v f operator.Assign e out = takes-becomes v f e (out refl)
 
@@ -108,7 +108,7 @@ takes-pair v op l room after pol e out fits is_room is_after is_pol = λ bs w x 
     let u = takes-number related f f n op bs room after pol refl (some-run f n bs w) l.literal (refl, w) fits is_room is_after is_pol z.0 z.1 in
     (u.0, u.1, λ text o is_name is_relation is_run k. y.2 text o is_name (z.2 (past text) o is_relation (u.2 (past (past text)) o is_run k)))
 
-pub ahead-takes : (old new : View) (text : List ℕ) (end : Bool) (g : Sign) (n : ℕ) → IsSignAhead text g n → Takes old g new → Leaves old false text end new false (drop n text)
+pub ahead-takes : (old new : View) (text : List ℕ) (end : Bool) (g : Sign) (n : ℕ) → IsSignAhead text g n → TakesSign old g new → Leaves old false text end new false (drop n text)
 ahead-takes old new text end g n s t = λ x h.
     let y = t.1 x h in
     (y.0, y.1, λ rest o e k. y.2 (ahead false (text ++ rest)) o (s.is_sign rest) (subst (λ w. Comes y.0 (spot w new.named) o) (sym (s.goes_on rest)) k))

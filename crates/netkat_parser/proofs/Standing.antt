@@ -11,7 +11,7 @@ use Rattle.netkat_parser.specs.declared.fault.ParseError.TheVariants as error
 use Rattle.netkat_parser.proofs.Unique.{text-one}
 use Rattle.netkat_parser.proofs.Outcomes.{no-both, fault-one}
 use Rattle.netkat_parser.specs.declared.sign.Sign.TheVariants.{End}
-use Rattle.netkat_parser.specs.declared.fault.Place.{Place}
+use Rattle.netkat_parser.specs.declared.fault.Position.{Position}
 use Rattle.netkat_parser.specs.declared.fault.ParseFault.{ParseFault}
 use Rattle.netkat_parser.specs.declared.reading.Halt.TheVariants as halt
 use Rattle.netkat_parser.specs.declared.advance.Pause.{Pause}
@@ -23,18 +23,18 @@ use Rattle.netkat_parser.specs.Places.{next_place, place_behind, HasFault}
 use Rattle.netkat_parser.specs.Answers.{spot}
 use Rattle.netkat_parser.specs.Pairs.{pairs}
 use Rattle.netkat_parser.specs.Going.{Comes}
-use Rattle.netkat_parser.specs.Views.{View, view_of, first_reach, GivesWhole, Keeps}
+use Rattle.netkat_parser.specs.Views.{View, view_of, first_reach, GivesWhole, KeepsView}
 use Rattle.netkat_parser.specs.Standing.{Leaves, Advances}
 use Rattle.netkat_parser.specs.Readers.{IsOpen, IsFaulty, StandsBy, StandsFor, EndsBy, EndsFor, AnswersFor, Settles}
 use Rattle.netkat_parser.proofs.Goes.{policy-of}
 
 -- ---- places
 
-next-near : (c : Bool) (p : Place) → let q : Place = cond c (record { line = p.line + 1; column = 1 }) (record { line = p.line; column = p.column + 1 }) in (q.line ≤ p.line + 1) × (q.column ≤ p.column + 1)
+next-near : (c : Bool) (p : Position) → let q : Position = cond c (record { line = p.line + 1; column = 1 }) (record { line = p.line; column = p.column + 1 }) in (q.line ≤ p.line + 1) × (q.column ≤ p.column + 1)
 next-near true p = (omega arith, omega arith)
 next-near false p = (omega arith, omega arith)
 
-pub place-near : (p : Place) (front : List ℕ) → ((place_behind p front).line ≤ p.line + length front) × ((place_behind p front).column ≤ p.column + length front)
+pub place-near : (p : Position) (front : List ℕ) → ((place_behind p front).line ≤ p.line + length front) × ((place_behind p front).column ≤ p.column + length front)
 place-near p [] = (omega arith, omega arith)
 place-near p (b ∷ bs) =
     let h = place-near (next_place p b) bs in
@@ -42,18 +42,18 @@ place-near p (b ∷ bs) =
     (omega (arith, h.0, k.0), omega (arith, h.1, k.1))
 
 -- what was read is no longer pending
-pub place-bound : (p q : Place) (xs ys zs : List ℕ) (n room most : ℕ) → q ≡ place_behind p (take n ys) → xs ≡ drop n ys → zs ≡ ys
+pub place-bound : (p q : Position) (xs ys zs : List ℕ) (n room most : ℕ) → q ≡ place_behind p (take n ys) → xs ≡ drop n ys → zs ≡ ys
     → p.line + length zs + room < most → p.column + length zs + room < most → (q.line + length xs + room < most) × (q.column + length xs + room < most)
 place-bound p q xs ys zs n room most e f g l k =
     let near = place-near p (take n ys) in
     let parts = ap length (sym (take-append-drop n ys)) ∙ length-append (take n ys) (drop n ys) in
     let whole = ap length g in
     let rest = ap length f in
-    let line = ap (λ (z : Place). z.line) e in
-    let column = ap (λ (z : Place). z.column) e in
+    let line = ap (λ (z : Position). z.line) e in
+    let column = ap (λ (z : Position). z.column) e in
     (omega (arith, near.0, parts, whole, rest, line, l), omega (arith, near.1, parts, whole, rest, column, k))
 
-pub place-append : (p : Place) (xs ys : List ℕ) → place_behind p (xs ++ ys) ≡ place_behind (place_behind p xs) ys
+pub place-append : (p : Position) (xs ys : List ℕ) → place_behind p (xs ++ ys) ≡ place_behind (place_behind p xs) ys
 place-append p [] ys = refl
 place-append p (x ∷ xs) ys = place-append (next_place p x) xs ys
 
@@ -64,7 +64,7 @@ first-goes rest o h = (h.2.0, policy-of 0 false (spot (ahead false rest) []) h.0
 
 -- ---- behind what is whole
 
-module _ (end : Bool) (begin : Place) (text : List ℕ) (old new : PolicyReader) (n : ℕ)
+module _ (end : Bool) (begin : Position) (text : List ℕ) (old new : PolicyReader) (n : ℕ)
     (p : new.pending.items ≡ drop n old.pending.items) (q : new.place ≡ place_behind old.place (take n old.pending.items)) (h : IsOpen end begin old text) where
   whole-parts : text ≡ (h.front ++ take n old.pending.items) ++ drop n old.pending.items
   whole-parts =
@@ -102,7 +102,7 @@ module _ (end : Bool) (begin : Place) (text : List ℕ) (old new : PolicyReader)
 
 -- ---- at the end of the text
 
-pub ends-open : (begin : Place) (r : PolicyReader) (text : List ℕ) → IsOpen false begin r text → IsOpen true begin r text
+pub ends-open : (begin : Position) (r : PolicyReader) (text : List ℕ) → IsOpen false begin r text → IsOpen true begin r text
 ends-open begin r text h = record {
   front = h.front;
   parts = h.parts;
@@ -112,26 +112,26 @@ ends-open begin r text h = record {
   goes = λ rest o e k. h.goes rest o (λ z. absurd (let clash = z in cc)) k;
 }
 
-ends-by : (g : Option ParseFault) (begin : Place) (r : PolicyReader) (text : List ℕ) → StandsBy g begin r text → EndsBy g begin r text
+ends-by : (g : Option ParseFault) (begin : Position) (r : PolicyReader) (text : List ℕ) → StandsBy g begin r text → EndsBy g begin r text
 ends-by None begin r text h = ends-open begin r text h
 ends-by (Some f) begin r text h = h
 
-pub ends-of : (begin : Place) (r : PolicyReader) (text : List ℕ) → StandsFor begin r text → EndsFor begin r text
+pub ends-of : (begin : Position) (r : PolicyReader) (text : List ℕ) → StandsFor begin r text → EndsFor begin r text
 ends-of begin r text h = ends-by r.fault begin r text h
 
-pub open-of : (begin : Place) (r : PolicyReader) (text : List ℕ) → r.fault ≡ None → EndsFor begin r text → IsOpen true begin r text
+pub open-of : (begin : Position) (r : PolicyReader) (text : List ℕ) → r.fault ≡ None → EndsFor begin r text → IsOpen true begin r text
 open-of begin r text e h = subst (λ f. EndsBy f begin r text) e h
 
-pub faulty-of : (begin : Place) (r : PolicyReader) (text : List ℕ) (f : ParseFault) → r.fault ≡ Some f → EndsFor begin r text → HasFault begin text f
+pub faulty-of : (begin : Position) (r : PolicyReader) (text : List ℕ) (f : ParseFault) → r.fault ≡ Some f → EndsFor begin r text → HasFault begin text f
 faulty-of begin r text f e h =
     let k : IsFaulty begin text f = subst (λ g. EndsBy g begin r text) e h in
     subst (λ t. HasFault begin t f) (append-nil text) (k [])
 
 -- room that is made changes nothing of it
-pub given-still : (old new : View) (p : Term) → Keeps old new → GivesWhole new p → GivesWhole old p
+pub given-still : (old new : View) (p : Term) → KeepsView old new → GivesWhole new p → GivesWhole old p
 given-still old new p k g = λ x s t e. subst (λ ns. Comes x (spot t ns) (Read p (spot t ns))) k.1 (g x (k.0 x s) t e)
 
-pub whole-text : (begin : Place) (r : PolicyReader) (text : List ℕ) (p : Term) → Settles true begin text r (pause.Halt halt.Done) → GivesWhole (view_of r.reading) p → IsText text p
+pub whole-text : (begin : Position) (r : PolicyReader) (text : List ℕ) (p : Term) → Settles true begin text r (pause.Halt halt.Done) → GivesWhole (view_of r.reading) p → IsText text p
 whole-text begin r text p s g =
     let t = ahead r.in_comment (r.pending.items ++ []) in
     let o = Read p (spot t (pairs r.reading.named)) in (
@@ -139,7 +139,7 @@ whole-text begin r text p s g =
       subst (λ x. IsReading x o) (append-nil text) (s.0.goes [] o (λ z. refl) (g s.0.reach s.0.shows t (s.1 [] (λ z. refl)))),
     )
 
-pub whole-fault : (begin : Place) (r : PolicyReader) (text : List ℕ) (f : TextFault) → Settles true begin text r (pause.Halt (halt.Fault f))
+pub whole-fault : (begin : Position) (r : PolicyReader) (text : List ℕ) (f : TextFault) → Settles true begin text r (pause.Halt (halt.Fault f))
     → HasFault begin text (record { fault = f; line = r.place.line; column = r.place.column })
 whole-fault begin r text f s =
     let g : ParseFault = record { fault = f; line = r.place.line; column = r.place.column } in
@@ -147,7 +147,7 @@ whole-fault begin r text f s =
 
 -- ---- answers
 
-module _ (begin : Place) (text : List ℕ) where
+module _ (begin : Position) (text : List ℕ) where
   pub answers-read : (r : Result Pol ParseError) → AnswersFor begin text r → IfOk r (λ pol. IsText text (term_of pol))
   answers-read (Ok pol) h = h
   answers-read (Err e) h = tt

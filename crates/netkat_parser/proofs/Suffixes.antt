@@ -10,7 +10,7 @@ use Rattle.netkat_parser.specs.declared.sign.Sign.TheVariants.{Dup, Name, Equals
 use Rattle.netkat_parser.specs.Signs.{sign, past, run, past_run, ahead, is_blank, sign_len, is_run_byte}
 use Rattle.std.specs.List.{prefix_len}
 use Rattle.netkat_parser.specs.Numbers.{number}
-use Rattle.netkat_parser.specs.Grammar.{Spot, Got, Read, Bad, step, gathered, negated, sum_of, seq_of, closed, closed_by, starred, starred_by, ended, ended_by, start, literal, is_too_many, IsNumber, IsRun, IsPair, IsLeaf, IsPolicy, AreSummands, IsSequence, AreFactors, IsUnary, IsAtom, IsReading, sum, last_summand, more_summands, sequence, last_factor, more_factors, negation, post, bracket, leaf}
+use Rattle.netkat_parser.specs.Grammar.{Spot, Got, Read, Bad, step, gathered, negated, sum_of, seq_of, closed, closed_by, starred, starred_by, ended, ended_by, first_spot, literal, is_too_many, IsNumber, IsRun, IsPair, IsLeaf, IsPolicy, AreSummands, IsSequence, AreFactors, IsUnary, IsAtom, IsReading, sum, last_summand, more_summands, sequence, last_factor, more_factors, negation, post, bracket, leaf}
 
 pub record IsEnd (end text : List ℕ) : Type 0 where
   pub front : List ℕ
@@ -156,7 +156,7 @@ mutual
 pub ends-reading : (text : List ℕ) (o : Got Term) → IsReading text o → Ends text o
 ends-reading text o h =
     ends-by text o _ h.2
-    (ends-ended text h.0 (ends-trans (ahead false text) text h.0 (end-ahead false text) (ends-policy 0 false (start text) h.0 h.1)))
+    (ends-ended text h.0 (ends-trans (ahead false text) text h.0 (end-ahead false text) (ends-policy 0 false (first_spot text) h.0 h.1)))
 
 -- the text from a fault on is the end of the text
 pub end-fault : (text : List ℕ) (f : fault_type.TextFault) (at : List ℕ) → IsReading text (Bad f at) → IsEnd at text

@@ -10,7 +10,7 @@ use Rattle.nk_values.specs.declared.field.Field.TheVariants.{EthTyp}
 use Rattle.nk_values.specs.declared.fault.TextFault.TheVariants as fault
 use Rattle.nk_values.specs.Ranges.{IsValue, IsLiteralOf, least_value, least_literal, greatest}
 use Rattle.nk_syntax.specs.Terms.{Term, Filter, Test, Assign, One, Zero, Dup}
-use Rattle.netkat_parser.specs.declared.fault.Place.{Place}
+use Rattle.netkat_parser.specs.declared.fault.Position.{Position}
 use Rattle.netkat_parser.specs.declared.fault.ParseFault.{ParseFault}
 use Rattle.netkat_parser.specs.declared.sign.Sign.{Sign}
 use Rattle.netkat_parser.specs.declared.sign.Sign.TheVariants as to_sign
@@ -18,7 +18,7 @@ use Rattle.netkat_parser.specs.declared.sign.Sign.TheVariants.{Name, Equals, Bec
 use Rattle.netkat_parser.specs.Signs.{sign, sign_len, is_becomes, past, run, ahead}
 use Rattle.netkat_parser.specs.Numbers.{number}
 use Rattle.netkat_parser.specs.Places.{HasFault, place_behind}
-use Rattle.netkat_parser.specs.Grammar.{Spot, Got, Read, Bad, step, strays, literal, gathered, negated, sum_of, seq_of, closed, starred, ended, start, Opens, IsNumber, IsRun, IsPair, IsLeaf, IsPolicy, AreSummands, IsSequence, AreFactors, IsUnary, IsAtom, IsReading, IsText, sum, last_summand, more_summands, sequence, last_factor, more_factors, negation, post, bracket, leaf}
+use Rattle.netkat_parser.specs.Grammar.{Spot, Got, Read, Bad, step, strays, literal, gathered, negated, sum_of, seq_of, closed, starred, ended, first_spot, Opens, IsNumber, IsRun, IsPair, IsLeaf, IsPolicy, AreSummands, IsSequence, AreFactors, IsUnary, IsAtom, IsReading, IsText, sum, last_summand, more_summands, sequence, last_factor, more_factors, negation, post, bracket, leaf}
 use Rattle.netkat_parser.proofs.Suffixes.{end-ahead, end-short, end-fault, ends-sequence, ends-unary}
 
 abbrev Has : {A : Type 0} → (Got A → Type 0) → Type 0
@@ -219,12 +219,12 @@ all-below (suc n) = more (all-below n)
 -- what reading a text gives
 pub reading-some : (text : List ℕ) → (o : Got Term) × IsReading text o
 reading-some text =
-    let s = start text in
+    let s = first_spot text in
     let w = (all-below (suc (length s.text))).policy 0 false s (omega arith) in
     (ended w.0, (w.0, w.1, refl))
 
 -- a policy, or a fault at its place
-pub read-or-fault : (begin : Place) (text : List ℕ) → ((p : Term) × IsText text p) ⊎ ((f : ParseFault) × HasFault begin text f)
+pub read-or-fault : (begin : Position) (text : List ℕ) → ((p : Term) × IsText text p) ⊎ ((f : ParseFault) × HasFault begin text f)
 read-or-fault begin text = let r = reading-some text in split r.0 r.1
   where
     split : (o : Got Term) → IsReading text o → ((p : Term) × IsText text p) ⊎ ((f : ParseFault) × HasFault begin text f)

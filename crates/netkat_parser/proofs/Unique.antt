@@ -7,7 +7,7 @@ use Rattle.netkat_parser.specs.declared.sign.Sign.{Sign}
 use Rattle.netkat_parser.specs.declared.sign.Sign.TheVariants.{Name, Equals, Becomes, Plus, Semicolon}
 use Rattle.netkat_parser.specs.Signs.{sign, past, run}
 use Rattle.netkat_parser.specs.Numbers.{number}
-use Rattle.netkat_parser.specs.Grammar.{Spot, Got, Read, step, gathered, negated, sum_of, seq_of, closed, starred, ended, start, Where, EndsBefore, IsNumber, IsRun, IsPair, IsLeaf, IsPolicy, AreSummands, IsSequence, AreFactors, IsUnary, IsAtom, IsReading, IsText, sum, last_summand, more_summands, sequence, last_factor, more_factors, negation, post, bracket, leaf}
+use Rattle.netkat_parser.specs.Grammar.{Spot, Got, Read, step, gathered, negated, sum_of, seq_of, closed, starred, ended, first_spot, Where, EndsBefore, IsNumber, IsRun, IsPair, IsLeaf, IsPolicy, AreSummands, IsSequence, AreFactors, IsUnary, IsAtom, IsReading, IsText, sum, last_summand, more_summands, sequence, last_factor, more_factors, negation, post, bracket, leaf}
 
 where-one : (P : Type 0) (o o' x y : Got Term) → Where P (o ≡ x) (o ≡ y) → Where P (o' ≡ x) (o' ≡ y) → o ≡ o'
 where-one P o o' x y (inl h) (inl h') = h.1 ∙ sym h'.1
@@ -87,7 +87,7 @@ mutual
 
 -- what reading a text gives
 pub reading-one : (text : List ℕ) (o o' : Got Term) → IsReading text o → IsReading text o' → o ≡ o'
-reading-one text o o' h h' = h.2 ∙ ap ended (policy-one 0 false (start text) h.0 h'.0 h.1 h'.1) ∙ sym h'.2
+reading-one text o o' h h' = h.2 ∙ ap ended (policy-one 0 false (first_spot text) h.0 h'.0 h.1 h'.1) ∙ sym h'.2
 
 pub text-one : (text : List ℕ) (p q : Term) → IsText text p → IsText text q → p ≡ q
 text-one text p q h k = heads p q h.0 k.0 (reading-one text (Read p h.0) (Read q k.0) h.1 k.1)

@@ -31,8 +31,8 @@ pub data Got (A : Type 0) : Type 0 where
   Bad : TextFault → List ℕ → Got A
 
 -- at the first sign of a text
-abbrev pub start : List ℕ → Spot
-start text = record { text = ahead false text; named = [] }
+abbrev pub first_spot : List ℕ → Spot
+first_spot text = record { text = ahead false text; named = [] }
 
 -- behind the next sign
 abbrev pub step : Spot → Spot
@@ -207,7 +207,7 @@ mutual
 
 -- what reading a whole text gives
 abbrev pub IsReading : List ℕ → Got Term → Type 0
-IsReading text o = (whole : Got Term) × IsPolicy 0 false (start text) whole × (o ≡ ended whole)
+IsReading text o = (whole : Got Term) × IsPolicy 0 false (first_spot text) whole × (o ≡ ended whole)
 
 -- the text is read as the policy
 abbrev pub IsText : List ℕ → Term → Type 0

@@ -4,7 +4,7 @@ use Rattle.nk_syntax.specs.Terms.{Term}
 use Rattle.nk_syntax.specs.Prints.{term_text}
 use Rattle.netkat_parser.specs.Grammar.{Got, IsReading, IsText}
 use Rattle.netkat_parser.specs.Places.{HasFault}
-use Rattle.netkat_parser.specs.declared.fault.Place.{Place}
+use Rattle.netkat_parser.specs.declared.fault.Position.{Position}
 use Rattle.netkat_parser.specs.declared.fault.ParseFault.{ParseFault}
 use Rattle.netkat_parser.specs.Printed.{HasLiterals, IsPrintable, IsRoomy, term_named}
 use Rattle.nk_syntax.specs.declared.pol.Pol.{Pol}
@@ -16,7 +16,7 @@ OneOutcome = (text : List ℕ) (o o' : Got Term) → IsReading text o → IsRead
 
 -- Each text has an outcome: it is read as a policy, or has a first fault.
 abbrev pub SomeOutcome : Type 0
-SomeOutcome = (begin : Place) (text : List ℕ) → ((p : Term) × IsText text p) ⊎ ((f : ParseFault) × HasFault begin text f)
+SomeOutcome = (begin : Position) (text : List ℕ) → ((p : Term) × IsText text p) ⊎ ((f : ParseFault) × HasFault begin text f)
 
 -- A text has at most one reading as a policy.
 abbrev pub OneReading : Type 0

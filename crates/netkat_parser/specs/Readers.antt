@@ -4,7 +4,7 @@ use Rattle.nk_syntax.specs.Terms.{Term}
 use Rattle.nk_syntax.specs.Views.{term_of}
 use Rattle.nk_syntax.specs.declared.pol.Pol.{Pol}
 use Rattle.netkat_parser.specs.declared.sign.Sign.TheVariants.{End}
-use Rattle.netkat_parser.specs.declared.fault.Place.{Place}
+use Rattle.netkat_parser.specs.declared.fault.Position.{Position}
 use Rattle.netkat_parser.specs.declared.fault.ParseFault.{ParseFault}
 use Rattle.netkat_parser.specs.declared.fault.ParseError.{ParseError}
 use Rattle.netkat_parser.specs.declared.fault.ParseError.TheVariants as error
@@ -23,7 +23,7 @@ use Rattle.netkat_parser.specs.Views.{view_of, Shows}
 
 -- No fault was found in a text that began at a place: whatever may follow, what comes of it behind what is pending is what the
 -- grammar gives of the text with it. At the end nothing may follow.
-pub record IsOpen (end : Bool) (begin : Place) (r : PolicyReader) (text : List ℕ) : Type 0 where
+pub record IsOpen (end : Bool) (begin : Position) (r : PolicyReader) (text : List ℕ) : Type 0 where
   pub front : List ℕ
   pub parts : text ≡ front ++ r.pending.items
   pub place : place_behind begin front ≡ r.place
@@ -33,34 +33,34 @@ pub record IsOpen (end : Bool) (begin : Place) (r : PolicyReader) (text : List �
       → Comes reach (spot (ahead r.in_comment (r.pending.items ++ rest)) (pairs r.reading.named)) o → IsReading (text ++ rest) o
 
 -- the text has this first fault, whatever follows
-abbrev pub IsFaulty : Place → List ℕ → ParseFault → Type 0
+abbrev pub IsFaulty : Position → List ℕ → ParseFault → Type 0
 IsFaulty begin text f = (rest : List ℕ) → HasFault begin (text ++ rest) f
 
-abbrev pub StandsBy : Option ParseFault → Place → PolicyReader → List ℕ → Type 0
+abbrev pub StandsBy : Option ParseFault → Position → PolicyReader → List ℕ → Type 0
 StandsBy None begin r text = IsOpen false begin r text
 StandsBy (Some f) begin r text = IsFaulty begin text f
 
 -- The reader stands for a text that began at a place: whatever follows, going on over it gives what the grammar gives of the text
 -- followed by it.
-abbrev pub StandsFor : Place → PolicyReader → List ℕ → Type 0
+abbrev pub StandsFor : Position → PolicyReader → List ℕ → Type 0
 StandsFor begin r text = StandsBy r.fault begin r text
 
-abbrev pub EndsBy : Option ParseFault → Place → PolicyReader → List ℕ → Type 0
+abbrev pub EndsBy : Option ParseFault → Position → PolicyReader → List ℕ → Type 0
 EndsBy None begin r text = IsOpen true begin r text
 EndsBy (Some f) begin r text = IsFaulty begin text f
 
 -- The same of a reader of a whole text, behind which nothing follows.
-abbrev pub EndsFor : Place → PolicyReader → List ℕ → Type 0
+abbrev pub EndsFor : Position → PolicyReader → List ℕ → Type 0
 EndsFor begin r text = EndsBy r.fault begin r text
 
 -- the answer is the grammar's, unless memory ran out
-abbrev pub AnswersFor : Place → List ℕ → Result Pol ParseError → Type 0
+abbrev pub AnswersFor : Position → List ℕ → Result Pol ParseError → Type 0
 AnswersFor begin text (Ok pol) = IsText text (term_of pol)
 AnswersFor begin text (Err (error.Fault f)) = HasFault begin text f
 AnswersFor begin text (Err error.Memory) = ⊤
 
 -- all that is whole of what is pending was read
-abbrev pub Settles : Bool → Place → List ℕ → PolicyReader → Pause → Type 0
+abbrev pub Settles : Bool → Position → List ℕ → PolicyReader → Pause → Type 0
 Settles end begin text r pause.Wait = IsOpen end begin r text
 Settles end begin text r (pause.Halt halt.Memory) = IsOpen end begin r text
 Settles end begin text r (pause.Halt halt.Done) = IsOpen end begin r text × ((rest : List ℕ) → EndsAt end rest → sign (ahead r.in_comment (r.pending.items ++ rest)) ≡ End)

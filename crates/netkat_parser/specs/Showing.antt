@@ -29,12 +29,12 @@ AreOperands true (Policies pols) ps = ⊥
 AreOperands true (Predicates preds) ps = map guard_of preds.items ≡ map taken ps
 
 -- there is room for one more
-abbrev pub HasRoom : Operands → Type 0
-HasRoom (Policies pols) = vec_len pols < vec_capacity pols
-HasRoom (Predicates preds) = vec_len preds < vec_capacity preds
+abbrev pub HasOperandRoom : Operands → Type 0
+HasOperandRoom (Policies pols) = vec_len pols < vec_capacity pols
+HasOperandRoom (Predicates preds) = vec_len preds < vec_capacity preds
 
 abbrev pub AreChain : Bool → Chain → List Term → List Term → Type 0
 AreChain i c ss qs = AreOperands i c.summands ss × AreOperands i c.factors qs
 
 abbrev pub HaveRoom : Chain → Type 0
-HaveRoom c = HasRoom c.summands × HasRoom c.factors
+HaveRoom c = HasOperandRoom c.summands × HasOperandRoom c.factors

@@ -9,8 +9,8 @@ use Rattle.netkat_parser.specs.declared.sign.Sign.{Sign}
 use Rattle.netkat_parser.specs.declared.sign.Sign.TheVariants.{Skip, Drop, Dup, Not, Name, Equals, Becomes, Plus, Semicolon, Star, Open, Close, End, Unlisted, Strange}
 
 -- calls at bytes answer as the test does
-abbrev pub Tells : (ℕ → Bool → Type 0) → (ℕ → Bool) → Type 0
-Tells post test = (b : ℕ) (x : Bool) → b < 256 → post b x → x ≡ test b
+abbrev pub DecidesAs : (ℕ → Bool → Type 0) → (ℕ → Bool) → Type 0
+DecidesAs post test = (b : ℕ) (x : Bool) → b < 256 → post b x → x ≡ test b
 
 -- a blank, a tab, CR or LF
 abbrev pub is_blank : ℕ → Bool

@@ -79,8 +79,8 @@ abbrev pub first_reach : Reach
 first_reach = record { phase = Operand; frames = []; summands = []; factors = [] }
 
 -- the sign was taken, which is not the end: what comes behind it comes from it on
-abbrev pub Takes : View → Sign → View → Type 0
-Takes old g new = (g ≢ End) × ((x : Reach) → Shows old x → (y : Reach) × Shows new y
+abbrev pub TakesSign : View → Sign → View → Type 0
+TakesSign old g new = (g ≢ End) × ((x : Reach) → Shows old x → (y : Reach) × Shows new y
     × ((text : List ℕ) (o : Got Term) → sign text ≡ g → Comes y (spot (past text) new.named) o → Comes x (spot text old.named) o))
 
 -- where a value is to come, no byte of one stands
@@ -98,8 +98,8 @@ abbrev pub StopsAt : View → Sign → TextFault → Type 0
 StopsAt old g f = (x : Reach) → Shows old x → (text : List ℕ) → sign text ≡ g → HasNoRun old.stage text → Comes x (spot text old.named) (Bad f text)
 
 -- the state is as it was
-abbrev pub Keeps : View → View → Type 0
-Keeps old new = ((x : Reach) → Shows old x → Shows new x) × (new.named ≡ old.named)
+abbrev pub KeepsView : View → View → Type 0
+KeepsView old new = ((x : Reach) → Shows old x → Shows new x) × (new.named ≡ old.named)
 
 -- the whole text was read, of which this is the last operand
 abbrev pub IsWhole : View → Type 0
@@ -111,15 +111,15 @@ Reaches old g new = (x : Reach) → Shows old x → (y : Reach) × Shows new y
     × ((text : List ℕ) (o : Got Term) → sign text ≡ g → Comes y (spot text new.named) o → Comes x (spot text old.named) o)
 
 -- at most nots ended in front of the sign
-abbrev pub Follows : View → Sign → View → Type 0
-Follows old g new = ((text : List ℕ) → HasNoRun old.stage text → HasNoRun new.stage text) × Reaches old g new
+abbrev pub FollowsNots : View → Sign → View → Type 0
+FollowsNots old g new = ((text : List ℕ) → HasNoRun old.stage text → HasNoRun new.stage text) × Reaches old g new
 
 abbrev pub Moves : View → Sign → View → Result Bool Halt → Type 0
-Moves old g new (Ok true) = Takes old g new
+Moves old g new (Ok true) = TakesSign old g new
 Moves old g new (Ok false) = EndsNot old g new
 Moves old g new (Err (halt.Fault f)) = StopsAt old g f
-Moves old g new (Err halt.Done) = (g ≡ End) × Keeps old new × IsWhole new
-Moves old g new (Err halt.Memory) = Keeps old new
+Moves old g new (Err halt.Done) = (g ≡ End) × KeepsView old new × IsWhole new
+Moves old g new (Err halt.Memory) = KeepsView old new
 
 -- the value was taken, which these bytes write
 abbrev pub TakesNumber : View → List ℕ → View → Type 0
@@ -133,7 +133,7 @@ abbrev pub TakesRun : {U : Type 0} → View → List ℕ → View → Result U H
 TakesRun old bs new (Ok u) = TakesNumber old bs new
 TakesRun old bs new (Err (halt.Fault f)) = StopsAtRun old bs f
 TakesRun old bs new (Err halt.Done) = ⊥
-TakesRun old bs new (Err halt.Memory) = Keeps old new
+TakesRun old bs new (Err halt.Memory) = KeepsView old new
 
 -- the pair of field and value was taken
 abbrev pub TakesPair : View → Operator → Lit → View → Type 0
@@ -153,7 +153,7 @@ GivesWhole v p = (x : Reach) → Shows v x → (text : List ℕ) → sign text �
 
 -- the sign was taken behind all nots that end in front of it
 abbrev pub MovesOn : {U : Type 0} → View → Sign → View → Result U Halt → Type 0
-MovesOn old g new (Ok u) = Takes old g new
+MovesOn old g new (Ok u) = TakesSign old g new
 MovesOn old g new (Err (halt.Fault f)) = StopsAt old g f
 MovesOn old g new (Err halt.Done) = (g ≡ End) × Reaches old g new × IsWhole new
 MovesOn old g new (Err halt.Memory) = Reaches old g new

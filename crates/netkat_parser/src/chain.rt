@@ -3,7 +3,7 @@ ghost use Rattle.std.specs.Prelude.{◌≡◌, ◌<◌, ◌++◌, ℕ, Bool, Lis
 ghost use Rattle.nk_syntax.specs.Terms.{Guard, Term, Filter};
 ghost use Rattle.nk_syntax.specs.Views.{term_of, guard_of};
 ghost use Rattle.netkat_parser.specs.Grammar.{sum_of, seq_of};
-ghost use Rattle.netkat_parser.specs.Showing.{or_of, and_of, AreOperands, IsOperand, HasRoom, AreChain, HaveRoom};
+ghost use Rattle.netkat_parser.specs.Showing.{or_of, and_of, AreOperands, IsOperand, HasOperandRoom, AreChain, HaveRoom};
 
 use nk_syntax::{Pol, Pols, Pred, Preds};
 use std::alloc::{AllocError, Global};
@@ -50,7 +50,7 @@ impl Operands {
 
     // Makes room for one more.
     fn reserve(&mut self) -> Result<(), AllocError>
-        ensures room { OnOk result (HasRoom self.new) }
+        ensures room { OnOk result (HasOperandRoom self.new) }
         ensures same { (i : Bool) (ps : List Term) → AreOperands i self.old ps → AreOperands i self.new ps }
     {
         match self {
@@ -62,7 +62,7 @@ impl Operands {
     // One more, for which there is room.
     #[inline(always)]
     fn push(&mut self, pol: Pol)
-        requires { HasRoom self.old }
+        requires { HasOperandRoom self.old }
         ensures { (i : Bool) (ps : List Term) (p : Term) → AreOperands i self.old ps → IsOperand i pol p → AreOperands i self.new (ps ++ p ∷ []) }
     {
         match self {

@@ -4,7 +4,7 @@ use std::alloc::AllocError;
 
 /// A place in a text: its line and column, both from 1, the column in bytes.
 #[derive(Clone, Copy, Debug, PartialEq, Eq)]
-pub struct Place {
+pub struct Position {
     pub line: u64,
     pub column: u64,
 }

@@ -1,7 +1,7 @@
 // What a reader of a policy's text keeps.
 ghost use Rattle.std.specs.Prelude.{◌<◌, ◌+◌, ◌^◌, length};
 
-use crate::fault::{ParseFault, Place};
+use crate::fault::{ParseFault, Position};
 use crate::reading::Reading;
 use bytes::BytesMut;
 
@@ -12,7 +12,7 @@ pub struct PolicyReader {
     pub(crate) reading: Reading,
     pub(crate) in_comment: bool,
     pub(crate) pending: BytesMut,
-    pub(crate) place: Place,
+    pub(crate) place: Position,
     pub(crate) room: u64,
     pub(crate) look: usize,
     pub(crate) fault: Option<ParseFault>,

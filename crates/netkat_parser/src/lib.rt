@@ -19,7 +19,7 @@ mod stage;
 mod stray;
 mod token;
 
-pub use fault::{ParseError, ParseFault, Place};
+pub use fault::{ParseError, ParseFault, Position};
 pub use feeding::PolicyReader;
 pub use laws::{names_few, one_reading, read_back};
 pub use number::{GREATEST, cut, has_form, number_of, numeral};

@@ -7,7 +7,7 @@ ghost use Rattle.netkat_parser.specs.Places.{place_behind, HasFault, text_start}
 ghost use Rattle.netkat_parser.specs.declared.fault.ParseError.{ParseError as Error};
 ghost use Rattle.netkat_parser.specs.declared.fault.ParseFault.{ParseFault as Located};
 
-use crate::fault::{ParseError, Place};
+use crate::fault::{ParseError, Position};
 use crate::feeding::PolicyReader;
 use crate::token::behind;
 use memchr::memchr;
@@ -37,12 +37,12 @@ pub fn parse_policy(alloc: Global, text: &[u8]) -> Result<Pol, ParseError>
     ensures each_read { (p : Term) → IsText text.now p → MatchResult result (λ pol. term_of pol ≡ p) (λ e. e ≡ ParseError.Memory) }
     ensures each_fault { (f : Located) → HasFault text_start text.now f → IsErrAnd result (λ e. (e ≡ ParseError.Fault f) ⊎ (e ≡ ParseError.Memory)) }
 {
-    parse_policy_at(alloc, text, Place { line: 1, column: 1 })
+    parse_policy_at(alloc, text, Position { line: 1, column: 1 })
 }
 
 /// The same of a text that begins at a place of a larger one. A fault at the end of the text has
 /// the place after its last byte.
-pub fn parse_policy_at(alloc: Global, text: &[u8], begin: Place) -> Result<Pol, ParseError>
+pub fn parse_policy_at(alloc: Global, text: &[u8], begin: Position) -> Result<Pol, ParseError>
     requires lines { begin.line + length text.now < 2 ^ 64 }
     requires columns { begin.column + length text.now < 2 ^ 64 }
     ensures read { IfOk result (λ pol. IsText text.now (term_of pol)) }
@@ -56,7 +56,7 @@ pub fn parse_policy_at(alloc: Global, text: &[u8], begin: Place) -> Result<Pol, 
 }
 
 /// The place after a text that begins at a place.
-pub fn place_behind(begin: Place, front: &[u8]) -> Place
+pub fn place_behind(begin: Position, front: &[u8]) -> Position
     requires lines { begin.line + length front.now < 2 ^ 64 }
     requires columns { begin.column + length front.now < 2 ^ 64 }
     ensures { result ≡ place_behind begin front.now }
@@ -64,13 +64,13 @@ pub fn place_behind(begin: Place, front: &[u8]) -> Place
     let mut place = begin;
     let mut rest = front;
     while let Some(at) = memchr(b'\n', rest) {
-        place = Place {
+        place = Position {
             line: place.line + 1,
             column: 1,
         };
         rest = behind(rest, at + 1);
     }
-    Place {
+    Position {
         line: place.line,
         column: place.column + rest.len() as u64,
     }

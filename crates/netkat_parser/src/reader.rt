@@ -3,13 +3,13 @@ ghost use Rattle.std.specs.Prelude.{◌≡◌, ◌++◌, ℕ, false, List, [], O
 ghost use Rattle.netkat_parser.specs.Places.{text_start};
 ghost use Rattle.netkat_parser.specs.Readers.{IsOpen, StandsFor, EndsFor, AnswersFor, Settles};
 ghost use Rattle.netkat_parser.specs.Views.{view_of, IsWhole};
-ghost use Rattle.netkat_parser.specs.declared.fault.Place.{Place as Start};
+ghost use Rattle.netkat_parser.specs.declared.fault.Position.{Position as Start};
 ghost use Rattle.netkat_parser.specs.declared.fault.ParseError.{ParseError as Error};
 ghost use Rattle.netkat_parser.specs.declared.advance.Pause.TheVariants as pause;
 ghost use Rattle.netkat_parser.specs.declared.reading.Halt.TheVariants as halt;
 
 use crate::advance::{Pause, advance};
-use crate::fault::{ParseError, ParseFault, Place};
+use crate::fault::{ParseError, ParseFault, Position};
 use crate::feeding::PolicyReader;
 use crate::parse::place_behind;
 use crate::reading::{Halt, Reading};
@@ -24,11 +24,11 @@ impl PolicyReader {
     pub fn new(alloc: Global) -> PolicyReader
         ensures { StandsFor text_start result [] }
     {
-        PolicyReader::starting(alloc, Place { line: 1, column: 1 })
+        PolicyReader::starting(alloc, Position { line: 1, column: 1 })
     }
 
     /// The same of a text that begins at a place of a larger one.
-    pub fn starting(alloc: Global, begin: Place) -> PolicyReader
+    pub fn starting(alloc: Global, begin: Position) -> PolicyReader
         ensures { StandsFor begin result [] }
     {
         PolicyReader {
@@ -146,7 +146,7 @@ impl PolicyReader {
 }
 
 // The fault at a place.
-fn fault_at(fault: TextFault, place: Place) -> ParseFault
+fn fault_at(fault: TextFault, place: Position) -> ParseFault
     ensures { result ≡ record { fault = fault; line = place.line; column = place.column } }
 {
     ParseFault {

@@ -3,7 +3,7 @@ ghost use Rattle.std.specs.Prelude.{◌≡◌, ◌<◌, ◌≢◌, Bool, true, f
 ghost use Rattle.netkat_parser.specs.declared.sign.Sign.TheVariants as to_sign;
 ghost use Rattle.netkat_parser.specs.declared.stage.Stage.TheVariants as stage;
 ghost use Rattle.netkat_parser.specs.declared.reading.Level.TheVariants as level;
-ghost use Rattle.netkat_parser.specs.Views.{view_of, at, within, first_reach, Shows, Moves, MovesOn, GoesOn, TakesRun, IsWhole, GivesWhole, Keeps};
+ghost use Rattle.netkat_parser.specs.Views.{view_of, at, within, first_reach, Shows, Moves, MovesOn, GoesOn, TakesRun, IsWhole, GivesWhole, KeepsView};
 ghost use Rattle.netkat_parser.specs.Showing.{HaveRoom};
 ghost use Rattle.nk_syntax.specs.Views.{term_of};
 ghost use Rattle.netkat_parser.specs.declared.sign.Sign.{Sign};
@@ -343,7 +343,7 @@ impl Reading {
     /// Makes room for the policy. The state stays.
     pub fn reserve(&mut self) -> Result<(), AllocError>
         ensures room { OnOk result (HaveRoom self.new.chain) }
-        ensures keeps { Keeps (view_of self.old) (view_of self.new) }
+        ensures keeps { KeepsView (view_of self.old) (view_of self.new) }
         ensures whole { IsWhole (view_of self.old) → IsWhole (view_of self.new) }
     {
         self.chain.reserve()

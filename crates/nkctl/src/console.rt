@@ -4,7 +4,7 @@ use report_text::put_phase;
 use std::alloc::{AllocError, Global};
 use std::env::Env;
 use std::fmt::Write;
-use worker_desk::{Gate, Place};
+use worker_desk::{Gate, Moment};
 
 // Whether the environment asks for it, by `NKCTL_PROGRESS=1`.
 pub(crate) fn is_wanted<R: Env>(rt: &R) -> bool {
@@ -27,7 +27,7 @@ impl<R> Console<R> {
 }
 
 impl<R: Drop> Gate for Console<R> {
-    fn pass(&self, _worker: usize, _place: Place) {}
+    fn pass(&self, _worker: usize, _place: Moment) {}
 
     fn is_open(&self) -> bool {
         true

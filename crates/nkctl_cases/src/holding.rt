@@ -2,20 +2,20 @@
 use controller_program::Onlooker;
 use std::sync::{Mutex, Wait};
 use std::thread;
-use worker_desk::{Gate, Kind, Place};
+use worker_desk::{Gate, Moment, StepKind};
 
 /// How often a worker passed a step of a kind.
 #[derive(Clone, Copy, Debug, PartialEq, Eq)]
 pub struct Times {
     pub worker: usize,
-    pub kind: Kind,
+    pub kind: StepKind,
     pub times: u32,
 }
 
 /// Who is held, where, once it has made some steps, and until another has made some.
 #[derive(Clone, Copy, Debug, PartialEq, Eq)]
 pub struct Hold {
-    pub before: Kind,
+    pub before: StepKind,
     pub after: Times,
     pub until: Times,
 }
@@ -59,9 +59,9 @@ impl<R: Wait> Holding<R> {
     }
 
     // Whether this is where the worker is to be held, for the first time.
-    fn begins(&self, hold: Hold, worker: usize, place: Place) -> bool {
+    fn begins(&self, hold: Hold, worker: usize, place: Moment) -> bool {
         let mut seen = self.seen.lock(&self.rt);
-        let here = worker == hold.after.worker && place == Place::Before(hold.before);
+        let here = worker == hold.after.worker && place == Moment::Before(hold.before);
         if !here || seen.held || seen.own < hold.after.times {
             return false;
         }
@@ -70,13 +70,13 @@ impl<R: Wait> Holding<R> {
     }
 
     // Counts a step.
-    fn count(&self, hold: Hold, worker: usize, place: Place) {
+    fn count(&self, hold: Hold, worker: usize, place: Moment) {
         let mut seen = self.seen.lock(&self.rt);
         let Hold { after, until, .. } = hold;
-        if worker == after.worker && place == Place::After(after.kind) {
+        if worker == after.worker && place == Moment::After(after.kind) {
             seen.own = seen.own.saturating_add(1);
         }
-        if worker == until.worker && place == Place::After(until.kind) {
+        if worker == until.worker && place == Moment::After(until.kind) {
             seen.other = seen.other.saturating_add(1);
         }
     }
@@ -85,7 +85,7 @@ impl<R: Wait> Holding<R> {
 impl<R: Wait + Drop> Onlooker for Holding<R> {}
 
 impl<R: Wait + Drop> Gate for Holding<R> {
-    fn pass(&self, worker: usize, place: Place) {
+    fn pass(&self, worker: usize, place: Moment) {
         let Some(hold) = self.hold else {
             return;
         };

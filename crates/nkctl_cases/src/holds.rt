@@ -9,9 +9,9 @@ use std::alloc::{AllocError, Global};
 use std::sync::{Arc, Wait};
 use std::thread::Threads;
 use std::time::Clock;
-use worker_desk::Kind;
+use worker_desk::StepKind;
 
-fn times(worker: usize, kind: Kind, times: u32) -> Times {
+fn times(worker: usize, kind: StepKind, times: u32) -> Times {
     Times {
         worker,
         kind,
@@ -23,34 +23,34 @@ fn times(worker: usize, kind: Kind, times: u32) -> Times {
 fn six() -> [Hold; 6] {
     [
         Hold {
-            before: Kind::Reply,
-            after: times(3, Kind::Reply, 0),
-            until: times(2, Kind::Heard, 3),
+            before: StepKind::Reply,
+            after: times(3, StepKind::Reply, 0),
+            until: times(2, StepKind::Heard, 3),
         },
         Hold {
-            before: Kind::Reply,
-            after: times(4, Kind::Reply, 0),
-            until: times(1, Kind::Heard, 3),
+            before: StepKind::Reply,
+            after: times(4, StepKind::Reply, 0),
+            until: times(1, StepKind::Heard, 3),
         },
         Hold {
-            before: Kind::Take,
-            after: times(3, Kind::Take, 2),
-            until: times(1, Kind::Send, 4),
+            before: StepKind::Take,
+            after: times(3, StepKind::Take, 2),
+            until: times(1, StepKind::Send, 4),
         },
         Hold {
-            before: Kind::Send,
-            after: times(1, Kind::Send, 3),
-            until: times(3, Kind::Take, 3),
+            before: StepKind::Send,
+            after: times(1, StepKind::Send, 3),
+            until: times(3, StepKind::Take, 3),
         },
         Hold {
-            before: Kind::Arrive,
-            after: times(5, Kind::Arrive, 0),
-            until: times(1, Kind::Heard, 3),
+            before: StepKind::Arrive,
+            after: times(5, StepKind::Arrive, 0),
+            until: times(1, StepKind::Heard, 3),
         },
         Hold {
-            before: Kind::Heard,
-            after: times(1, Kind::Heard, 0),
-            until: times(5, Kind::Arrive, 1),
+            before: StepKind::Heard,
+            after: times(1, StepKind::Heard, 0),
+            until: times(5, StepKind::Arrive, 1),
         },
     ]
 }

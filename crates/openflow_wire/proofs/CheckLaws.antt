@@ -3,7 +3,7 @@ use Rattle.std.proofs.Common.{◌≡◌, ℕ, ◌≤◌, List, length, drop, Som
 use Rattle.std.specs.Prelude.{OnOk, IfErr}
 use Rattle.std.proofs.lemmas.Bool.{le-ltb}
 use Rattle.nk_values.specs.declared.action.Action.{Action}
-use Rattle.nk_values.specs.declared.row.Command.{Command}
+use Rattle.nk_values.specs.declared.row.FlowCommand.{FlowCommand}
 use Rattle.nk_values.specs.declared.row.FlowMod.{FlowMod}
 use Rattle.openflow_wire.specs.declared.message.Message.{Message}
 use Rattle.openflow_wire.specs.declared.fault.WireFault.{WireFault}
@@ -23,10 +23,10 @@ made-checked {A} {B} {C} (Ok u) (Err e) f h = absurd cc
 made-checked {A} {B} {C} (Err d) (Ok x) f h = absurd cc
 made-checked {A} {B} {C} (Err d) (Err e) f h = let is = err-is {A = A} e d h in rw is refl
 
-abbrev change_with : List ℕ → Command → List Action → FlowMod
+abbrev change_with : List ℕ → FlowCommand → List Action → FlowMod
 change_with body c actions = record { command = c; pattern = match_at body; priority = number_at 2 54 body; out_port = number_at 2 60 body; actions = actions }
 
-pub change-checked : {C : Type 0} (body : List ℕ) (c : Command) (r : Result C WireFault) → 64 ≤ length body → command_of (number_at 2 48 body) ≡ Some c
+pub change-checked : {C : Type 0} (body : List ℕ) (c : FlowCommand) (r : Result C WireFault) → 64 ≤ length body → command_of (number_at 2 48 body) ≡ Some c
     → ChecksAs r (actions_of (drop 64 body)) → ChecksAs r (change_of body)
 unfolding change_of
 change-checked body c r long e h = let l = le-ltb (length body) 64 long in rw (l, e) (made-checked r (actions_of (drop 64 body)) (change_with body c) h)

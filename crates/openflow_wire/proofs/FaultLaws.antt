@@ -3,7 +3,7 @@ use Rattle.std.proofs.Common.{◌≡◌, ◌≢◌, ℕ, ◌-◌, ◌%◌, ◌<�
 use Rattle.std.specs.Prelude.{◌&&◌, not, IfOk, IfErr, is_ok}
 use Rattle.std.proofs.lemmas.Bool.{le-ltb, lt-ltb, lt-leb, le-leb, eq-eqb, cases_lt}
 use Rattle.nk_values.specs.declared.row.FlowMod.{FlowMod}
-use Rattle.nk_values.specs.declared.row.Command.{Command}
+use Rattle.nk_values.specs.declared.row.FlowCommand.{FlowCommand}
 use Rattle.openflow_wire.specs.declared.message.Message.{Message}
 use Rattle.openflow_wire.specs.declared.message.Message.TheVariants as to
 use Rattle.openflow_wire.specs.declared.fault.WireFault.{WireFault}
@@ -45,7 +45,7 @@ data ChangeWay (body : List ℕ) : Type 0 where
   no_actions : 64 ≤ length body → HasCommand body → ¬ HasActions body → change_of body ≡ Err BadAction → ChangeWay body
   right : (change : FlowMod) → 64 ≤ length body → HasCommand body → HasActions body → change_of body ≡ Ok change → ChangeWay body
 
-with-command : (body : List ℕ) (c : Command) → 64 ≤ length body → command_of (number_at 2 48 body) ≡ Some c → ChangeWay body
+with-command : (body : List ℕ) (c : FlowCommand) → 64 ≤ length body → command_of (number_at 2 48 body) ≡ Some c → ChangeWay body
 unfolding change_of
 with-command body c long e =
     let l = le-ltb (length body) 64 long in

@@ -4,12 +4,12 @@ ghost use Rattle.std.specs.List.{AllByRecursion};
 ghost use Rattle.nk_values.specs.Fitting.{action_len, actions_len, FitsAction, FitsChange};
 ghost use Rattle.openflow_wire.specs.ActionLists.{action_kind};
 ghost use Rattle.openflow_wire.specs.Spelling.{command_number};
-ghost use Rattle.openflow_wire.specs.Writing.{Puts, action_bytes, actions_bytes, change_bytes, operand};
+ghost use Rattle.openflow_wire.specs.Writing.{PutsBytes, action_bytes, actions_bytes, change_bytes, operand};
 
 use crate::action_lists::action_len;
 use crate::writing::{put_half, put_long, put_match, put_station, put_word};
 use bytes::BytesMut;
-use nk_values::{Action, Command, FlowMod};
+use nk_values::{Action, FlowCommand, FlowMod};
 
 // The buffer number that says that no packet is buffered (5.3.3).
 const NO_BUFFER: u32 = 0xffff_ffff;
@@ -57,7 +57,7 @@ fn put_operand(out: &mut BytesMut, action: Action)
 fn put_action(out: &mut BytesMut, action: Action)
     requires room { action_len action ≤ out.old.spare }
     requires fits { FitsAction action }
-    ensures { Puts out.old out.new (action_len action) (action_bytes action) }
+    ensures { PutsBytes out.old out.new (action_len action) (action_bytes action) }
 {
     put_half(out, action_kind(action));
     put_half(out, action_len(action) as u16);
@@ -67,7 +67,7 @@ fn put_action(out: &mut BytesMut, action: Action)
 pub fn put_actions(out: &mut BytesMut, actions: &[Action])
     requires room { actions_len actions.now ≤ out.old.spare }
     requires fits { AllByRecursion FitsAction actions.now }
-    ensures { Puts out.old out.new (actions_len actions.now) (actions_bytes actions.now) }
+    ensures { PutsBytes out.old out.new (actions_len actions.now) (actions_bytes actions.now) }
 {
     for action in actions {
         put_action(out, *action);
@@ -75,15 +75,15 @@ pub fn put_actions(out: &mut BytesMut, actions: &[Action])
 }
 
 /// The number of a command.
-pub fn command_number(command: Command) -> u16
+pub fn command_number(command: FlowCommand) -> u16
     ensures { result ≡ command_number command }
 {
     match command {
-        Command::Add => 0,
-        Command::Modify => 1,
-        Command::ModifyStrict => 2,
-        Command::Delete => 3,
-        Command::DeleteStrict => 4,
+        FlowCommand::Add => 0,
+        FlowCommand::Modify => 1,
+        FlowCommand::ModifyStrict => 2,
+        FlowCommand::Delete => 3,
+        FlowCommand::DeleteStrict => 4,
     }
 }
 
@@ -92,7 +92,7 @@ pub fn command_number(command: Command) -> u16
 pub fn put_change(out: &mut BytesMut, change: &FlowMod)
     requires room { 64 + actions_len change.now.actions ≤ out.old.spare }
     requires fits { FitsChange change.now }
-    ensures { Puts out.old out.new (64 + actions_len change.now.actions) (change_bytes change.now) }
+    ensures { PutsBytes out.old out.new (64 + actions_len change.now.actions) (change_bytes change.now) }
 {
     put_match(out, &change.pattern);
     put_long(out, 0);

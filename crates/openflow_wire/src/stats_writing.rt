@@ -3,7 +3,7 @@ ghost use Rattle.std.specs.Prelude.{◌≡◌, ◌+◌, ◌<◌, ◌≤◌, ◌^
 ghost use Rattle.std.specs.List.{AllByRecursion};
 ghost use Rattle.nk_values.specs.Fitting.{FitsPattern};
 ghost use Rattle.openflow_wire.specs.FlowStats.{FitsEntry, entry_len, entries_len};
-ghost use Rattle.openflow_wire.specs.Writing.{Puts, entry_bytes, entry_head, entries_bytes, more_flag, request_bytes, reply_bytes};
+ghost use Rattle.openflow_wire.specs.Writing.{PutsBytes, entry_bytes, entry_head, entries_bytes, more_flag, request_bytes, reply_bytes};
 
 use crate::flow_stats::FlowStats;
 use crate::mod_writing::{actions_wire_len, put_actions};
@@ -37,7 +37,7 @@ pub fn entries_wire_len(entries: &[FlowStats]) -> usize
 pub fn put_request(out: &mut BytesMut, pattern: &Pattern, table: u8, out_port: u16)
     requires room { 48 ≤ out.old.spare }
     requires fits { FitsPattern pattern.now }
-    ensures { Puts out.old out.new 48 (request_bytes pattern.now table out_port) }
+    ensures { PutsBytes out.old out.new 48 (request_bytes pattern.now table out_port) }
 {
     put_half(out, 1);
     put_half(out, 0);
@@ -53,7 +53,7 @@ pub fn put_reply(out: &mut BytesMut, more: bool, entries: &[FlowStats])
     requires room { 4 + entries_len entries.now ≤ out.old.spare }
     requires fits { AllByRecursion FitsEntry entries.now }
     requires few { entries_len entries.now < 2 ^ 16 }
-    ensures { Puts out.old out.new (4 + entries_len entries.now) (reply_bytes more entries.now) }
+    ensures { PutsBytes out.old out.new (4 + entries_len entries.now) (reply_bytes more entries.now) }
 {
     put_half(out, 1);
     put_half(out, more_flag(more));
@@ -70,7 +70,7 @@ fn put_entries(out: &mut BytesMut, entries: &[FlowStats])
     requires room { entries_len entries.now ≤ out.old.spare }
     requires fits { AllByRecursion FitsEntry entries.now }
     requires few { entries_len entries.now < 2 ^ 16 }
-    ensures { Puts out.old out.new (entries_len entries.now) (entries_bytes entries.now) }
+    ensures { PutsBytes out.old out.new (entries_len entries.now) (entries_bytes entries.now) }
 {
     for entry in entries {
         put_entry(out, entry);
@@ -82,7 +82,7 @@ fn put_entry(out: &mut BytesMut, entry: &FlowStats)
     requires room { entry_len entry.now ≤ out.old.spare }
     requires fits { FitsEntry entry.now }
     requires few { entry_len entry.now < 2 ^ 16 }
-    ensures { Puts out.old out.new (entry_len entry.now) (entry_bytes entry.now) }
+    ensures { PutsBytes out.old out.new (entry_len entry.now) (entry_bytes entry.now) }
 {
     put_entry_head(out, entry);
     put_actions(out, entry.row.actions.as_slice());
@@ -94,7 +94,7 @@ fn put_entry_head(out: &mut BytesMut, entry: &FlowStats)
     requires room { 88 ≤ out.old.spare }
     requires fits { FitsEntry entry.now }
     requires few { entry_len entry.now < 2 ^ 16 }
-    ensures { Puts out.old out.new 88 (entry_head entry.now) }
+    ensures { PutsBytes out.old out.new 88 (entry_head entry.now) }
 {
     put_half(out, entry_len(entry) as u16);
     put_byte(out, entry.table);

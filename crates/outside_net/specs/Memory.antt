@@ -51,7 +51,7 @@ abbrev pub SendIsToFail : {R : Type 0} → MemoryEnd R → Type 0
 SendIsToFail e = CallIsListed e ⊎ Spoils (end_effect e) ⊎ (end_full e ≡ true)
 
 -- it has room to tell this number of bytes more that it sends or receives
-pub record HasRoom {R : Type 0} (e : MemoryEnd R) (bytes : ℕ) : Type 0 where
+pub record HasByteRoom {R : Type 0} (e : MemoryEnd R) (bytes : ℕ) : Type 0 where
   pub to_send : vec_len e.sent + bytes ≤ vec_capacity e.sent
   pub to_receive : vec_len e.received + bytes ≤ vec_capacity e.received
 
@@ -113,6 +113,6 @@ abbrev pub PairIsToFail : {R : Type 0} → MemoryNet R → Type 0
 PairIsToFail n = Contains (net_failing n) (next_count (net_pairs n))
 
 -- What an end received is told after that of earlier ends.
-abbrev pub Tells : Option (List (List ℕ)) → Option (List (List ℕ)) → List ℕ → Type 0
-Tells None now bytes = now ≡ None
-Tells (Some all) now bytes = now ≡ Some (all ++ bytes ∷ [])
+abbrev pub AppendsReceived : Option (List (List ℕ)) → Option (List (List ℕ)) → List ℕ → Type 0
+AppendsReceived None now bytes = now ≡ None
+AppendsReceived (Some all) now bytes = now ≡ Some (all ++ bytes ∷ [])

@@ -14,7 +14,7 @@ use Rattle.history_meaning.specs.Network.{Place}
 use Rattle.history_meaning.proofs.Runs.{from-filter}
 use Rattle.topology_model.specs.Layouts.{Layout, far_end, is_edge, wiring}
 use Rattle.topology_model.proofs.Ranges.{edges_apart}
-use Rattle.policy_rows.specs.Means.{Answers, incoming, standing, sent_packet}
+use Rattle.policy_rows.specs.Means.{AnswersPolicy, incoming, standing, sent_packet}
 use Rattle.packet_tracer.specs.declared.flight.Flight.{Flight}
 use Rattle.packet_tracer.specs.Hops.{ended, carried, arriving, next_flight, ends_of, flights_of}
 use Rattle.packet_tracer.specs.Laws.{ComesApart, HopsPart}
@@ -24,7 +24,7 @@ abbrev Differ : ℕ → Sent → Sent → Type 0
 Differ sw x y = sent_packet sw x ≢ sent_packet sw y
 
 -- a packet is sent with one tag
-same-sent : (t : Layout) (p : Term) (stamp : ℕ) (rows : List Row) (tag : Option ℕ) (pk : Packet) (n : Answers (wiring t) p stamp rows tag pk) (x y : Sent) →
+same-sent : (t : Layout) (p : Term) (stamp : ℕ) (rows : List Row) (tag : Option ℕ) (pk : Packet) (n : AnswersPolicy (wiring t) p stamp rows tag pk) (x y : Sent) →
     IsIn (acted n.row.actions (incoming pk tag)) x → IsIn (acted n.row.actions (incoming pk tag)) y → sent_packet pk.sw x ≡ sent_packet pk.sw y → x ≡ y
 same-sent t p stamp rows tag pk n x y k l e =
     let port : x.port ≡ y.port = ap (λ (q : Packet). q.pt) e in
@@ -42,7 +42,7 @@ same-sent t p stamp rows tag pk n x y k l e =
     ] in
     λ i. record { port = port i; header = header i; tag = same i }
 
-sent-differ : (t : Layout) (p : Term) (stamp : ℕ) (rows : List Row) (tag : Option ℕ) (pk : Packet) (n : Answers (wiring t) p stamp rows tag pk) → Pairs (Differ pk.sw) (acted n.row.actions (incoming pk tag))
+sent-differ : (t : Layout) (p : Term) (stamp : ℕ) (rows : List Row) (tag : Option ℕ) (pk : Packet) (n : AnswersPolicy (wiring t) p stamp rows tag pk) → Pairs (Differ pk.sw) (acted n.row.actions (incoming pk tag))
 sent-differ t p stamp rows tag pk n =
     pairs-weaker (λ x y. x ≢ y) (Differ pk.sw) (acted n.row.actions (incoming pk tag)) (λ x y k l d e. d (same-sent t p stamp rows tag pk n x y k l e)) n.once
 

@@ -6,7 +6,7 @@ use Rattle.nk_values.specs.declared.rows.Rows.{Rows}
 use Rattle.nk_values.specs.declared.sent.Sent.{Sent}
 use Rattle.nk_values.specs.Members.{IsIn, EachOnce, Pairs}
 use Rattle.nk_values.specs.Packets.{IsWellShaped}
-use Rattle.nk_values.specs.Trails.{Trail, start, IsPast, HaveParted}
+use Rattle.nk_values.specs.Trails.{Trail, one_packet, IsPast, HaveParted}
 use Rattle.nk_values.proofs.MemberLaws.{in-either, from-flat_map, in-map, from-map}
 use Rattle.nk_values.proofs.PairLaws.{pairs-append, pairs-of, pairs-weaker, pairs-map, pairs-flat_map}
 use Rattle.nk_values.proofs.PastLaws.{past-self, past-then, parted-none, parted-on}
@@ -90,7 +90,7 @@ module _ (rows : Rows) (p : Term) (t : Layout) (sound : IsSound t) (mean : RowsM
           (λ m.
               let r = from-map (λ (f : Flight). f.history) (flights_after rows.ports t (entered pk tag) hops) h m in
               let a = after-in rows p t sound mean (entered pk tag) hops r.0 placed r.1 in
-              to-open (wiring t) p pk tag hops h none edge (subst (λ (x : Trail). Reaches (wiring t) p (start pk) hops x) r.2 a.1)),
+              to-open (wiring t) p pk tag hops h none edge (subst (λ (x : Trail). Reaches (wiring t) p (one_packet pk) hops x) r.2 a.1)),
           (λ o.
               let r = in-after rows p t sound mean (entered pk tag) hops h placed (from-open (wiring t) p pk tag hops h o) in
               subst (λ (x : Trail). IsIn (map (λ (f : Flight). f.history) (flights_after rows.ports t (entered pk tag) hops)) x) r.2

@@ -3,7 +3,7 @@ use Rattle.std.proofs.Common.{◌≡◌, ℕ, zero, suc, inl, inr, refl, sym, su
 use Rattle.nk_values.specs.declared.packet.Packet.{Packet}
 use Rattle.nk_values.specs.Members.{IsIn}
 use Rattle.nk_values.specs.Packets.{IsWellShaped}
-use Rattle.nk_values.specs.Trails.{Trail, start, packets}
+use Rattle.nk_values.specs.Trails.{Trail, one_packet, packets}
 use Rattle.nk_syntax.specs.Terms.{Term}
 use Rattle.history_meaning.specs.Network.{Place}
 use Rattle.history_meaning.specs.Plain.{IsPlain}
@@ -35,7 +35,7 @@ carried-shaped pk h q b k l s = record {
 }
 
 module _ (t : Layout) (p : Term) (sound : IsSound t) (plain : IsPlain p) (pk : Packet) (start_shaped : IsWellShaped pk) where
-  reached-shaped : (k : ℕ) (h : Trail) → Reaches (wiring t) p (start pk) k h → Shaped pk h
+  reached-shaped : (k : ℕ) (h : Trail) → Reaches (wiring t) p (one_packet pk) k h → Shaped pk h
   reached-shaped zero h e = subst (λ (z : Trail). Shaped pk z) e (record { begins = refl; shaped = λ q m. elim m [ inl d ↦ subst (λ (z : Packet). IsWellShaped z) d start_shaped | inr n ↦ absurd n ] })
   reached-shaped (suc k) h (g, r, m) =
       let s = reached-shaped k g r in

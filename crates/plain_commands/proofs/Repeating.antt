@@ -1,13 +1,13 @@
 -- A schedule is carried out in one way.
 use Rattle.std.proofs.Common.{◌≡◌, ℕ, List, [], ◌∷◌, ◌++◌, drop, slice_get, Option, Some, refl, sym, ◌∙◌, ap, subst, is_some}
-use Rattle.document_text.specs.declared.document.Event.{Event as Order}
-use Rattle.document_text.specs.declared.document.Event.TheVariants as order
+use Rattle.document_text.specs.declared.document.ScheduleStep.{ScheduleStep}
+use Rattle.document_text.specs.declared.document.ScheduleStep.TheVariants as order
 use Rattle.document_text.specs.declared.document.PacketLine.{PacketLine}
 use Rattle.document_text.specs.declared.document.ScheduleLine.{ScheduleLine}
 use Rattle.report_text.specs.Causes.{control_text}
 use Rattle.report_text.specs.Reports.{IsReportText, IsWorldReport}
 use Rattle.report_text.proofs.OneText.{one-report}
-use Rattle.topology_model.specs.declared.line.Site.{Site}
+use Rattle.topology_model.specs.declared.line.DeclaredSwitch.{DeclaredSwitch}
 use Rattle.update_coordinator.specs.Controls.{Control}
 use Rattle.update_laws.proofs.Wiring.{some-is}
 use Rattle.world_core.specs.declared.event.Event.{Event}
@@ -28,7 +28,7 @@ one-same named w x es v fs u k a p q =
     let same : p.event ≡ q.event = some-is p.event q.event (sym p.is ∙ q.is) in
     record { events = p.all ∙ (λ i. same i ∷ []) ∙ sym q.all; worlds = stepped w x p.event q.event v u k a same p.step q.step }
 
-does-same : (sites : List Site) (packets : List PacketLine) (c : Order) (w x : WorldValue) (es : List Event) (v : WorldValue) (fs : List Event) (u : WorldValue) → IsKept w → AreAlike w x →
+does-same : (sites : List DeclaredSwitch) (packets : List PacketLine) (c : ScheduleStep) (w x : WorldValue) (es : List Event) (v : WorldValue) (fs : List Event) (u : WorldValue) → IsKept w → AreAlike w x →
     Does sites packets c w es v → Does sites packets c x fs u → IsSameRun es fs v u
 does-same sites packets order.Settle w x es v fs u k a p q = settled-same w x es v fs u k a p q
 does-same sites packets order.Flow w x es v fs u k a p q = flown-same w x es v fs u k a p q
@@ -45,7 +45,7 @@ does-same sites packets (order.Lost sw) w x es v fs u k a p q = one-same (event_
 does-same sites packets (order.Rejoin sw) w x es v fs u k a p q = one-same (event_of sites packets (order.Rejoin sw)) w x es v fs u k a p q
 does-same sites packets (order.Stuck n) w x es v fs u k a p q = one-same (event_of sites packets (order.Stuck n)) w x es v fs u k a p q
 
-carried-same : (sites : List Site) (packets : List PacketLine) (w x : WorldValue) (ls : List ScheduleLine) (es : List Event) (v : WorldValue) (fs : List Event) (u : WorldValue) → IsKept w → AreAlike w x →
+carried-same : (sites : List DeclaredSwitch) (packets : List PacketLine) (w x : WorldValue) (ls : List ScheduleLine) (es : List Event) (v : WorldValue) (fs : List Event) (u : WorldValue) → IsKept w → AreAlike w x →
     CarriedOut sites packets w ls es v → CarriedOut sites packets x ls fs u → IsSameRun es fs v u
 carried-same sites packets w x [] es v fs u k a p q =
     record { events = p.0 ∙ sym q.0; worlds = subst (λ (z : WorldValue). AreAlike z u) p.1 (subst (λ (z : WorldValue). AreAlike w z) q.1 a) }
@@ -57,7 +57,7 @@ carried-same sites packets w x (l ∷ ls) es v fs u k a p q =
 -- ---- where they stop
 
 -- the part before some lines
-record IsSplit (sites : List Site) (packets : List PacketLine) (w : WorldValue) (front : List ScheduleLine) (l : ScheduleLine) (v : WorldValue) : Type 0 where
+record IsSplit (sites : List DeclaredSwitch) (packets : List PacketLine) (w : WorldValue) (front : List ScheduleLine) (l : ScheduleLine) (v : WorldValue) : Type 0 where
   events : List Event
   world : WorldValue
   done : CarriedOut sites packets w front events world
@@ -65,7 +65,7 @@ record IsSplit (sites : List Site) (packets : List PacketLine) (w : WorldValue) 
   next : WorldValue
   does : Does sites packets l.event world more next
 
-split-carried : (sites : List Site) (packets : List PacketLine) (w : WorldValue) (front : List ScheduleLine) (l : ScheduleLine) (back : List ScheduleLine) (es : List Event) (v : WorldValue) →
+split-carried : (sites : List DeclaredSwitch) (packets : List PacketLine) (w : WorldValue) (front : List ScheduleLine) (l : ScheduleLine) (back : List ScheduleLine) (es : List Event) (v : WorldValue) →
     CarriedOut sites packets w (front ++ l ∷ back) es v → IsSplit sites packets w front l v
 split-carried sites packets w [] l back es v c = record { events = []; world = w; done = (refl, refl); more = c.0; next = c.1; does = c.3 }
 split-carried sites packets w (k ∷ ks) l back es v c =
@@ -75,7 +75,7 @@ split-carried sites packets w (k ∷ ks) l back es v c =
 no-one : (named : Option Event) (w x : WorldValue) (es : List Event) (v : WorldValue) → IsKept w → AreAlike w x → DoesOne named w es v → ((e : Event) → named ≡ Some e → ¬ (IsEnabled x e)) → ⊥
 no-one named w x es v k a d h = h d.event d.is (can-alike w x d.event a (step-enabled w d.event v k d.step))
 
-no-does : (sites : List Site) (packets : List PacketLine) (c : Order) (w x : WorldValue) (es : List Event) (v : WorldValue) → IsKept w → AreAlike w x → Does sites packets c w es v → CannotHappen sites packets c x → ⊥
+no-does : (sites : List DeclaredSwitch) (packets : List PacketLine) (c : ScheduleStep) (w x : WorldValue) (es : List Event) (v : WorldValue) → IsKept w → AreAlike w x → Does sites packets c w es v → CannotHappen sites packets c x → ⊥
 no-does sites packets order.Settle w x es v k a d h = h
 no-does sites packets order.Flow w x es v k a d h = h
 no-does sites packets order.Begin w x es v k a d h = no-one (event_of sites packets order.Begin) w x es v k a d h
@@ -92,7 +92,7 @@ no-does sites packets (order.Rejoin sw) w x es v k a d h = no-one (event_of site
 no-does sites packets (order.Stuck n) w x es v k a d h = no-one (event_of sites packets (order.Stuck n)) w x es v k a d h
 
 -- lines that are all carried out stop nowhere
-no-stop : (sites : List Site) (packets : List PacketLine) (w : WorldValue) (ls : List ScheduleLine) (es : List Event) (v : WorldValue) (line : ℕ) → IsKept w → CarriedOut sites packets w ls es v → StopsAt sites packets w ls line → ⊥
+no-stop : (sites : List DeclaredSwitch) (packets : List PacketLine) (w : WorldValue) (ls : List ScheduleLine) (es : List Event) (v : WorldValue) (line : ℕ) → IsKept w → CarriedOut sites packets w ls es v → StopsAt sites packets w ls line → ⊥
 no-stop sites packets w ls es v line k c s =
     let r = split-carried sites packets w s.before s.here s.behind es v (subst (λ (ks : List ScheduleLine). CarriedOut sites packets w ks es v) s.all c) in
     let same = carried-same sites packets w w s.before r.events r.world s.events s.world k (itself w k) r.done s.done in
@@ -118,7 +118,7 @@ parts [] x cs (z ∷ ys) y bs e = longer ys (ap (λ (l : ScheduleLine). l ∷ ys
 parts (z ∷ xs) x cs [] y bs e = shorter xs (ap (λ (l : ScheduleLine). l ∷ xs) (first-is z y (xs ++ x ∷ cs) bs e))
 parts (z ∷ xs) x cs (w ∷ ys) y bs e = behind z xs x w ys y (first-is z w (xs ++ x ∷ cs) (ys ++ y ∷ bs) e) (parts xs x cs ys y bs (ap (λ (ls : List ScheduleLine). drop 1 ls) e))
 
-one-stop : (sites : List Site) (packets : List PacketLine) (w : WorldValue) (ls : List ScheduleLine) (line other : ℕ) → IsKept w → StopsAt sites packets w ls line → StopsAt sites packets w ls other → line ≡ other
+one-stop : (sites : List DeclaredSwitch) (packets : List PacketLine) (w : WorldValue) (ls : List ScheduleLine) (line other : ℕ) → IsKept w → StopsAt sites packets w ls line → StopsAt sites packets w ls other → line ≡ other
 one-stop sites packets w ls line other k s t = by (parts s.before s.here s.behind t.before t.here t.behind (sym s.all ∙ t.all))
   where
     by : Parts s.before s.here t.before t.here → line ≡ other

@@ -10,13 +10,13 @@ use Rattle.report_text.specs.Fault.{Fault}
 use Rattle.world_core.specs.declared.event.Event.{Event}
 use Rattle.world_core.specs.Laws.{EveryRunIsGood}
 use Rattle.world_core.specs.declared.settings.Settings.{Settings}
-use Rattle.world_core.specs.Worlds.{WorldValue, IsKept, start}
+use Rattle.world_core.specs.Worlds.{WorldValue, IsKept, initial_world}
 use Rattle.program_answer.specs.declared.answer.Answer.{Answer}
 use Rattle.program_answer.specs.declared.answer.AnswerError.{AnswerError}
 use Rattle.program_answer.specs.declared.answer.AnswerError.TheVariants as error
 use Rattle.program_answer.specs.Answers.{Reads, Stops, StopsBy}
 use Rattle.program_answer.specs.Called.{SourceSeen}
-use Rattle.program_answer.specs.Input.{IsAcceptedAs, IsRefused}
+use Rattle.program_answer.specs.Input.{IsAcceptedAs, IsInputRefused}
 use Rattle.program_answer.specs.Worlds.{start_of, world_settings}
 use Rattle.program_answer.proofs.Stopping.{known_more, reads_more, stops_more}
 use Rattle.plain_commands.specs.Schedules.{CarriedOut}
@@ -43,9 +43,9 @@ came d versions w packets schedule events world s r =
       good = s.runs events world (carried-runs w.topology.switches packets w schedule events world r);
     }
 
-pub starts : (d : Document) (versions : List Version) (w : WorldValue) (settings : Settings) (packets : List PacketLine) (schedule : List ScheduleLine) → w ≡ start d.topology versions settings → settings ≡ world_settings d.settings → IsKept w → EveryRunIsGood w →
+pub starts : (d : Document) (versions : List Version) (w : WorldValue) (settings : Settings) (packets : List PacketLine) (schedule : List ScheduleLine) → w ≡ initial_world d.topology versions settings → settings ≡ world_settings d.settings → IsKept w → EveryRunIsGood w →
     packets ≡ d.packets.items → schedule ≡ d.schedule.items → Starts d versions w packets schedule
-starts d versions w settings packets schedule a b k r p l = record { world = a ∙ ap (λ (x : Settings). start d.topology versions x) b; kept = k; runs = r; packets_are = p; schedule_is = l }
+starts d versions w settings packets schedule a b k r p l = record { world = a ∙ ap (λ (x : Settings). initial_world d.topology versions x) b; kept = k; runs = r; packets_are = p; schedule_is = l }
 
 pub stopped : (d : Document) (versions : List Version) (w : WorldValue) (packets : List PacketLine) (schedule : List ScheduleLine) (x : AnswerError) → Starts d versions w packets schedule → TellsStop w.topology.switches packets w schedule x → TellsStopIn d versions x
 stopped d versions w packets schedule error.Memory s h = tt
@@ -76,5 +76,5 @@ pub simulate_stops : (s : SourceSeen) (d : Document) (versions : List Version) (
 simulate_stops s d versions (Ok a) taken read h = tt
 simulate_stops s d versions (Err x) taken read h = stops-told s d versions x taken read h
 
-pub refuses_more : (s : SourceSeen) (e : AnswerError) → Stops IsRefused s e → Stops IsSimulateRefused s e
-refuses_more s e r = stops_more IsRefused IsSimulateRefused (λ xs f h. inl h) s e r
+pub refuses_more : (s : SourceSeen) (e : AnswerError) → Stops IsInputRefused s e → Stops IsSimulateRefused s e
+refuses_more s e r = stops_more IsInputRefused IsSimulateRefused (λ xs f h. inl h) s e r

@@ -12,7 +12,7 @@ use Rattle.report_text.specs.Fault.TheVariants as fault
 use Rattle.program_answer.specs.declared.status.Status.{Status}
 use Rattle.program_answer.specs.Answers.{Reads}
 use Rattle.program_answer.specs.Called.{SourceSeen}
-use Rattle.program_answer.specs.Input.{IsAcceptedAs, IsRefused}
+use Rattle.program_answer.specs.Input.{IsAcceptedAs, IsInputRefused}
 use Rattle.program_answer.specs.Statuses.{report_status}
 use Rattle.program_answer.specs.Worlds.{start_of}
 use Rattle.plain_commands.specs.Schedules.{CarriedOut, StopsAt}
@@ -57,7 +57,7 @@ pub record IsScheduleRefusal (xs : List ℕ) (f : Fault) : Type 0 where
 
 -- what it refuses: what every command does, and an event that cannot happen
 abbrev pub IsSimulateRefused : List ℕ → Fault → Type 0
-IsSimulateRefused xs f = IsRefused xs f ⊎ IsScheduleRefusal xs f
+IsSimulateRefused xs f = IsInputRefused xs f ⊎ IsScheduleRefusal xs f
 
 -- The source was read to its end, and the text is the report of its schedule: Halted if the updates stand still then, and Done if not.
 pub record IsSimulateAnswer (source : SourceSeen) (status : Status) (text : List ℕ) : Type 0 where

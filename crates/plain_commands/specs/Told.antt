@@ -1,6 +1,6 @@
 -- What the calls of a simulation tell of their document.
 use Rattle.std.specs.Prelude.{◌≡◌, ℕ, Bool, List}
-use Rattle.topology_model.specs.declared.line.Site.{Site}
+use Rattle.topology_model.specs.declared.line.DeclaredSwitch.{DeclaredSwitch}
 use Rattle.document_text.specs.declared.document.Document.{Document}
 use Rattle.document_text.specs.declared.document.PacketLine.{PacketLine}
 use Rattle.document_text.specs.declared.document.ScheduleLine.{ScheduleLine}
@@ -22,7 +22,7 @@ pub record IsSimulatedAs (d : Document) (versions : List Version) (a : Answer) :
   pub simulation : IsSimulationOf halts (doc_of d) versions a.text
 
 -- the fault of the first line whose event cannot happen; nothing is said of memory
-abbrev pub TellsStop : List Site → List PacketLine → WorldValue → List ScheduleLine → AnswerError → Type 0
+abbrev pub TellsStop : List DeclaredSwitch → List PacketLine → WorldValue → List ScheduleLine → AnswerError → Type 0
 TellsStop sites packets w schedule error.Memory = Unit {0}
 TellsStop sites packets w schedule (error.Fault f) = (line : ℕ) × (f ≡ fault.NotEnabled line) × StopsAt sites packets w schedule line
 

@@ -5,7 +5,7 @@ ghost use Rattle.world_core.specs.declared.fault.StepFault.TheVariants as faults
 ghost use Rattle.plain_commands.specs.Schedules.{arrive, event_of, CannotHappen, CarriedOut, Does};
 ghost use Rattle.plain_commands.specs.Told.{TellsStop};
 
-use document_text::{Event as Order, PacketLine, ScheduleLine};
+use document_text::{PacketLine, ScheduleLine, ScheduleStep};
 use program_answer::AnswerError;
 use report_text::Fault;
 use std::alloc::{AllocError, Global};
@@ -41,7 +41,7 @@ fn carry(
     alloc: Global,
     world: &mut World,
     packets: &[PacketLine],
-    order: Order,
+    order: ScheduleStep,
     events: &mut Events,
 ) -> Result<(), StepFault>
     ensures done { OnOk result ((more : List EventValue) × Does world.old.topology.switches packets.now order world.old more world.new × (events.new.items ≡ events.old.items ++ more)) }
@@ -49,8 +49,8 @@ fn carry(
     ensures refused { result ≡ Err faults.NotEnabled → CannotHappen world.old.topology.switches packets.now order world.old }
 {
     match order {
-        Order::Settle => world.settle(alloc, events)?,
-        Order::Flow => world.flow(alloc, events)?,
+        ScheduleStep::Settle => world.settle(alloc, events)?,
+        ScheduleStep::Flow => world.flow(alloc, events)?,
         _ => {
             let named = event_of(alloc, world.topology(), packets, order)?;
             let Some(event) = named else {
@@ -69,12 +69,12 @@ fn event_of(
     alloc: Global,
     topology: &Topology,
     packets: &[PacketLine],
-    order: Order,
+    order: ScheduleStep,
 ) -> Result<Option<Event>, AllocError>
     ensures { IfOk result (λ e. e ≡ event_of topology.now.switches packets.now order) }
 {
     match order {
-        Order::Arrive(number) => arrival(alloc, packets, number),
+        ScheduleStep::Arrive(number) => arrival(alloc, packets, number),
         _ => Ok(event_without(topology, order)),
     }
 }
@@ -94,24 +94,32 @@ fn arrival(
 }
 
 // The event that an order names if there are no packet lines.
-fn event_without(topology: &Topology, order: Order) -> Option<Event>
+fn event_without(topology: &Topology, order: ScheduleStep) -> Option<Event>
     ensures { result ≡ event_of topology.now.switches [] order }
 {
     match order {
-        Order::Begin => Some(Event::Controller(ControllerEvent::Begin)),
-        Order::Send(sw) => Some(Event::Controller(ControllerEvent::Send(topology.place(sw)?))),
-        Order::Take(sw) => Some(Event::Switch(SwitchEvent::Take(topology.place(sw)?))),
-        Order::Apply(sw, pending) => Some(Event::Switch(SwitchEvent::Apply(
+        ScheduleStep::Begin => Some(Event::Controller(ControllerEvent::Begin)),
+        ScheduleStep::Send(sw) => Some(Event::Controller(ControllerEvent::Send(topology.place(
+            sw,
+        )?))),
+        ScheduleStep::Take(sw) => Some(Event::Switch(SwitchEvent::Take(topology.place(sw)?))),
+        ScheduleStep::Apply(sw, pending) => Some(Event::Switch(SwitchEvent::Apply(
             topology.place(sw)?,
             pending as usize,
         ))),
-        Order::Reply(sw) => Some(Event::Switch(SwitchEvent::Reply(topology.place(sw)?))),
-        Order::Heard(sw) => Some(Event::Controller(ControllerEvent::Heard(topology.place(sw)?))),
-        Order::Hop(copy) => Some(Event::Packet(PacketEvent::Hop(copy as usize))),
-        Order::Drained(stamp) => Some(Event::Controller(ControllerEvent::Drained(stamp))),
-        Order::Lost(sw) => Some(Event::Controller(ControllerEvent::Lost(topology.place(sw)?))),
-        Order::Rejoin(sw) => Some(Event::Controller(ControllerEvent::Rejoin(topology.place(sw)?))),
-        Order::Stuck(copy) => Some(Event::Packet(PacketEvent::Stuck(copy as usize))),
-        Order::Arrive(_) | Order::Settle | Order::Flow => None,
+        ScheduleStep::Reply(sw) => Some(Event::Switch(SwitchEvent::Reply(topology.place(sw)?))),
+        ScheduleStep::Heard(sw) => Some(Event::Controller(ControllerEvent::Heard(topology.place(
+            sw,
+        )?))),
+        ScheduleStep::Hop(copy) => Some(Event::Packet(PacketEvent::Hop(copy as usize))),
+        ScheduleStep::Drained(stamp) => Some(Event::Controller(ControllerEvent::Drained(stamp))),
+        ScheduleStep::Lost(sw) => Some(Event::Controller(ControllerEvent::Lost(topology.place(
+            sw,
+        )?))),
+        ScheduleStep::Rejoin(sw) => Some(Event::Controller(ControllerEvent::Rejoin(topology.place(
+            sw,
+        )?))),
+        ScheduleStep::Stuck(copy) => Some(Event::Packet(PacketEvent::Stuck(copy as usize))),
+        ScheduleStep::Arrive(_) | ScheduleStep::Settle | ScheduleStep::Flow => None,
     }
 }

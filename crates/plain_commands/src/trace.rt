@@ -6,7 +6,7 @@ ghost use Rattle.outside_io.specs.Lists.{TakesAtMost};
 ghost use Rattle.policy_rows.specs.Means.{RowsMean};
 ghost use Rattle.program_answer.specs.Answers.{Stops};
 ghost use Rattle.program_answer.specs.Called.{source_of};
-ghost use Rattle.program_answer.specs.Input.{IsRefused, policies_of};
+ghost use Rattle.program_answer.specs.Input.{IsInputRefused, policies_of};
 ghost use Rattle.program_answer.specs.Sound.{IsSound, IsSoundPacket};
 ghost use Rattle.program_answer.specs.Versions.{AreVersions};
 ghost use Rattle.report_text.specs.Traces.{Adds, AreTexts};
@@ -24,7 +24,7 @@ use value_text::{Text, put_policy_line, put_walk};
 /// What becomes of all packets of a source's document under each of its policies.
 pub fn trace_answer<S: Source>(alloc: Global, source: &mut S) -> Result<Answer, AnswerError>
     ensures answer { IfOk result (λ a. IsTraceAnswer (source_of S.left S.faults source.old source.new) a.status a.text) }
-    ensures stops { IfErr result (Stops IsRefused (source_of S.left S.faults source.old source.new)) }
+    ensures stops { IfErr result (Stops IsInputRefused (source_of S.left S.faults source.old source.new)) }
     ensures at_most { TakesAtMost 4194305 (S.left source.old) (S.left source.new) }
 {
     let input = read_input(alloc, source)?;

@@ -25,7 +25,7 @@ use Rattle.fdd_compile.specs.Named.{AreFewNamed, Of, TermNames}
 use Rattle.fdd_compile.specs.Results.{DiagramOf}
 use Rattle.fdd_compile.proofs.NamedLaws.{distinct_length}
 use Rattle.policy_equality.specs.Asked.{AreNamesOfBoth, Blames}
-use Rattle.policy_equality.specs.Comparisons.{AreApartBy, GivesAlone, HaveSameHistories, IsLoneResult, IsRefused}
+use Rattle.policy_equality.specs.Comparisons.{AreApartBy, GivesAlone, HaveSameHistories, IsLoneResult, IsNotCompared}
 use Rattle.policy_equality.specs.declared.fault.CompareError.{CompareError}
 use Rattle.policy_equality.specs.declared.fault.CompareError.TheVariants.{Fault, Memory}
 
@@ -92,11 +92,11 @@ same-histories p q same a b = record {
 
 -- ---- faults
 
-pub first-refused : (p q : Term) (e : CompareError) → Blames First p e → IsRefused p q e
+pub first-refused : (p q : Term) (e : CompareError) → Blames First p e → IsNotCompared p q e
 first-refused p q Memory h = tt
-first-refused p q (Fault s f) h = subst (λ (x : Side). IsRefused p q (Fault x f)) (sym h.0) h.1
+first-refused p q (Fault s f) h = subst (λ (x : Side). IsNotCompared p q (Fault x f)) (sym h.0) h.1
 
-pub second-refused : (p q : Term) (a : Tree) (e : CompareError) → MeaningOf p a → Blames Second q e → IsRefused p q e
+pub second-refused : (p q : Term) (a : Tree) (e : CompareError) → MeaningOf p a → Blames Second q e → IsNotCompared p q e
 second-refused p q a Memory m h = tt
 second-refused p q a (Fault s f) m h =
-    subst (λ (x : Side). IsRefused p q (Fault x f)) (sym h.0) (record { fine = record { flat = m.flat; shallow = m.built.shallow }; fault = h.1 })
+    subst (λ (x : Side). IsNotCompared p q (Fault x f)) (sym h.0) (record { fine = record { flat = m.flat; shallow = m.built.shallow }; fault = h.1 })

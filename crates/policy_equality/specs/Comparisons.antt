@@ -51,6 +51,6 @@ IsFaultOf First p q f = LacksMeaning p f
 IsFaultOf Second p q f = IsLaterFault p q f
 
 -- why they are not compared; nothing is said of memory
-abbrev pub IsRefused : Term → Term → CompareError → Type 0
-IsRefused p q (Fault side f) = IsFaultOf side p q f
-IsRefused p q Memory = Unit {0}
+abbrev pub IsNotCompared : Term → Term → CompareError → Type 0
+IsNotCompared p q (Fault side f) = IsFaultOf side p q f
+IsNotCompared p q Memory = Unit {0}

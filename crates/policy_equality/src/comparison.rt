@@ -7,7 +7,7 @@ ghost use Rattle.fdd_compile.specs.Meanings.{HasMeaning, MeaningOf};
 ghost use Rattle.fdd_compile.specs.Named.{AreFewNamed, TermNames};
 ghost use Rattle.fdd_store.specs.Stores.{Grows, Gives};
 ghost use Rattle.policy_equality.specs.Asked.{Blames};
-ghost use Rattle.policy_equality.specs.Comparisons.{AreApartBy, HaveMeaning, HaveSameHistories, IsRefused};
+ghost use Rattle.policy_equality.specs.Comparisons.{AreApartBy, HaveMeaning, HaveSameHistories, IsNotCompared};
 
 use crate::fault::CompareError;
 use crate::names::names_of_both;
@@ -30,7 +30,7 @@ pub fn compare(alloc: Global, p: &Pol, q: &Pol) -> Result<Option<Apart>, Compare
     ensures apart { IfOk result (λ o. IfSome o (AreApartBy (term_of p.now) (term_of q.now))) }
     ensures histories { IfOk result (λ o. o ≡ None → IsPlain (term_of p.now) → IsPlain (term_of q.now) → HaveSameHistories (term_of p.now) (term_of q.now)) }
     ensures meant { OnOk result (HaveMeaning (term_of p.now) (term_of q.now)) }
-    ensures refused { IfErr result (IsRefused (term_of p.now) (term_of q.now)) }
+    ensures refused { IfErr result (IsNotCompared (term_of p.now) (term_of q.now)) }
 {
     let mut store = Store::new(alloc);
     let a = meaning_of(alloc, &mut store, p, Side::First)?;

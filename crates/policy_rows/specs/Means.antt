@@ -39,7 +39,7 @@ abbrev pub sent_as : Packet → Option ℕ → Sent
 sent_as q tag = record { port = q.pt; header = q.header; tag = tag }
 
 -- The first row that hits pk sends exactly the policy's results at declared ports: untagged at edge ports, with the stamp at linked ports.
-pub record Answers (w : Wiring) (p : Term) (stamp : ℕ) (rows : List Row) (tag : Option ℕ) (pk : Packet) : Type 0 where
+pub record AnswersPolicy (w : Wiring) (p : Term) (stamp : ℕ) (rows : List Row) (tag : Option ℕ) (pk : Packet) : Type 0 where
   pub row : Row
   pub found : first (incoming pk tag) rows ≡ Some row
   pub results : (x : Sent) → IsIn (acted row.actions (incoming pk tag)) x → HasResult p pk (sent_packet pk.sw x)
@@ -77,7 +77,7 @@ pub record PortMeans (w : Wiring) (p : Term) (stamp top : ℕ) (a : Place) (tag 
   pub fixed : (r : Row) → IsIn rows r → FixesPort a.pt tag r.pattern
   pub ranked : Ranked top rows
   pub ends : EndsWith (port_pattern a.pt tag) rows
-  pub answers : (pk : Packet) → IsWellShaped pk → standing pk ≡ a → Answers w p stamp rows tag pk
+  pub answers : (pk : Packet) → IsWellShaped pk → standing pk ≡ a → AnswersPolicy w p stamp rows tag pk
 
 -- the priority of the first row of a port
 abbrev pub top_of : Band → PortKind → ℕ

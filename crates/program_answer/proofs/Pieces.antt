@@ -11,7 +11,7 @@ use Rattle.outside_io.specs.Lists.{TakesFirst}
 use Rattle.document_text.specs.declared.doc_reader.DocReader.{DocReader}
 use Rattle.document_text.specs.Documents.{Doc, Outcome, Accepted, Refused}
 use Rattle.document_text.specs.Grammar.{Lines, IsFrom, IsReading, within_limit, cut_off, line_behind, refused_at}
-use Rattle.document_text.specs.States.{start}
+use Rattle.document_text.specs.States.{initial_state}
 use Rattle.document_text.specs.Texts.{lines_of}
 use Rattle.program_answer.specs.Input.{Feeds, IsReadAs}
 use Rattle.program_answer.specs.Lines.{line_after}
@@ -30,7 +30,7 @@ limit xs o = elim (cases_lt (length xs) 4194305) [
 ]
 
 reading-take : (xs : List ℕ) (o : Outcome) → IsReading (take 4194305 xs) o → IsReading xs o
-reading-take xs o r = (r.0, subst (λ ys. IsFrom (Lines start) 1 (lines_of ys) r.0) (take-take 4194305 4194305 xs (omega arith)) r.1, r.2 ∙ limit xs r.0)
+reading-take xs o r = (r.0, subst (λ ys. IsFrom (Lines initial_state) 1 (lines_of ys) r.0) (take-take 4194305 4194305 xs (omega arith)) r.1, r.2 ∙ limit xs r.0)
 
 cut-refuses : (n : ℕ) (o : Outcome) (d : Doc) → Accepted d ≡ cut_off n o → ⊥
 cut-refuses n (Accepted e) d h = cc

@@ -11,7 +11,7 @@ use Rattle.program_answer.specs.declared.answer.AnswerError.{AnswerError}
 use Rattle.program_answer.specs.declared.answer.AnswerError.TheVariants as error
 use Rattle.program_answer.specs.Answers.{Reads, ReadsFirst, Stops, StopsBy}
 use Rattle.program_answer.specs.Called.{SourceSeen, IsSame}
-use Rattle.program_answer.specs.Input.{IsAcceptedAs, IsReadAs, IsRefused, IsTextRefusal, placed_fault, TellsFirst}
+use Rattle.program_answer.specs.Input.{IsAcceptedAs, IsReadAs, IsInputRefused, IsTextRefusal, placed_fault, TellsFirst}
 use Rattle.program_answer.specs.Versions.{AreVersions, IsFirstPolicyFault}
 
 -- what holds of bytes, if they are known
@@ -51,18 +51,18 @@ text_stops s f placed is taken same read = subst (λ (g : Fault). StopsBy IsText
 })
 
 -- the fault of the first policy that has one
-policy-first : (s : SourceSeen) (d : Doc) (f : Fault) → Reads (λ xs. IsDocument xs d) s → TakesFirst 4194305 s.left.before s.left.after → IsFirstPolicyFault d.layout d.settings d.policies f → ReadsFirst (λ xs. IsRefused xs f) s
+policy-first : (s : SourceSeen) (d : Doc) (f : Fault) → Reads (λ xs. IsDocument xs d) s → TakesFirst 4194305 s.left.before s.left.after → IsFirstPolicyFault d.layout d.settings d.policies f → ReadsFirst (λ xs. IsInputRefused xs f) s
 policy-first s d f r taken first = record { taken = taken; faultless = r.faultless; bytes = known_more _ _ s.left.before (λ xs h. inr (record { document = d; read = h; first = first })) r.bytes }
 
 -- what is refused for its text is refused
-pub text_refuses : (s : SourceSeen) (e : AnswerError) → Stops IsTextRefusal s e → Stops IsRefused s e
-text_refuses s e h = stops_more IsTextRefusal IsRefused (λ xs f r. inl r) s e h
+pub text_refuses : (s : SourceSeen) (e : AnswerError) → Stops IsTextRefusal s e → Stops IsInputRefused s e
+text_refuses s e h = stops_more IsTextRefusal IsInputRefused (λ xs f r. inl r) s e h
 
 -- the document of what was read
 pub document_reads : (s : SourceSeen) (d : Doc) (after : ℕ) → Reads (λ xs. IsReadAs xs d after) s → Reads (λ xs. IsDocument xs d) s
 document_reads s d after r = reads_more _ _ s (λ xs h. h.document) r
 
-pub policy_stops : (s : SourceSeen) (d : Doc) (e : AnswerError) → Reads (λ xs. IsDocument xs d) s → TakesFirst 4194305 s.left.before s.left.after → TellsFirst d.layout d.settings d.policies e → Stops IsRefused s e
+pub policy_stops : (s : SourceSeen) (d : Doc) (e : AnswerError) → Reads (λ xs. IsDocument xs d) s → TakesFirst 4194305 s.left.before s.left.after → TellsFirst d.layout d.settings d.policies e → Stops IsInputRefused s e
 policy_stops s d error.Memory r taken told = r.faultless
 policy_stops s d (error.Fault (fault.Line line column f)) r taken told = policy-first s d _ r taken told
 policy_stops s d (error.Fault (fault.NotEnabled line)) r taken told = policy-first s d _ r taken told

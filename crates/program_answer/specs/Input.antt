@@ -49,8 +49,8 @@ pub record IsPolicyRefusal (xs : List ℕ) (f : Fault) : Type 0 where
   pub read : IsDocument xs document
   pub first : IsFirstPolicyFault document.layout document.settings document.policies f
 
-abbrev pub IsRefused : List ℕ → Fault → Type 0
-IsRefused xs f = IsTextRefusal xs f ⊎ IsPolicyRefusal xs f
+abbrev pub IsInputRefused : List ℕ → Fault → Type 0
+IsInputRefused xs f = IsTextRefusal xs f ⊎ IsPolicyRefusal xs f
 
 -- ---- as the calls tell it
 

@@ -6,7 +6,7 @@ use Rattle.policy_rows.specs.declared.version.Version.{Version}
 use Rattle.report_text.specs.Reports.{IsWorldReport}
 use Rattle.world_core.specs.declared.event.Event.{Event}
 use Rattle.world_core.specs.declared.settings.Settings.{Settings as WorldSettings}
-use Rattle.world_core.specs.Worlds.{WorldValue, start}
+use Rattle.world_core.specs.Worlds.{WorldValue, initial_world}
 use Rattle.program_answer.specs.declared.answer.Answer.{Answer}
 use Rattle.program_answer.specs.Statuses.{report_status}
 
@@ -20,11 +20,11 @@ world_settings s = record { hops = s.hops; capacity = s.capacity; rejoins = s.re
 
 -- the world of these versions in the document's topology, before anything has happened
 abbrev pub start_of : Doc → List Version → WorldValue
-start_of d versions = start d.layout versions (world_settings d.settings)
+start_of d versions = initial_world d.layout versions (world_settings d.settings)
 
 -- the same for a drive: the first loss halts it, and no drains overlap
 abbrev pub start_of_drive : Doc → List Version → WorldValue
-start_of_drive d versions = start d.layout versions (record { hops = d.settings.hops; capacity = d.settings.capacity; rejoins = 0; overlap = None })
+start_of_drive d versions = initial_world d.layout versions (record { hops = d.settings.hops; capacity = d.settings.capacity; rejoins = 0; overlap = None })
 
 -- the report of these events and of the world then, and the status by whether the updates stand still
 pub record IsWorldAnswer (w : WorldValue) (events : List Event) (a : Answer) : Type 0 where

@@ -4,7 +4,7 @@ ghost use Rattle.document_text.specs.Answers.{doc_of};
 ghost use Rattle.outside_io.specs.Lists.{TakesAtMost, TakesFirst};
 ghost use Rattle.program_answer.specs.Answers.{Reads, Stops};
 ghost use Rattle.program_answer.specs.Called.{source_of};
-ghost use Rattle.program_answer.specs.Input.{IsAcceptedAs, IsRefused, policies_of};
+ghost use Rattle.program_answer.specs.Input.{IsAcceptedAs, IsInputRefused, policies_of};
 ghost use Rattle.program_answer.specs.Sound.{IsSound};
 ghost use Rattle.program_answer.specs.Versions.{AreVersions};
 
@@ -30,7 +30,7 @@ pub fn read_input<S: Source>(alloc: Global, source: &mut S) -> Result<Input, Ans
     ensures taken { OnOk result (TakesFirst 4194305 (S.left source.old) (S.left source.new)) }
     ensures sound { IfOk result (λ i. IsSound (doc_of i.document)) }
     ensures versions { IfOk result (λ i. AreVersions i.document.topology i.document.settings 0 (policies_of i.document) i.versions.items) }
-    ensures stops { IfErr result (Stops IsRefused (source_of S.left S.faults source.old source.new)) }
+    ensures stops { IfErr result (Stops IsInputRefused (source_of S.left S.faults source.old source.new)) }
     ensures at_most { TakesAtMost 4194305 (S.left source.old) (S.left source.new) }
 {
     let read = read_source(alloc, source)?;

@@ -10,7 +10,7 @@ use Rattle.std.specs.Str.{bytes_eq}
 use native.Mathlib.Decide.{ℕ_discrete}
 use Rattle.topology_model.specs.Layouts.{Layout}
 use Rattle.topology_model.specs.Wired.{IsTopology}
-use Rattle.topology_model.specs.declared.line.Site.{Site}
+use Rattle.topology_model.specs.declared.line.DeclaredSwitch.{DeclaredSwitch}
 use Rattle.nk_values.proofs.PairLaws.{pairs-at}
 use Rattle.update_coordinator.specs.declared.cause.Side.{Side}
 use Rattle.update_coordinator.specs.declared.cause.Side.TheVariants.{Controller, Switch}
@@ -36,17 +36,17 @@ use Rattle.report_laws.proofs.Printed.{in_line, decimal-line}
 
 -- the number of a switch that is there
 record Numbered (t : Layout) (place : ℕ) : Type 0 where
-  site : Site
+  site : DeclaredSwitch
   here : slice_get t.switches place ≡ Some site
   high : site.sw ≤ 65535
 
 numbered : (t : Layout) → IsTopology t → (place : ℕ) → place < length t.switches → Numbered t place
 numbered t k place l =
     let s = get-some place t.switches l in
-    record { site = s.0; here = s.1; high = (k.sound.sites s.0 (at-in place t.switches s.0 s.1)).switch.high }
+    record { site = s.0; here = s.1; high = (k.sound.peers s.0 (at-in place t.switches s.0 s.1)).switch.high }
 
 text-is : (t : Layout) (place : ℕ) (n : Numbered t place) → number_at t.switches place ≡ decimal n.site.sw
-text-is t place n = ap (λ (o : Option Site). number_text o) n.here
+text-is t place n = ap (λ (o : Option DeclaredSwitch). number_text o) n.here
 
 wide : (n : ℕ) → n ≤ 65535 → n < 2 ^ 64
 wide n h = omega (arith, h)
@@ -63,9 +63,9 @@ number-same t topology j k l m e =
     let a = numbered t topology j l in
     let b = numbered t topology k m in
     let same : a.site.sw ≡ b.site.sw = decimal-same a.site.sw b.site.sw a.high b.high (sym (text-is t j a) ∙ e ∙ text-is t k b) in
-    let numbers : List ℕ = map (λ (s : Site). s.sw) t.switches in
-    let at_j : slice_get numbers j ≡ Some a.site.sw = get-mapped (λ (s : Site). s.sw) j t.switches a.site a.here in
-    let at_k : slice_get numbers k ≡ Some b.site.sw = get-mapped (λ (s : Site). s.sw) k t.switches b.site b.here in
+    let numbers : List ℕ = map (λ (s : DeclaredSwitch). s.sw) t.switches in
+    let at_j : slice_get numbers j ≡ Some a.site.sw = get-mapped (λ (s : DeclaredSwitch). s.sw) j t.switches a.site a.here in
+    let at_k : slice_get numbers k ≡ Some b.site.sw = get-mapped (λ (s : DeclaredSwitch). s.sw) k t.switches b.site b.here in
     elim (ℕ_discrete j k) [
       | yes d ↦ d
       | no d ↦ elim (cases_lt j k) [
@@ -80,7 +80,7 @@ number-same t topology j k l m e =
 -- ---- one event
 
 -- the first three characters
-abbrev front : List Site → Event → List ℕ
+abbrev front : List DeclaredSwitch → Event → List ℕ
 front switches e = take 3 (event_text switches e)
 
 side-same : (a b : Side) → side_text a ≡ side_text b → a ≡ b
@@ -111,7 +111,7 @@ kind_told xs =
     if is_one xs (codes "tak" ∷ codes "app" ∷ codes "rep" ∷ []) then 1 else (
     if is_one xs (codes "arr" ∷ codes "hop" ∷ codes "stu" ∷ []) then 2 else 3))
 
-kind-told : (switches : List Site) (e : Event) → kind_told (front switches e) ≡ kind_of e
+kind-told : (switches : List DeclaredSwitch) (e : Event) → kind_told (front switches e) ≡ kind_of e
 kind-told switches (event.Controller of_controller.Begin) = refl
 kind-told switches (event.Controller (of_controller.Send s)) = refl
 kind-told switches (event.Controller (of_controller.Heard s)) = refl
@@ -189,12 +189,12 @@ event-line t topology (event.Foreign a side got) k = every-append in_line (numbe
 abbrev is_e : ℕ → Bool
 is_e c = c == 101
 
-line-is : (switches : List Site) (e : Event) (es : List Event) (u : List ℕ) → events_text switches (e ∷ es) ++ u ≡ (codes "e " ++ event_text switches e) ++ (10 ∷ (events_text switches es ++ u))
+line-is : (switches : List DeclaredSwitch) (e : Event) (es : List Event) (u : List ℕ) → events_text switches (e ∷ es) ++ u ≡ (codes "e " ++ event_text switches e) ++ (10 ∷ (events_text switches es ++ u))
 line-is switches e es u =
     append_assoc ((codes "e " ++ event_text switches e) ++ 10 ∷ []) (events_text switches es) u
     ∙ append_assoc (codes "e " ++ event_text switches e) (10 ∷ []) (events_text switches es ++ u)
 
-none-more : (switches : List Site) (e : Event) (es : List Event) (u v : List ℕ) → stops is_e u ≡ true → u ≡ events_text switches (e ∷ es) ++ v → ⊥
+none-more : (switches : List DeclaredSwitch) (e : Event) (es : List Event) (u v : List ℕ) → stops is_e u ≡ true → u ≡ events_text switches (e ∷ es) ++ v → ⊥
 none-more switches e es u v s h = false≢true (subst (λ (xs : List ℕ). stops is_e xs ≡ true) (h ∙ line-is switches e es v) s)
 
 pub lines-same : (t : Layout) → IsTopology t → (es fs : List Event) (u v : List ℕ) → AllByRecursion (IsInWords t) es → AllByRecursion (IsInWords t) fs → stops is_e u ≡ true → stops is_e v ≡ true →

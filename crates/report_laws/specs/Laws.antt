@@ -5,7 +5,7 @@ use Rattle.nk_values.specs.Packets.{IsInRange}
 use Rattle.nk_values.specs.Tags.{IsTag, IsVlanId}
 use Rattle.topology_model.specs.Layouts.{Layout}
 use Rattle.topology_model.specs.Wired.{IsTopology}
-use Rattle.topology_model.specs.declared.line.Site.{Site}
+use Rattle.topology_model.specs.declared.line.DeclaredSwitch.{DeclaredSwitch}
 use Rattle.packet_tracer.specs.declared.flight.Flight.{Flight}
 use Rattle.update_coordinator.specs.declared.cause.Cause.{Cause}
 use Rattle.update_coordinator.specs.declared.phase.Phase.{Phase}
@@ -19,8 +19,8 @@ use Rattle.value_text.specs.Values.{line}
 use Rattle.report_text.specs.Events.{event_text, events_text}
 use Rattle.report_text.specs.Causes.{state_text}
 use Rattle.report_text.specs.Reports.{IsReportText}
-use Rattle.document_text.specs.declared.document.Event.{Event as Command}
-use Rattle.document_text.specs.declared.document.Event.TheVariants as command
+use Rattle.document_text.specs.declared.document.ScheduleStep.{ScheduleStep}
+use Rattle.document_text.specs.declared.document.ScheduleStep.TheVariants as command
 use Rattle.document_text.specs.States.{State}
 use Rattle.document_text.specs.Steps.{Next, step}
 use Rattle.document_text.specs.Texts.{words_of}
@@ -69,11 +69,11 @@ ReportsTell = (t : Layout) (es fs : List Event) (text : List ℕ) → IsTopology
 -- ---- what is read again
 
 -- the switch at a place is there, and the command names it by its number
-abbrev pub Names : List Site → ℕ → (ℕ → Command) → Command → Type 0
-Names switches place of d = (x : Site) × (slice_get switches place ≡ Some x) × (d ≡ of x.sw)
+abbrev pub Names : List DeclaredSwitch → ℕ → (ℕ → ScheduleStep) → ScheduleStep → Type 0
+Names switches place of d = (x : DeclaredSwitch) × (slice_get switches place ≡ Some x) × (d ≡ of x.sw)
 
 -- What a schedule has for the event: places of copies and of flow mods are at most 4294967295, and stamps are VLAN ids. No schedule has a packet by itself or foreign bytes.
-abbrev pub IsScheduled : List Site → Event → Command → Type 0
+abbrev pub IsScheduled : List DeclaredSwitch → Event → ScheduleStep → Type 0
 IsScheduled switches (event.Controller of_controller.Begin) d = d ≡ command.Begin
 IsScheduled switches (event.Controller (of_controller.Send place)) d = Names switches place command.Send d
 IsScheduled switches (event.Switch (of_switch.Take place)) d = Names switches place command.Take d
@@ -90,5 +90,5 @@ IsScheduled switches (event.Foreign place side got) d = ⊥
 
 -- Inside of a schedule that may have one line more, the line that reports print for an event, without the `e ` in front, is read as that event.
 abbrev pub PrintedIsRead : Type 0
-PrintedIsRead = (s : State) (n : ℕ) (e : Event) (d : Command) → IsTopology s.layout → s.inside ≡ true → length s.events < 100000 → IsScheduled s.layout.switches e d →
+PrintedIsRead = (s : State) (n : ℕ) (e : Event) (d : ScheduleStep) → IsTopology s.layout → s.inside ≡ true → length s.events < 100000 → IsScheduled s.layout.switches e d →
     step s n (words_of (line (event_text s.layout.switches e))) ≡ Next (record s { events = s.events ++ record { line = n; event = d } ∷ [] })

@@ -7,7 +7,7 @@ use report_text::{Standing, Text, UpdateState, report_text};
 use session_core::SessionFault;
 use std::alloc::{AllocError, Global};
 use std::test::Fail;
-use topology_model::{Ports, Site};
+use topology_model::{DeclaredSwitch, Ports};
 use update_coordinator::{Cause, Phase, Side};
 use world_core::{ControllerEvent, Event, Events, PacketEvent, SwitchEvent};
 
@@ -31,13 +31,17 @@ const EVENTS: &str =
     "e begin\ne send 1\ne heard 1\ne drained 1\ne lost 7\ne rejoin 7\ne take 7\ne apply 1 2\ne reply 7\ne arrive 1:2 vlan=none ethTyp=0x0800 ipProto=0 ethSrc=00:00:00:00:00:00 ethDst=00:00:00:00:00:05 ip4Src=0.0.0.0 ip4Dst=0.0.0.0 tcpSrcPort=0 tcpDstPort=0\ne hop 3\ne stuck 4\ne foreign 1 controller\ne foreign 7 switch\nphase idle 2\n";
 
 // Puts a switch of two ports at the end.
-fn push_switch(alloc: Global, switches: &mut Vec<Site>, sw: u16) -> Result<(), AllocError> {
+fn push_switch(
+    alloc: Global,
+    switches: &mut Vec<DeclaredSwitch>,
+    sw: u16,
+) -> Result<(), AllocError> {
     let ports = Ports::of(vec![in alloc; 1, 2]?);
-    switches.push(Site { sw, ports })?;
+    switches.push(DeclaredSwitch { sw, ports })?;
     Ok(())
 }
 
-fn push_switches(alloc: Global, switches: &mut Vec<Site>) -> Result<(), AllocError> {
+fn push_switches(alloc: Global, switches: &mut Vec<DeclaredSwitch>) -> Result<(), AllocError> {
     push_switch(alloc, switches, 1)?;
     push_switch(alloc, switches, 7)
 }
@@ -76,7 +80,7 @@ fn is(told: Result<Text, AllocError>, text: &str) -> Result<bool, AllocError> {
 // The report of these events where no packet came in.
 fn report_over(
     alloc: Global,
-    switches: &[Site],
+    switches: &[DeclaredSwitch],
     flights: &Flights,
     (phase, halt): (Phase, Option<&Cause>),
     events: &Events,

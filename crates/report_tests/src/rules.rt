@@ -9,7 +9,7 @@ use report_text::{Text, rules_text};
 use std::alloc::{AllocError, Global};
 use std::process::Abort;
 use std::test::Fail;
-use topology_model::{End, Ports, TopoError, TopoLine, Topology};
+use topology_model::{PortRef, Ports, TopoError, TopoLine, Topology};
 
 const RULES: &str =
     "policy 1 stamp 1 band high\nswitch 1\n36000 in=1 vlan=none : vlan 1, output 2\n56000 in=2 vlan=1 : drop\nswitch 2\n56000 in=1 vlan=1 : strip, output 2\n36000 in=2 vlan=none : drop\npolicy 2 stamp 1 band low\nswitch 1\nswitch 2\n16000 in=1 vlan=none ethTyp=0x0800 ipProto=6 tcpDstPort=80 : output 2, set ethDst 00:00:00:00:00:05, set ip4Src 10.0.0.1, output 3\n";
@@ -65,7 +65,7 @@ fn one_row(alloc: Global, row: Row) -> Result<RowList, AllocError> {
 fn add_port(
     alloc: Global,
     ports: &mut PortLists,
-    (sw, pt): End,
+    (sw, pt): PortRef,
     (pattern, priority): (Pattern, u16),
     list: &[Action],
 ) -> Result<(), AllocError> {

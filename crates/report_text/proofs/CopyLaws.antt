@@ -9,7 +9,7 @@ use Rattle.packet_tracer.specs.declared.flight.Flight.{Flight}
 use Rattle.update_coordinator.proofs.Places.{some_is, set_cases}
 use Rattle.nk_values.specs.Members.{SameMembers}
 use Rattle.update_laws.specs.Traffic.{Arrived}
-use Rattle.report_text.specs.Copies.{open_line, copies_of, HasCopies}
+use Rattle.report_text.specs.Copies.{open_line, arrival_copies, HasCopies}
 use Rattle.report_text.specs.Reports.{HasFate, IsArrivalText}
 use Rattle.value_text.specs.Traces.{Ascends}
 use Rattle.value_text.proofs.SortLaws.{lines_of}
@@ -38,19 +38,19 @@ no_copies lists v e h = record {
       ];
 }
 
-one_copy : (f : Flight) (place : ℕ) (b : Bool) → (f.arrival == place) ≡ b → copies_of (f ∷ []) place ≡ cond b (f.history ∷ []) []
+one_copy : (f : Flight) (place : ℕ) (b : Bool) → (f.arrival == place) ≡ b → arrival_copies (f ∷ []) place ≡ cond b (f.history ∷ []) []
 one_copy f place true e = ap (λ c. map (λ (g : Flight). g.history) (cond c (f ∷ []) [])) e
 one_copy f place false e = ap (λ c. map (λ (g : Flight). g.history) (cond c (f ∷ []) [])) e
 
-copies-append : (fs gs : List Flight) (place : ℕ) → copies_of (fs ++ gs) place ≡ copies_of fs place ++ copies_of gs place
+copies-append : (fs gs : List Flight) (place : ℕ) → arrival_copies (fs ++ gs) place ≡ arrival_copies fs place ++ arrival_copies gs place
 copies-append fs gs place = ap (map (λ (f : Flight). f.history)) (filter-append (λ (f : Flight). f.arrival == place) fs gs) ∙ map-append (λ (f : Flight). f.history) _ _
 
 -- one more copy, of the arrival at this place or of another one
-copies_here : (fs : List Flight) (f : Flight) → copies_of (fs ++ f ∷ []) f.arrival ≡ copies_of fs f.arrival ++ f.history ∷ []
-copies_here fs f = copies-append fs (f ∷ []) f.arrival ∙ ap (λ hs. copies_of fs f.arrival ++ hs) (one_copy f f.arrival true (eq-eqb f.arrival f.arrival refl))
+copies_here : (fs : List Flight) (f : Flight) → arrival_copies (fs ++ f ∷ []) f.arrival ≡ arrival_copies fs f.arrival ++ f.history ∷ []
+copies_here fs f = copies-append fs (f ∷ []) f.arrival ∙ ap (λ hs. arrival_copies fs f.arrival ++ hs) (one_copy f f.arrival true (eq-eqb f.arrival f.arrival refl))
 
-copies_elsewhere : (fs : List Flight) (f : Flight) (place : ℕ) → place ≢ f.arrival → copies_of (fs ++ f ∷ []) place ≡ copies_of fs place
-copies_elsewhere fs f place n = copies-append fs (f ∷ []) place ∙ ap (λ hs. copies_of fs place ++ hs) (one_copy f place false (ne_eqb f.arrival place (λ e. n (sym e)))) ∙ append-nil (copies_of fs place)
+copies_elsewhere : (fs : List Flight) (f : Flight) (place : ℕ) → place ≢ f.arrival → arrival_copies (fs ++ f ∷ []) place ≡ arrival_copies fs place
+copies_elsewhere fs f place n = copies-append fs (f ∷ []) place ∙ ap (λ hs. arrival_copies fs place ++ hs) (one_copy f place false (ne_eqb f.arrival place (λ e. n (sym e)))) ∙ append-nil (arrival_copies fs place)
 
 -- a copy of no arrival that has a list
 pub unknown_copy : (fs : List Flight) (f : Flight) (lists : List (Vec (String Global) Global)) → length lists ≤ f.arrival → HasCopies fs lists → HasCopies (fs ++ f ∷ []) lists
@@ -68,16 +68,16 @@ known_copy fs f lists old new l at more is h = record {
       elim (set_cases lists f.arrival k new lines here) [
         | inl (same, place) ↦
             let now = ap (λ (w : Vec (String Global) Global). map string_bytes w.items) same ∙ ap (map string_bytes) more ∙ map-append string_bytes old.items (l ∷ []) in
-            let texts = ap (λ ts. ts ++ string_bytes l ∷ []) (h.each f.arrival old at) ∙ ap (λ t. map open_line (copies_of fs f.arrival) ++ t ∷ []) is in
-            let all = sym (map-append open_line (copies_of fs f.arrival) (f.history ∷ [])) ∙ ap (map open_line) (sym (copies_here fs f)) in
-            subst (λ p. map string_bytes lines.items ≡ map open_line (copies_of (fs ++ f ∷ []) p)) (sym place) (now ∙ texts ∙ all)
+            let texts = ap (λ ts. ts ++ string_bytes l ∷ []) (h.each f.arrival old at) ∙ ap (λ t. map open_line (arrival_copies fs f.arrival) ++ t ∷ []) is in
+            let all = sym (map-append open_line (arrival_copies fs f.arrival) (f.history ∷ [])) ∙ ap (map open_line) (sym (copies_here fs f)) in
+            subst (λ p. map string_bytes lines.items ≡ map open_line (arrival_copies (fs ++ f ∷ []) p)) (sym place) (now ∙ texts ∙ all)
         | inr (other, same) ↦ h.each k lines same ∙ ap (map open_line) (sym (copies_elsewhere fs f k other))
       ];
 }
 
 -- The lists from this place on are as they were.
 pub record HasCopiesFrom (flights : List Flight) (start : ℕ) (lists : List (Vec (String Global) Global)) : Type 0 where
-  pub each : (place : ℕ) (lines : Vec (String Global) Global) → start ≤ place → slice_get lists place ≡ Some lines → map string_bytes lines.items ≡ map open_line (copies_of flights place)
+  pub each : (place : ℕ) (lines : Vec (String Global) Global) → start ≤ place → slice_get lists place ≡ Some lines → map string_bytes lines.items ≡ map open_line (arrival_copies flights place)
 
 pub all_copies : (flights : List Flight) (lists : List (Vec (String Global) Global)) → HasCopies flights lists → HasCopiesFrom flights 0 lists
 all_copies flights lists h = record { each = λ k lines l at. h.each k lines at }
@@ -99,6 +99,6 @@ arrival_is flights k a lists old still text h at order same fate = record {
   place = k;
   number = refl;
   still = still;
-  in_flight = lines_of (codes "open ") (copies_of flights k) (map string_bytes old.items) still (h.each k old (omega arith) at) order same;
+  in_flight = lines_of (codes "open ") (arrival_copies flights k) (map string_bytes old.items) still (h.each k old (omega arith) at) order same;
   fate = fate;
 }

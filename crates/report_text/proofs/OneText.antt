@@ -6,11 +6,11 @@ use Rattle.std.specs.Ordering.{nat_cmp, ordering_reverse}
 use Rattle.std.specs.List.{flat_map}
 use Rattle.nk_values.specs.Members.{IsIn}
 use Rattle.nk_values.specs.Trails.{Trail}
-use Rattle.topology_model.specs.declared.line.Site.{Site}
+use Rattle.topology_model.specs.declared.line.DeclaredSwitch.{DeclaredSwitch}
 use Rattle.packet_tracer.specs.declared.flight.Flight.{Flight}
 use Rattle.update_laws.specs.Traffic.{Arrived}
 use Rattle.world_core.specs.declared.event.Event.{Event}
-use Rattle.report_text.specs.Copies.{copies_of}
+use Rattle.report_text.specs.Copies.{arrival_copies}
 use Rattle.report_text.specs.Events.{events_text}
 use Rattle.report_text.specs.Reports.{arrival_text, IsArrivalText, IsReportText}
 use Rattle.value_text.specs.Traces.{Ascends, AreLinesOf, AreTexts}
@@ -62,7 +62,7 @@ one-list head hs xs ys a b = same-lists xs ys a.order b.order (among head hs xs 
 one-arrival : (flights : List Flight) (n : ℕ) (a : Arrived) (x y : List ℕ) → IsArrivalText flights n a x → IsArrivalText flights n a y → x ≡ y
 one-arrival flights n a x y p q =
     let place : p.place ≡ q.place = let one = p.number in let two = q.number in omega (arith, one, two) in
-    let still : p.still ≡ q.still = one-list (codes "open ") (copies_of flights q.place) p.still q.still (subst (λ (k : ℕ). AreLinesOf (codes "open ") (copies_of flights k) p.still) place p.in_flight) q.in_flight in
+    let still : p.still ≡ q.still = one-list (codes "open ") (arrival_copies flights q.place) p.still q.still (subst (λ (k : ℕ). AreLinesOf (codes "open ") (arrival_copies flights k) p.still) place p.in_flight) q.in_flight in
     let done : p.fate.done ≡ q.fate.done = one-list (codes "done ") a.finished p.fate.done q.fate.done p.fate.finished q.fate.finished in
     p.fate.whole ∙ (λ i. line (arrival_text n a) ++ (flat_map line (done i) ++ flat_map line (still i))) ∙ sym q.fate.whole
 
@@ -74,7 +74,7 @@ one-each IsText one k (a ∷ rest) x y p q =
     p.4 ∙ (λ i. first i ++ more i) ∙ sym q.4
 
 -- The report of events and of what a world shows is one text.
-pub one-report : (switches : List Site) (events : List Event) (state : List ℕ) (flights : List Flight) (arrivals : List Arrived) (x y : List ℕ) →
+pub one-report : (switches : List DeclaredSwitch) (events : List Event) (state : List ℕ) (flights : List Flight) (arrivals : List Arrived) (x y : List ℕ) →
     IsReportText switches events state flights arrivals x → IsReportText switches events state flights arrivals y → x ≡ y
 one-report switches events state flights arrivals x y p q =
     let fates : p.fates ≡ q.fates = one-each (IsArrivalText flights) (one-arrival flights) 0 arrivals p.fates q.fates p.each q.each in

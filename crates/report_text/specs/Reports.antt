@@ -2,7 +2,7 @@
 use Rattle.std.specs.Prelude.{◌≡◌, ℕ, ◌+◌, List, ◌++◌, codes}
 use Rattle.std.specs.Fmt.{decimal}
 use Rattle.std.specs.List.{flat_map}
-use Rattle.topology_model.specs.declared.line.Site.{Site}
+use Rattle.topology_model.specs.declared.line.DeclaredSwitch.{DeclaredSwitch}
 use Rattle.packet_tracer.specs.declared.flight.Flight.{Flight}
 use Rattle.update_laws.specs.Traffic.{Arrived}
 use Rattle.world_core.specs.declared.event.Event.{Event}
@@ -11,7 +11,7 @@ use Rattle.value_text.specs.Values.{line, place_text}
 use Rattle.value_text.specs.Traces.{AreLinesOf, AreTexts}
 use Rattle.report_text.specs.Events.{events_text}
 use Rattle.report_text.specs.Causes.{control_text, entry_text}
-use Rattle.report_text.specs.Copies.{copies_of}
+use Rattle.report_text.specs.Copies.{arrival_copies}
 
 -- the n-th arrival: where it came in, and the entry that it met
 abbrev pub arrival_text : ℕ → Arrived → List ℕ
@@ -28,11 +28,11 @@ pub record IsArrivalText (flights : List Flight) (n : ℕ) (a : Arrived) (text :
   pub place : ℕ
   pub number : n ≡ place + 1
   pub still : List (List ℕ)
-  pub in_flight : AreLinesOf (codes "open ") (copies_of flights place) still
+  pub in_flight : AreLinesOf (codes "open ") (arrival_copies flights place) still
   pub fate : HasFate still n a text
 
 -- The text of a report: the events, how far the updates are, and what became of each arrival.
-pub record IsReportText (switches : List Site) (events : List Event) (state : List ℕ) (flights : List Flight) (arrivals : List Arrived) (text : List ℕ) : Type 0 where
+pub record IsReportText (switches : List DeclaredSwitch) (events : List Event) (state : List ℕ) (flights : List Flight) (arrivals : List Arrived) (text : List ℕ) : Type 0 where
   pub fates : List ℕ
   pub each : AreTexts (IsArrivalText flights) 0 arrivals fates
   pub whole : text ≡ events_text switches events ++ (state ++ fates)

@@ -2,7 +2,7 @@
 ghost use Rattle.std.specs.Prelude.{◌≡◌, ◌++◌, OnOk, IfOk, map, option_map, string_bytes};
 ghost use Rattle.report_text.specs.Causes.{state_text};
 ghost use Rattle.value_text.specs.Values.{line};
-ghost use Rattle.value_text.specs.Traces.{Adds, AreTexts};
+ghost use Rattle.value_text.specs.Traces.{AddsText, AreTexts};
 ghost use Rattle.report_text.specs.Reports.{arrival_text, HasFate, IsArrivalText, IsReportText, IsWorldReport};
 
 use crate::causes::{UpdateState, put_entry, put_state};
@@ -11,14 +11,14 @@ use crate::events::put_events;
 use flight_queues::Flights;
 use std::alloc::{AllocError, Global};
 use std::fmt::Write;
-use topology_model::Site;
+use topology_model::DeclaredSwitch;
 use value_text::{Text, history_lines, put_lines, put_place, sort_lines};
 use world_core::{Arrival, Events, World};
 
 /// How a network stands: its switches, how far the updates are, the copies in flight, and the packets that came in.
 #[derive(Clone, Copy)]
 pub struct Standing<'a> {
-    pub switches: &'a [Site],
+    pub switches: &'a [DeclaredSwitch],
     pub updates: UpdateState<'a>,
     pub flights: &'a Flights,
     pub arrivals: &'a [Arrival],
@@ -68,7 +68,7 @@ fn put_arrivals(
     arrivals: &[Arrival],
     flights: &Flights,
 ) -> Result<(), AllocError>
-    ensures { OnOk result (Adds (AreTexts (IsArrivalText flights.now) 0 arrivals.now) (string_bytes out.old) (string_bytes out.new)) }
+    ensures { OnOk result (AddsText (AreTexts (IsArrivalText flights.now) 0 arrivals.now) (string_bytes out.old) (string_bytes out.new)) }
 {
     let mut copies = open_lines(alloc, flights, arrivals.len())?;
     for (before, arrival) in arrivals.iter().enumerate() {
@@ -86,7 +86,7 @@ fn put_arrival(
     arrival: &Arrival,
     copies: &[String],
 ) -> Result<(), AllocError>
-    ensures { OnOk result (Adds (HasFate (map string_bytes copies.now) number arrival.now) (string_bytes out.old) (string_bytes out.new)) }
+    ensures { OnOk result (AddsText (HasFate (map string_bytes copies.now) number arrival.now) (string_bytes out.old) (string_bytes out.new)) }
 {
     let done = history_lines(alloc, "done ", arrival.finished())?;
     put_head(out, number, arrival)?;

@@ -9,7 +9,7 @@ use Rattle.update_laws.specs.Traffic.{Arrived, IsFlight}
 use Rattle.update_laws.proofs.Entering.{live-there}
 use Rattle.update_laws.proofs.Places.{get-some}
 use Rattle.world_core.specs.declared.event.Event.{Event}
-use Rattle.world_core.specs.Worlds.{WorldValue, setting, start, IsKept}
+use Rattle.world_core.specs.Worlds.{WorldValue, setting, initial_world, IsKept}
 use Rattle.world_core.proofs.Beginning.{start-kept}
 use Rattle.world_core.proofs.Kept.{run-keeps}
 use Rattle.run_laws.specs.Laws.{LeadsTo, IsCopyOf, CopiesFollow, CopiesCarry}
@@ -17,7 +17,7 @@ use Rattle.run_laws.proofs.Oldest.{Begin, runs-begin}
 
 -- each world that events lead to keeps the invariant
 pub leads-kept : (events : List Event) (w : WorldValue) → LeadsTo events w → IsKept w
-leads-kept events w l = run-keeps (start l.topology l.versions l.settings) events w l.runs (start-kept l.topology l.versions l.settings l.sound l.accepted l.hops)
+leads-kept events w l = run-keeps (initial_world l.topology l.versions l.settings) events w l.runs (start-kept l.topology l.versions l.settings l.sound l.accepted l.hops)
 
 copy-of : (w : WorldValue) (number : ℕ) (a : Arrived) (f : Flight) → IsKept w → Begin w.flights w.arrivals → IsIn w.flights f → slice_get w.arrivals f.arrival ≡ Some a → IsFlight (setting w) w.fleet.control.swept w.fleet.control.phase number f → IsCopyOf w number a f
 unfolding IsKept
@@ -45,4 +45,4 @@ follows w k b = record {
 pub copies-carry : CopiesCarry
 copies-carry events w l =
     follows w (leads-kept events w l)
-    (runs-begin (start l.topology l.versions l.settings) events w l.runs (record { known = λ f m. absurd m; begins = λ f a m e. absurd m }))
+    (runs-begin (initial_world l.topology l.versions l.settings) events w l.runs (record { known = λ f m. absurd m; begins = λ f a m e. absurd m }))

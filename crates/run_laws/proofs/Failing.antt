@@ -20,8 +20,8 @@ use Rattle.update_laws.specs.Wired.{Wire}
 use Rattle.update_laws.proofs.Fleets.{end-here}
 use Rattle.update_laws.proofs.Wiring.{head-is}
 use Rattle.world_core.specs.declared.event.Event.{Event}
-use Rattle.world_core.specs.Laws.{HasRoom}
-use Rattle.world_core.specs.Worlds.{WorldValue, setting, start, numbers_of, IsKept}
+use Rattle.world_core.specs.Laws.{HasTableRoom}
+use Rattle.world_core.specs.Worlds.{WorldValue, setting, initial_world, numbers_of, IsKept}
 use Rattle.world_core.proofs.Beginning.{start-kept}
 use Rattle.run_laws.specs.Laws.{LeadsTo, IsFailure, OnlyRefused}
 use Rattle.run_laws.proofs.Copies.{leads-kept}
@@ -120,12 +120,12 @@ failure-full w place why k x =
     line-full (setting w) w.fleet.control.swept w.fleet.control.phase (is_some w.fleet.control.halt) (wire_of w.fleet.control x.session.site h.reply x.end_) (running w.fleet.control.halt x.session.running)
     (k.fleet.lines place x.session.site h.reply x.end_ x.session.here h.reply_at x.here) x.session.there x.message x.rest x.front x.fault x.fails
 
-leads-room : HasRoom → (events : List Event) (w : WorldValue) → LeadsTo events w → KeepsRoom w
+leads-room : HasTableRoom → (events : List Event) (w : WorldValue) → LeadsTo events w → KeepsRoom w
 leads-room room events w l =
-    runs-room room (start l.topology l.versions l.settings) events w (start-kept l.topology l.versions l.settings l.sound l.accepted l.hops) l.runs
+    runs-room room (initial_world l.topology l.versions l.settings) events w (start-kept l.topology l.versions l.settings l.sound l.accepted l.hops) l.runs
     (λ r. start-room l.settings.capacity (numbers_of l.topology.switches))
 
-pub only-refused : HasRoom → OnlyRefused
+pub only-refused : HasTableRoom → OnlyRefused
 only-refused room events w place why l x =
     let k = leads-kept events w l in
     let full = failure-full w place why k x in

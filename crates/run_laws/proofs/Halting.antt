@@ -8,9 +8,9 @@ use Rattle.session_core.specs.declared.session.Move.TheVariants as moves
 use Rattle.update_coordinator.specs.declared.cause.Cause.{Cause}
 use Rattle.update_coordinator.specs.declared.cause.Cause.TheVariants as cause
 use Rattle.update_coordinator.specs.declared.cause.Side.{Side}
-use Rattle.update_coordinator.specs.Controls.{Control, Site, lost_by}
+use Rattle.update_coordinator.specs.Controls.{Control, Peer, lost_by}
 use Rattle.update_coordinator.specs.Hearing.{IsMoved, due, met, told}
-use Rattle.update_laws.specs.Fleets.{End, Fleet, HearsAt}
+use Rattle.update_laws.specs.Fleets.{WiredSwitch, Fleet, HearsAt}
 use Rattle.update_laws.proofs.Alike.{awaits-or-not}
 use Rattle.update_laws.proofs.Places.{below-either}
 use Rattle.update_laws.proofs.Wiring.{some-is, head-is}
@@ -56,8 +56,8 @@ failed-halt : (place sw : ℕ) (move : Move) (f : SessionFault) (c d : Control) 
 failed-halt place sw move f c d e m = ap (λ (x : Control). x.halt) (subst (λ (y : Move). IsMoved place sw y c d) e m)
 
 -- the coordinator while it hears a message
-abbrev hearing : ℕ → Message → Move → Site → Control → Control
-hearing place m move s c = record c { sites = slice_set c.sites place (met (due place c) move (told m s)) }
+abbrev hearing : ℕ → Message → Move → Peer → Control → Control
+hearing place m move s c = record c { peers = slice_set c.peers place (met (due place c) move (told m s)) }
 
 heard-halts : (place : ℕ) (w v : WorldValue) (why : Cause) → halt_of w ≡ None → InFleet (HearsAt place) w v → (halt_of v ≡ Some why) ↔ IsFailure place w why
 heard-halts place w v why running s = (there, back)
@@ -66,10 +66,10 @@ heard-halts place w v why running s = (there, back)
     after = ap (λ (x : WorldValue). x.fleet.control.halt) s.now ∙ ap (λ (x : Fleet). x.control.halt) s.step.now
 
     there : halt_of v ≡ Some why → IsFailure place w why
-    there h = elim (moved-halt place s.step.heard.site.sw s.step.move (hearing place s.step.message s.step.move s.step.heard.site w.fleet.control) s.step.control s.step.heard.now) [
+    there h = elim (moved-halt place s.step.heard.peer.sw s.step.move (hearing place s.step.message s.step.move s.step.heard.peer w.fleet.control) s.step.control s.step.heard.now) [
       | inl e ↦ none-here (halt_of v) (halt_of w) why (after ∙ e) running h
       | inr f ↦ record {
-        session = record { running = running; site = s.step.heard.site; here = s.step.heard.here; there = s.step.heard.there };
+        session = record { running = running; peer = s.step.heard.peer; here = s.step.heard.here; there = s.step.heard.there };
         end_ = s.step.old;
         here = s.step.here;
         message = s.step.message;
@@ -77,23 +77,23 @@ heard-halts place w v why running s = (there, back)
         front = s.step.front;
         fault = f.0;
         fails = sym s.step.heard.is ∙ f.1;
-        is = some-is why (cause.Failed s.step.heard.site.sw f.0)
-            (sym h ∙ after ∙ failed-halt place s.step.heard.site.sw s.step.move f.0 (hearing place s.step.message s.step.move s.step.heard.site w.fleet.control) s.step.control f.1 s.step.heard.now);
+        is = some-is why (cause.Failed s.step.heard.peer.sw f.0)
+            (sym h ∙ after ∙ failed-halt place s.step.heard.peer.sw s.step.move f.0 (hearing place s.step.message s.step.move s.step.heard.peer w.fleet.control) s.step.control f.1 s.step.heard.now);
       }
     ]
 
     back : IsFailure place w why → halt_of v ≡ Some why
     back x =
-        let site : x.session.site ≡ s.step.heard.site = some-is x.session.site s.step.heard.site (sym x.session.here ∙ s.step.heard.here) in
+        let peer : x.session.peer ≡ s.step.heard.peer = some-is x.session.peer s.step.heard.peer (sym x.session.here ∙ s.step.heard.here) in
         let end_ : x.end_ ≡ s.step.old = some-is x.end_ s.step.old (sym x.here ∙ s.step.here) in
-        let message : x.message ≡ s.step.message = head-is x.message s.step.message x.rest s.step.rest (sym x.front ∙ ap (λ (e : End). e.back) end_ ∙ s.step.front) in
-        let fails : s.step.move ≡ moves.Failed x.fault = s.step.heard.is ∙ (λ i. move_of (sym site i).session (sym message i)) ∙ x.fails in
-        after ∙ failed-halt place s.step.heard.site.sw s.step.move x.fault (hearing place s.step.message s.step.move s.step.heard.site w.fleet.control) s.step.control fails s.step.heard.now
-        ∙ ap (λ (y : Site). Some (cause.Failed y.sw x.fault)) (sym site) ∙ ap (λ (y : Cause). Some y) (sym x.is)
+        let message : x.message ≡ s.step.message = head-is x.message s.step.message x.rest s.step.rest (sym x.front ∙ ap (λ (e : WiredSwitch). e.back) end_ ∙ s.step.front) in
+        let fails : s.step.move ≡ moves.Failed x.fault = s.step.heard.is ∙ (λ i. move_of (sym peer i).session (sym message i)) ∙ x.fails in
+        after ∙ failed-halt place s.step.heard.peer.sw s.step.move x.fault (hearing place s.step.message s.step.move s.step.heard.peer w.fleet.control) s.step.control fails s.step.heard.now
+        ∙ ap (λ (y : Peer). Some (cause.Failed y.sw x.fault)) (sym peer) ∙ ap (λ (y : Cause). Some y) (sym x.is)
 
 -- ---- a session that is lost
 
-lost-for : (n place : ℕ) (s : Site) (c : Control) → n ≡ 0 → (lost_by n place s c).halt ≡ Some (cause.Lost s.sw)
+lost-for : (n place : ℕ) (s : Peer) (c : Control) → n ≡ 0 → (lost_by n place s c).halt ≡ Some (cause.Lost s.sw)
 lost-for n place s c e = ap (λ (m : ℕ). (lost_by m place s c).halt) e
 
 lost-halts : LastLossHalts → (place : ℕ) (w v : WorldValue) (why : Cause) → halt_of w ≡ None → InFleet (Loses place) w v → (halt_of v ≡ Some why) ↔ IsLastLoss place w why
@@ -101,20 +101,20 @@ lost-halts last-loss place w v why running s = elim s.step [
   | inl t ↦
       let after : halt_of v ≡ t.control.halt = ap (λ (x : WorldValue). x.fleet.control.halt) s.now ∙ ap (λ (x : Fleet). x.control.halt) t.now in (
         (λ h. none-here (halt_of v) t.control.halt why after t.goes_on h),
-        (λ x. none-here (t.control.halt) None (cause.Lost t.lost.site.sw) t.goes_on refl (ap (λ (c : Control). c.halt) t.lost.now ∙ lost-for w.fleet.control.rejoins place t.lost.site w.fleet.control x.none_left)),
+        (λ x. none-here (t.control.halt) None (cause.Lost t.lost.peer.sw) t.goes_on refl (ap (λ (c : Control). c.halt) t.lost.now ∙ lost-for w.fleet.control.rejoins place t.lost.peer w.fleet.control x.none_left)),
       )
   | inr t ↦
       let after : halt_of v ≡ t.control.halt = ap (λ (x : WorldValue). x.fleet.control.halt) s.now ∙ ap (λ (x : Fleet). x.control.halt) t.now in
-      let halts : w.fleet.control.rejoins ≡ 0 → halt_of v ≡ Some (cause.Lost t.lost.site.sw) = λ z. after ∙ ap (λ (c : Control). c.halt) t.lost.now ∙ lost-for w.fleet.control.rejoins place t.lost.site w.fleet.control z in (
+      let halts : w.fleet.control.rejoins ≡ 0 → halt_of v ≡ Some (cause.Lost t.lost.peer.sw) = λ z. after ∙ ap (λ (c : Control). c.halt) t.lost.now ∙ lost-for w.fleet.control.rejoins place t.lost.peer w.fleet.control z in (
         (λ h.
             let last : w.fleet.control.rejoins ≡ 0 = last-loss w place v s (λ n. none-here (halt_of v) None why n refl h) in
             record {
-              session = record { running = t.lost.running; site = t.lost.site; here = t.lost.here; there = t.lost.there };
+              session = record { running = t.lost.running; peer = t.lost.peer; here = t.lost.here; there = t.lost.there };
               none_left = last;
-              is = some-is why (cause.Lost t.lost.site.sw) (sym h ∙ halts last);
+              is = some-is why (cause.Lost t.lost.peer.sw) (sym h ∙ halts last);
             }),
         (λ x.
-            halts x.none_left ∙ ap (λ (y : Site). Some (cause.Lost y.sw)) (some-is t.lost.site x.session.site (sym t.lost.here ∙ x.session.here)) ∙ ap (λ (y : Cause). Some y) (sym x.is)),
+            halts x.none_left ∙ ap (λ (y : Peer). Some (cause.Lost y.sw)) (some-is t.lost.peer x.session.peer (sym t.lost.here ∙ x.session.here)) ∙ ap (λ (y : Cause). Some y) (sym x.is)),
       )
 ]
 
@@ -132,7 +132,7 @@ strange-halts place side got w v why s =
     let stands = s.may.1 in
     let after : halt_of v ≡ Some (foreign_cause side got stands.end_) = ap halt_of s.now in (
       (λ h. record { session = s.may.0; end_ = stands.end_; here = stands.here; other = stands.is; is = some-is why (foreign_cause side got stands.end_) (sym h ∙ after) }),
-      (λ x. after ∙ ap (λ (e : End). Some (foreign_cause side got e)) (some-is stands.end_ x.end_ (sym stands.here ∙ x.here)) ∙ ap (λ (y : Cause). Some y) (sym x.is)),
+      (λ x. after ∙ ap (λ (e : WiredSwitch). Some (foreign_cause side got e)) (some-is stands.end_ x.end_ (sym stands.here ∙ x.here)) ∙ ap (λ (y : Cause). Some y) (sym x.is)),
     )
 
 -- ---- any event

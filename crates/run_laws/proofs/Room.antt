@@ -6,7 +6,7 @@ use Rattle.nk_values.proofs.MemberLaws.{in-either}
 use Rattle.openflow_wire.specs.declared.message.Message.{Message}
 use Rattle.openflow_wire.specs.declared.message.Message.TheVariants as to
 use Rattle.switch_model.specs.Switches.{answer_of}
-use Rattle.update_laws.specs.Fleets.{End, Fleet}
+use Rattle.update_laws.specs.Fleets.{WiredSwitch, Fleet}
 use Rattle.update_laws.specs.Stages.{IsFullError}
 use Rattle.update_laws.specs.Wired.{answered, told_back}
 use Rattle.update_laws.proofs.Places.{put-set, get-map}
@@ -17,7 +17,7 @@ use Rattle.world_core.specs.declared.event.ControllerEvent.TheVariants as of_con
 use Rattle.world_core.specs.declared.event.PacketEvent.TheVariants as of_packet
 use Rattle.world_core.specs.declared.event.SwitchEvent.TheVariants as of_switch
 use Rattle.world_core.specs.Ends.{new_end}
-use Rattle.world_core.specs.Laws.{HasSpace, HasRoom}
+use Rattle.world_core.specs.Laws.{HasSpace, HasTableRoom}
 use Rattle.world_core.specs.Worlds.{WorldValue, IsKept}
 use Rattle.world_core.specs.Steps.{InFleet, Loses, Runs, Step}
 use Rattle.world_core.proofs.Kept.{step-keeps}
@@ -26,8 +26,8 @@ use Rattle.world_core.proofs.Kept.{step-keeps}
 abbrev pub NoneFull : List Message → Type 0
 NoneFull ms = (m : Message) → IsIn ms m → ¬ (IsFullError m)
 
-abbrev pub NoneIsFull : List End → Type 0
-NoneIsFull ends = (place : ℕ) (e : End) → slice_get ends place ≡ Some e → NoneFull e.back
+abbrev pub NoneIsFull : List WiredSwitch → Type 0
+NoneIsFull ends = (place : ℕ) (e : WiredSwitch) → slice_get ends place ≡ Some e → NoneFull e.back
 
 abbrev pub KeepsRoom : WorldValue → Type 0
 KeepsRoom w = HasSpace w → NoneIsFull w.fleet.ends
@@ -80,11 +80,11 @@ none-yet m k = absurd k
 -- ---- switches
 
 -- one switch has other messages on their way back
-set-back : (ends : List End) (place : ℕ) (old new : End) → slice_get ends place ≡ Some old → NoneIsFull ends → NoneFull new.back → NoneIsFull (slice_set ends place new)
+set-back : (ends : List WiredSwitch) (place : ℕ) (old new : WiredSwitch) → slice_get ends place ≡ Some old → NoneIsFull ends → NoneFull new.back → NoneIsFull (slice_set ends place new)
 set-back ends place old new here h n j e q =
     let put = put-set place ends old new here in
     elim (ℕ_discrete j place) [
-      | yes d ↦ subst (λ (x : End). NoneFull x.back) (some-is new e (sym put.at ∙ ap (λ (i : ℕ). slice_get (slice_set ends place new) i) (sym d) ∙ q)) n
+      | yes d ↦ subst (λ (x : WiredSwitch). NoneFull x.back) (some-is new e (sym put.at ∙ ap (λ (i : ℕ). slice_get (slice_set ends place new) i) (sym d) ∙ q)) n
       | no d ↦ h j e (sym (put.others j d) ∙ q)
     ]
 
@@ -97,7 +97,7 @@ in-fleet : (w v : WorldValue) (f : Fleet) → v ≡ record w { fleet = f } → I
 in-fleet w v f now h = subst KeepsRoom (sym now) h
 
 -- the switches become these
-ends-are : (w v : WorldValue) (f : Fleet) (ends : List End) → v ≡ record w { fleet = f } → f.ends ≡ ends → (HasSpace w → NoneIsFull ends) → KeepsRoom v
+ends-are : (w v : WorldValue) (f : Fleet) (ends : List WiredSwitch) → v ≡ record w { fleet = f } → f.ends ≡ ends → (HasSpace w → NoneIsFull ends) → KeepsRoom v
 ends-are w v f ends now e h = in-fleet w v f now (λ l. subst NoneIsFull (sym e) (h l))
 
 lost-room : (place : ℕ) (w v : WorldValue) → InFleet (Loses place) w v → KeepsRoom w → KeepsRoom v
@@ -106,7 +106,7 @@ lost-room place w v s h = elim s.step [
   | inr t ↦ ends-are w v s.fleet w.fleet.ends s.now (ap (λ (f : Fleet). f.ends) t.now) h
 ]
 
-step-room : HasRoom → (w : WorldValue) (e : Event) (v : WorldValue) → IsKept w → Step w e v → KeepsRoom w → KeepsRoom v
+step-room : HasTableRoom → (w : WorldValue) (e : Event) (v : WorldValue) → IsKept w → Step w e v → KeepsRoom w → KeepsRoom v
 step-room room w (event.Controller of_controller.Begin) v k s h = ends-are w v s.fleet w.fleet.ends s.now (ap (λ (f : Fleet). f.ends) s.step.now) h
 step-room room w (event.Controller (of_controller.Send p)) v k s h =
     ends-are w v s.fleet _ s.now (ap (λ (f : Fleet). f.ends) s.step.now) (λ l. set-back w.fleet.ends p s.step.old _ s.step.here (h l) (h l p s.step.old s.step.here))
@@ -134,11 +134,11 @@ step-room room w (event.Controller (of_controller.Rejoin p)) v k s h =
 step-room room w (event.Packet (of_packet.Stuck n)) v k s h = subst KeepsRoom (sym s.now) h
 step-room room w (event.Foreign p side got) v k s h = subst KeepsRoom (sym s.now) h
 
-pub runs-room : HasRoom → (w : WorldValue) (es : List Event) (v : WorldValue) → IsKept w → Runs w es v → KeepsRoom w → KeepsRoom v
+pub runs-room : HasTableRoom → (w : WorldValue) (es : List Event) (v : WorldValue) → IsKept w → Runs w es v → KeepsRoom w → KeepsRoom v
 runs-room room w [] v k r h = subst KeepsRoom r h
 runs-room room w (e ∷ es) v k r h = runs-room room r.0 es v (step-keeps w e r.0 r.1 k) r.2 (step-room room w e r.0 k r.1 h)
 
 pub start-room : (capacity : ℕ) (ns : List ℕ) → NoneIsFull (map (new_end capacity) ns)
 start-room capacity ns place e q =
     let x = get-map (new_end capacity) place ns e q in
-    subst (λ (y : End). NoneFull y.back) x.2 (one-hello 0)
+    subst (λ (y : WiredSwitch). NoneFull y.back) x.2 (one-hello 0)

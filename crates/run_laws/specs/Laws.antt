@@ -16,14 +16,14 @@ use Rattle.update_coordinator.specs.declared.cause.Cause.TheVariants as cause
 use Rattle.update_coordinator.specs.declared.cause.Side.{Side}
 use Rattle.update_laws.specs.Updates.{Live}
 use Rattle.update_laws.specs.Settings.{AreVersions, version_at}
-use Rattle.update_laws.specs.Fleets.{End}
+use Rattle.update_laws.specs.Fleets.{WiredSwitch}
 use Rattle.update_laws.specs.Traffic.{Arrived, IsCovered}
 use Rattle.world_core.specs.declared.event.Event.{Event}
 use Rattle.world_core.specs.declared.event.Event.TheVariants as event
 use Rattle.world_core.specs.declared.event.ControllerEvent.TheVariants as of_controller
 use Rattle.world_core.specs.declared.event.PacketEvent.TheVariants as of_packet
 use Rattle.world_core.specs.declared.settings.Settings.{Settings}
-use Rattle.world_core.specs.Worlds.{WorldValue, setting, start}
+use Rattle.world_core.specs.Worlds.{WorldValue, setting, initial_world}
 use Rattle.world_core.specs.Ends.{channel, HasSession, IsFront}
 use Rattle.world_core.specs.Steps.{foreign_cause, IsStuck, Runs, Step}
 
@@ -35,7 +35,7 @@ pub record LeadsTo (events : List Event) (w : WorldValue) : Type 0 where
   pub sound : IsTopology topology
   pub accepted : AreVersions topology versions settings.overlap
   pub hops : 1 ≤ settings.hops
-  pub runs : Runs (start topology versions settings) events w
+  pub runs : Runs (initial_world topology versions settings) events w
 
 -- ---- what copies carry
 
@@ -71,7 +71,7 @@ pub record IsLastLoss (place : ℕ) (w : WorldValue) (why : Cause) : Type 0 wher
 -- By the message at the front of the channel from it, the session fails.
 pub record IsFailure (place : ℕ) (w : WorldValue) (why : Cause) : Type 0 where
   pub session : HasSession place w.fleet.control
-  pub end_ : End
+  pub end_ : WiredSwitch
   pub here : slice_get w.fleet.ends place ≡ Some end_
   pub message : Message
   pub rest : List Message
@@ -88,7 +88,7 @@ pub record IsUndrained (k : ℕ) (w : WorldValue) (why : Cause) : Type 0 where
 -- other bytes than the front of a channel were received
 pub record IsStrange (place : ℕ) (side : Side) (got : List ℕ) (w : WorldValue) (why : Cause) : Type 0 where
   pub session : HasSession place w.fleet.control
-  pub end_ : End
+  pub end_ : WiredSwitch
   pub here : slice_get w.fleet.ends place ≡ Some end_
   pub other : ¬ (IsFront got (channel side end_))
   pub is : why ≡ foreign_cause side got end_
@@ -120,10 +120,10 @@ abbrev pub HaltsTell : Type 0
 HaltsTell = (w : WorldValue) (events : List Event) (v : WorldValue) (why : Cause) → w.fleet.control.halt ≡ None → Runs w events v → v.fleet.control.halt ≡ Some why → WasHalted w events why
 
 -- From a start of accepted policies, a session fails only by the error of a full table, and without overlap and with room for 130,000 rows by none.
-pub record IsRefused (w : WorldValue) (why : Cause) : Type 0 where
+pub record IsSessionRefused (w : WorldValue) (why : Cause) : Type 0 where
   pub sw : ℕ
   pub is : why ≡ cause.Failed sw (SwitchError 3 0)
   pub short : w.overlap ≡ None → w.capacity < 130000
 
 abbrev pub OnlyRefused : Type 0
-OnlyRefused = (events : List Event) (w : WorldValue) (place : ℕ) (why : Cause) → LeadsTo events w → HaltsFor w (event.Controller (of_controller.Heard place)) why → IsRefused w why
+OnlyRefused = (events : List Event) (w : WorldValue) (place : ℕ) (why : Cause) → LeadsTo events w → HaltsFor w (event.Controller (of_controller.Heard place)) why → IsSessionRefused w why

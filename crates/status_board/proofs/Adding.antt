@@ -7,7 +7,7 @@ use prog.Atomic.{either}
 use Rattle.logbook.specs.Pages.{Cell, cell, keeps, no_nib, step, Moves, Goes}
 use Rattle.status_board.specs.declared.post.Post.{Post}
 use Rattle.status_board.specs.Posts.{opening, newest, MayFollow, IsHistory}
-use Rattle.status_board.specs.Rules.{IsKept, Adds}
+use Rattle.status_board.specs.Rules.{IsKept, AddsPost}
 use Rattle.status_board.proofs.Beginnings.{prefix_whole}
 use Rattle.status_board.proofs.Rising.{rising-snoc}
 
@@ -19,7 +19,7 @@ moved xs ys n = Unit {0}
 
 pub adds_goes : (log v : List Post) (e : Post) (old : ℕ) → length v ≡ old → MayFollow v e → IsHistory log → IsPrefix v log
     → (b : Bool) → (length log == old) ≡ b
-    → Goes IsKept shown moved 0 (v, (no_nib, None)) (λ n. either (n == old) (old + 1) n) (Adds (step 0 old (old + 1) e) (v, (no_nib, None))) ((length log, true) ∷ (0, true) ∷ []) log
+    → Goes IsKept shown moved 0 (v, (no_nib, None)) (λ n. either (n == old) (old + 1) n) (AddsPost (step 0 old (old + 1) e) (v, (no_nib, None))) ((length log, true) ∷ (0, true) ∷ []) log
 adds_goes log v e old len may rising pre true is =
     let here : length log ≡ old = grind (arith, nat_tests) in
     let same : v ≡ log = prefix_whole v log pre (omega arith) in
@@ -48,9 +48,9 @@ adds_goes log v e old len may rising pre false is =
 
 -- whatever the book is, the exchange adds the post to all that was seen, or finds that the history is longer
 pub adds_moves : (v : List Post) (e : Post) (old : ℕ) → length v ≡ old → MayFollow v e
-    → Moves IsKept shown moved 0 (v, (no_nib, None)) (λ n. either (n == old) (old + 1) n) (Adds (step 0 old (old + 1) e) (v, (no_nib, None)))
+    → Moves IsKept shown moved 0 (v, (no_nib, None)) (λ n. either (n == old) (old + 1) n) (AddsPost (step 0 old (old + 1) e) (v, (no_nib, None)))
 adds_moves v e old len may cs log kept pre away =
-    let P : List Cell → Type 0 = λ c. (0 < length c) × ((cell c 0).1 ≡ true) × Goes IsKept shown moved 0 (v, (no_nib, None)) (λ n. either (n == old) (old + 1) n) (Adds (step 0 old (old + 1) e) (v, (no_nib, None))) c log in
+    let P : List Cell → Type 0 = λ c. (0 < length c) × ((cell c 0).1 ≡ true) × Goes IsKept shown moved 0 (v, (no_nib, None)) (λ n. either (n == old) (old + 1) n) (AddsPost (step 0 old (old + 1) e) (v, (no_nib, None))) c log in
     subst P (sym kept.words) (omega arith, refl, adds_goes log v e old len may kept.rising pre (length log == old) refl)
 
 -- what is told if the number that was found is the expected one

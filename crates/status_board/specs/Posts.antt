@@ -19,13 +19,13 @@ are_rising n [] = true
 are_rising n (p ∷ ps) = ltb n p.count && are_rising p.count ps
 
 -- the last of these posts, or p if there are none
-abbrev pub last_of : Post → List Post → Post
-last_of p [] = p
-last_of p (q ∷ qs) = last_of q qs
+abbrev pub last_post : Post → List Post → Post
+last_post p [] = p
+last_post p (q ∷ qs) = last_post q qs
 
 -- the newest of these posts, or the opening if there are none
 abbrev pub newest : List Post → Post
-newest posts = last_of opening posts
+newest posts = last_post opening posts
 
 -- the counts of these posts rise from 0
 abbrev pub IsHistory : List Post → Type 0

@@ -41,9 +41,9 @@ impl Gain<Post, u64> for NoGain {
 pub(crate) struct Add;
 
 impl Play<Post, u64> for Add {
-    ghost use Rattle.status_board.specs.Rules.{Adds};
+    ghost use Rattle.status_board.specs.Rules.{AddsPost};
 
-    ghost then = { Adds };
+    ghost then = { AddsPost };
 }
 
 // It asks for the post.

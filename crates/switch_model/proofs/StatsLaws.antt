@@ -17,7 +17,7 @@ use Rattle.openflow_wire.specs.FlowStats.{entry_len, entries_len, FitsEntry}
 use Rattle.openflow_wire.specs.Writing as wire
 use Rattle.openflow_wire.specs.KeyOrder.{IsRising}
 use Rattle.openflow_wire.proofs.RankLaws.{moved-members}
-use Rattle.switch_model.specs.Stats.{entry_of, reply, reply_len, Fits, HasRoom, IsFilled, IsOfTable, AreReplies, AreTold, ArePicked, TellsMore}
+use Rattle.switch_model.specs.Stats.{entry_of, reply, reply_len, Fits, HasEntryRoom, IsFilled, IsOfTable, AreReplies, AreTold, ArePicked, TellsMore}
 
 -- ---- lengths
 
@@ -184,7 +184,7 @@ none-told rows xid table change answer n a = record {
 -- ---- one step of the filling
 
 pub step-tells : (xid size : ℕ) (full : List Message) (entries : List FlowStats) (r : Row) (now : List Message) (next after : List FlowStats) → size ≡ entry_len (entry_of r) → size ≤ 60088
-    → HasRoom xid size full entries now next → after ≡ next ++ entry_of r ∷ [] → TellsMore xid full entries r now after
+    → HasEntryRoom xid size full entries now next → after ≡ next ++ entry_of r ∷ [] → TellsMore xid full entries r now after
 step-tells xid size full entries r now next after is small (inl h) e told a =
     let same = row-fits xid told full entries r (let le = h.0 in omega (arith, is, le)) a in
     subst (λ (es : List FlowStats). AreReplies xid (told ++ r ∷ []) (now ++ to.FlowStatsReply xid false es ∷ [])) (sym e)
@@ -197,13 +197,13 @@ step-tells xid size full entries r now next after is small (inr h) e told a =
     (subst (λ (ms : List Message). AreReplies xid (told ++ r ∷ []) (ms ++ to.FlowStatsReply xid false (entry_of r ∷ []) ∷ [])) (sym h.1) more))
 
 pub step-len : (xid size len : ℕ) (full : List Message) (entries : List FlowStats) (r : Row) (now : List Message) (next after : List FlowStats) → size ≡ entry_len (entry_of r) → size ≤ 60088
-    → HasRoom xid size full entries now next → after ≡ next ++ entry_of r ∷ [] → len ≡ reply_len next → (len + size ≡ reply_len after) × (len + size ≤ 65535)
+    → HasEntryRoom xid size full entries now next → after ≡ next ++ entry_of r ∷ [] → len ≡ reply_len next → (len + size ≡ reply_len after) × (len + size ≤ 65535)
 step-len xid size len full entries r now next after is small h e l = (whole, fits h)
   where
     whole : len + size ≡ reply_len after
     whole = let n = entries-more next (entry_of r) in let k = ap reply_len e in omega (arith, n, k, is, l)
 
-    fits : HasRoom xid size full entries now next → len + size ≤ 65535
+    fits : HasEntryRoom xid size full entries now next → len + size ≤ 65535
     fits (inl a) = let k = ap reply_len a.2 in let le = a.0 in omega (arith, k, le, l)
     fits (inr a) = let k = ap reply_len a.2 in omega (arith, k, l, small)
 

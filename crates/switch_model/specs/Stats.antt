@@ -3,7 +3,7 @@ use Rattle.std.specs.Prelude.{◌≡◌, ◌⊎◌, ℕ, ◌+◌, ◌<◌, ◌�
 use Rattle.nk_values.specs.declared.pattern.Pattern.{Pattern}
 use Rattle.nk_values.specs.declared.row.Row.{Row}
 use Rattle.nk_values.specs.declared.row.FlowMod.{FlowMod}
-use Rattle.nk_values.specs.declared.row.Command.TheVariants.{Delete}
+use Rattle.nk_values.specs.declared.row.FlowCommand.TheVariants.{Delete}
 use Rattle.nk_values.specs.Changes.{IsMeant}
 use Rattle.nk_values.specs.Members.{IsIn}
 use Rattle.openflow_wire.specs.declared.flow_stats.FlowStats.{FlowStats}
@@ -70,15 +70,15 @@ pub record AreTold (rows : List Row) (xid table : ℕ) (change : FlowMod) (answe
   pub replies : AreReplies xid told answer
 
 -- what is answered to a request for rows
-abbrev pub Tells : List Row → Message → List Message → Type 0
-Tells rows (to.FlowStatsRequest xid pattern table out_port) answer = AreTold rows xid table (deletion pattern out_port) answer
-Tells rows _ answer = ⊥
+abbrev pub AnswersStats : List Row → Message → List Message → Type 0
+AnswersStats rows (to.FlowStatsRequest xid pattern table out_port) answer = AreTold rows xid table (deletion pattern out_port) answer
+AnswersStats rows _ answer = ⊥
 
 -- ---- how replies are filled
 
 -- Replies that are full, and the next one with these entries, have room for an entry: as they are, or once the next one is full too.
-abbrev pub HasRoom : ℕ → ℕ → List Message → List FlowStats → List Message → List FlowStats → Type 0
-HasRoom xid size full entries now next =
+abbrev pub HasEntryRoom : ℕ → ℕ → List Message → List FlowStats → List Message → List FlowStats → Type 0
+HasEntryRoom xid size full entries now next =
     ((reply_len entries + size ≤ 65535) × (now ≡ full) × (next ≡ entries))
     ⊎ ((65535 < reply_len entries + size) × (now ≡ full ++ to.FlowStatsReply xid true entries ∷ []) × (next ≡ []))
 

@@ -4,7 +4,7 @@ ghost use Rattle.nk_values.specs.declared.row.Row.{Row as RowValue};
 ghost use Rattle.nk_values.specs.Fitting.{actions_len};
 ghost use Rattle.nk_values.specs.Members.{IsIn};
 ghost use Rattle.openflow_wire.specs.declared.message.Message.TheVariants as to;
-ghost use Rattle.switch_model.specs.Stats.{AreReplies, HasRoom, TellsMore, entry_of, reply_len};
+ghost use Rattle.switch_model.specs.Stats.{AreReplies, HasEntryRoom, TellsMore, entry_of, reply_len};
 
 use nk_values::{Duplicate, List, Row};
 use openflow_wire::{FlowStats, Message, entry_len};
@@ -77,7 +77,7 @@ impl Filling {
         requires few { self.old.len ≤ LONGEST }
         ensures xid { self.new.xid ≡ self.old.xid }
         ensures len { OnOk result (self.new.len ≡ reply_len self.new.entries) }
-        ensures room { OnOk result (HasRoom self.old.xid size self.old.full.items self.old.entries self.new.full.items self.new.entries) }
+        ensures room { OnOk result (HasEntryRoom self.old.xid size self.old.full.items self.old.entries self.new.full.items self.new.entries) }
     {
         if size <= LONGEST - self.len {
             return Ok(());

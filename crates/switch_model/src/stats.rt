@@ -6,12 +6,12 @@ ghost use Rattle.nk_values.specs.Fitting.{actions_len, IsWritable};
 ghost use Rattle.nk_values.specs.Members.{IsIn};
 ghost use Rattle.nk_values.specs.Tables.{Distinct};
 ghost use Rattle.openflow_wire.specs.Writing.{Fits};
-ghost use Rattle.switch_model.specs.Stats.{ArePicked, AreTold, IsOfTable, IsRequest, Tells, deletion};
+ghost use Rattle.switch_model.specs.Stats.{ArePicked, AreTold, IsOfTable, IsRequest, AnswersStats, deletion};
 
 use crate::replies::replies;
 use crate::switch::Switch;
 use flow_table::is_meant;
-use nk_values::{Actions, Command, Duplicate, FlowMod, Pattern, Row};
+use nk_values::{Actions, Duplicate, FlowCommand, FlowMod, Pattern, Row};
 use openflow_wire::{Message, rank};
 use std::alloc::{AllocError, Global};
 
@@ -24,7 +24,7 @@ impl Switch {
     pub fn stats(&self, alloc: Global, request: &Message) -> Result<Vec<Message>, AllocError>
         requires asks { IsRequest request.now }
         requires few { (r : RowValue) → IsIn self.now.table.rows r → actions_len r.actions ≤ 60000 }
-        ensures told { IfOk result (λ v. Tells self.now.table.rows request.now v.items) }
+        ensures told { IfOk result (λ v. AnswersStats self.now.table.rows request.now v.items) }
         ensures fits { Fits request.now → ((r : RowValue) → IsIn self.now.table.rows r → IsWritable r) → IfOk result (λ v. AllByRecursion Fits v.items) }
     {
         let Message::FlowStatsRequest {
@@ -77,7 +77,7 @@ fn rows_of_deletion(
     ensures { IfOk result (λ v. ArePicked (deletion pattern.now out_port) rows.now v.items) }
 {
     let change = FlowMod {
-        command: Command::Delete,
+        command: FlowCommand::Delete,
         pattern: *pattern,
         priority: 0,
         out_port,

@@ -3,7 +3,7 @@ ghost use Rattle.std.specs.Prelude.{IfOk};
 ghost use Rattle.openflow_wire.specs.Writing.{Fits};
 
 use bytes::BytesMut;
-use nk_values::{ANY_PORT, Action, Actions, Command, FlowMod, Pattern};
+use nk_values::{ANY_PORT, Action, Actions, FlowCommand, FlowMod, Pattern};
 use openflow_wire::{Message, encode};
 use std::alloc::{AllocError, Global};
 use switch_model::Switch;
@@ -14,7 +14,7 @@ pub fn add(alloc: Global, xid: u32, priority: u16) -> Result<Message, AllocError
 {
     let actions = Actions::one(Action::Output(2));
     let change = FlowMod {
-        command: Command::Add,
+        command: FlowCommand::Add,
         pattern: Pattern {
             in_port: Some(1),
             ..Pattern::any()

@@ -13,7 +13,7 @@ use Rattle.topology_model.specs.Wired.{IsTopology}
 use Rattle.policy_rows.specs.declared.version.Version.{Version}
 use Rattle.update_plan.specs.Batches.{internal_rows}
 use Rattle.update_coordinator.specs.Batches.{between, staying, internal_of, planned}
-use Rattle.update_laws.specs.Updates.{Setting, IsSetting, most_busy, spot, inner, IsInner, last_of, Phase, Opening, Idle, Install, Flip, Drain, Clean, Tidy, Sweep, Within, swept_after}
+use Rattle.update_laws.specs.Updates.{Setting, IsSetting, most_busy, spot, inner, IsInner, last_policy, Phase, Opening, Idle, Install, Flip, Drain, Clean, Tidy, Sweep, Within, swept_after}
 use Rattle.update_laws.specs.Settings.{stamp_in, setting_of, AreVersions}
 use Rattle.update_laws.proofs.Chosen.{swept-more}
 use Rattle.update_laws.proofs.Made.{made}
@@ -192,10 +192,10 @@ module _ (t : Layout) (vs : List Version) (limit capacity : ℕ) (overlap : Opti
       by_phase (Tidy i) = less i
       by_phase (Sweep i v) = less i
 
-  upto-last : upto ph ≤ last_of ph
+  upto-last : upto ph ≤ last_policy ph
   upto-last = by_phase ph
     where
-      by_phase : (p : Phase) → upto p ≤ last_of p
+      by_phase : (p : Phase) → upto p ≤ last_policy p
       by_phase Opening = omega arith
       by_phase (Idle i) = omega arith
       by_phase (Install i) = omega arith

@@ -5,7 +5,7 @@ use Rattle.nk_values.specs.declared.row.Row.{Row}
 use Rattle.nk_values.specs.Fitting.{IsWritable}
 use Rattle.nk_values.specs.Members.{IsIn}
 use Rattle.nk_values.specs.Tables.{Distinct}
-use Rattle.topology_model.specs.declared.line.Site.{Site}
+use Rattle.topology_model.specs.declared.line.DeclaredSwitch.{DeclaredSwitch}
 use Rattle.openflow_wire.specs.declared.message.Message.{Message}
 use Rattle.switch_model.specs.Switches.{SwitchValue}
 use Rattle.flow_audit.specs.declared.verdict.Verdict.{Verdict}
@@ -14,7 +14,7 @@ use Rattle.flow_audit.specs.Verdicts.{IsVerdict}
 use Rattle.flow_audit.proofs.CompareLaws.{verdict-moves}
 use Rattle.update_coordinator.specs.Batches.{planned}
 use Rattle.update_laws.specs.Updates.{spot}
-use Rattle.update_laws.specs.Fleets.{End}
+use Rattle.update_laws.specs.Fleets.{WiredSwitch}
 use Rattle.update_laws.proofs.Chosen.{belongs}
 use Rattle.update_laws.proofs.Places.{get-map, get-some}
 use Rattle.update_laws.proofs.Wiring.{get-mapped}
@@ -26,7 +26,7 @@ use Rattle.table_audit.proofs.Parts.{writable-rows}
 use Rattle.table_audit.proofs.Draining.{planned-is, plan-distinct}
 
 -- each row of a table can be written
-pub rows-writable : (w : WorldValue) → IsKept w → (place : ℕ) (e : End) → slice_get w.fleet.ends place ≡ Some e → (r : Row) → IsIn e.switch.table.rows r → IsWritable r
+pub rows-writable : (w : WorldValue) → IsKept w → (place : ℕ) (e : WiredSwitch) → slice_get w.fleet.ends place ≡ Some e → (r : Row) → IsIn e.switch.table.rows r → IsWritable r
 unfolding IsKept
 rows-writable w k place e here r m =
     let l = line-at w k place e here in
@@ -42,9 +42,9 @@ planned-distinct w k sw =
 
 -- the switch at a place, as it is lent, and its number
 pub record Stands (w : WorldValue) (place : ℕ) (lent : SwitchValue) : Type 0 where
-  pub site : Site
+  pub site : DeclaredSwitch
   pub named : slice_get w.topology.switches place ≡ Some site
-  pub end_ : End
+  pub end_ : WiredSwitch
   pub here : slice_get w.fleet.ends place ≡ Some end_
   pub number : end_.switch.sw ≡ site.sw
   pub is : lent ≡ end_.switch
@@ -56,7 +56,7 @@ pub stands : (w : WorldValue) → IsKept w → (place : ℕ) → place < length 
 unfolding IsKept
 stands w k place within lent h =
     let s = get-some place w.topology.switches within in
-    let e = get-map (λ (x : End). x.switch.sw) place w.fleet.ends s.0.sw (ap (λ (ns : List ℕ). slice_get ns place) k.places ∙ get-mapped (λ (x : Site). x.sw) place w.topology.switches s.0 s.1) in
+    let e = get-map (λ (x : WiredSwitch). x.switch.sw) place w.fleet.ends s.0.sw (ap (λ (ns : List ℕ). slice_get ns place) k.places ∙ get-mapped (λ (x : DeclaredSwitch). x.sw) place w.topology.switches s.0 s.1) in
     record { site = s.0; named = s.1; end_ = e.0; here = e.1; number = e.2; is = held (λ x. lent ≡ x.switch) (slice_get w.fleet.ends place) e.0 e.1 h }
 
 pub lent-writable : (w : WorldValue) → IsKept w → (place : ℕ) (lent : SwitchValue) → Stands w place lent → (r : Row) → IsIn lent.table.rows r → IsWritable r
@@ -80,4 +80,4 @@ audit-at w place lent s sw plan told reported (Err e) number is report same h = 
 
 pub as-many : (w : WorldValue) → IsKept w → length w.fleet.ends ≡ length w.topology.switches
 unfolding IsKept
-as-many w k = sym (length-map w.fleet.ends (λ (e : End). e.switch.sw)) ∙ ap (λ (ns : List ℕ). length ns) k.places ∙ length-map w.topology.switches (λ (s : Site). s.sw)
+as-many w k = sym (length-map w.fleet.ends (λ (e : WiredSwitch). e.switch.sw)) ∙ ap (λ (ns : List ℕ). length ns) k.places ∙ length-map w.topology.switches (λ (s : DeclaredSwitch). s.sw)

@@ -14,7 +14,7 @@ use Rattle.nk_values.specs.Tables.{SameKey, Distinct}
 use Rattle.nk_values.proofs.MemberLaws.{in-map, from-map, in-either}
 use Rattle.nk_values.proofs.PairLaws.{pairs-append, pairs-map, pairs-weaker, pairs-flat_map}
 use Rattle.topology_model.specs.Network.{Place}
-use Rattle.topology_model.specs.declared.line.Site.{Site}
+use Rattle.topology_model.specs.declared.line.DeclaredSwitch.{DeclaredSwitch}
 use Rattle.topology_model.specs.Layouts.{Layout, place_of, places_at}
 use Rattle.topology_model.specs.Wired.{IsSound, IsTopology}
 use Rattle.policy_rows.specs.declared.version.Version.{Version}
@@ -61,13 +61,13 @@ from-mapped : {X Y : Type 0} (f : X → Y) (xs : List X) → EachOnce (map f xs)
 from-mapped f [] h = tt
 from-mapped f (x ∷ xs) h = ((λ z m. h.0 (f z) (in-map f xs z m)), from-mapped f xs h.1)
 
-at-site : (s : Site) (a : Place) → IsIn (places_at s) a → a.sw ≡ s.sw
+at-site : (s : DeclaredSwitch) (a : Place) → IsIn (places_at s) a → a.sw ≡ s.sw
 at-site s a m = let r = from-map (λ n. place_of (s.sw, n)) s.ports a m in ap (λ (b : Place). b.sw) (sym r.2)
 
 pub places-once : (t : Layout) → IsSound t → EachOnce (flat_map places_at t.switches)
-places-once t k = pairs-flat_map places_at (λ a b. a.sw ≢ b.sw) (λ a b. a ≢ b) t.switches (from-mapped (λ (s : Site). s.sw) t.switches k.differ)
+places-once t k = pairs-flat_map places_at (λ a b. a.sw ≢ b.sw) (λ a b. a ≢ b) t.switches (from-mapped (λ (s : DeclaredSwitch). s.sw) t.switches k.differ)
     (λ s m. pairs-map (λ n. place_of (s.sw, n)) (λ a b. a ≢ b) s.ports
-    (pairs-weaker (λ m n. m ≢ n) (λ m n. place_of (s.sw, m) ≢ place_of (s.sw, n)) s.ports (λ m n i j differ same. differ (ap (λ (a : Place). a.pt) same)) (k.sites s m).differ))
+    (pairs-weaker (λ m n. m ≢ n) (λ m n. place_of (s.sw, m) ≢ place_of (s.sw, n)) s.ports (λ m n i j differ same. differ (ap (λ (a : Place). a.pt) same)) (k.peers s m).differ))
     (λ a b x y m n differ i j same. differ (sym (at-site a x i) ∙ ap (λ (p : Place). p.sw) same ∙ at-site b y j))
 
 from-ports : (sw n : ℕ) (places : List Place) → IsIn (ports_in places sw) n → IsIn places (spot sw n)

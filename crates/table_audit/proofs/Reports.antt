@@ -13,7 +13,7 @@ use Rattle.flow_audit.specs.declared.verdict.AuditFault.{AuditFault}
 use Rattle.flow_audit.specs.declared.verdict.AuditFault.TheVariants.{NotFlows, Unfinished, Twice}
 use Rattle.flow_audit.specs.Reports.{AreReports, IsWhole, all_rows, row_of}
 use Rattle.flow_audit.specs.Verdicts.{IsAuditFault, IsReported}
-use Rattle.switch_model.specs.Stats.{AreReplies, IsTold, Tells, deletion, entry_of}
+use Rattle.switch_model.specs.Stats.{AreReplies, IsTold, AnswersStats, deletion, entry_of}
 use Rattle.table_audit.specs.Reports.{AreReportOf, request}
 
 -- the rows of entries
@@ -48,7 +48,7 @@ is-whole xid rows (m ∷ n ∷ ms) a = subst (λ (x : Message). IsWhole (x ∷ n
 every-row : (rows : List Row) (r : Row) → IsIn rows r → IsTold rows 255 (deletion any 65535) r
 every-row rows r m = record { of_table = inr refl; among = m; meant = (refl, inl refl) }
 
-pub report-of : (rows : List Row) (ms : List Message) → Tells rows request ms → AreReportOf rows ms
+pub report-of : (rows : List Row) (ms : List Message) → AnswersStats rows request ms → AreReportOf rows ms
 report-of rows ms t =
     let is = told-rows 1 t.told ms t.replies in
     record {
@@ -61,8 +61,8 @@ report-of rows ms t =
     }
 
 -- what is answered to the request, as it comes over
-pub answered : {E : Type 0} (rows : List Row) (asked : Message) (sent told : List Message) (r : Result (Vec Message Global) E) → asked ≡ request → Tells rows asked told → sent ≡ told → IfOk r (λ v. v.items ≡ sent) → IfOk r (λ v. AreReportOf rows v.items)
-answered rows asked sent told (Ok v) same t is h = subst (λ (ms : List Message). AreReportOf rows ms) (sym (h ∙ is)) (report-of rows told (subst (λ (m : Message). Tells rows m told) same t))
+pub answered : {E : Type 0} (rows : List Row) (asked : Message) (sent told : List Message) (r : Result (Vec Message Global) E) → asked ≡ request → AnswersStats rows asked told → sent ≡ told → IfOk r (λ v. v.items ≡ sent) → IfOk r (λ v. AreReportOf rows v.items)
+answered rows asked sent told (Ok v) same t is h = subst (λ (ms : List Message). AreReportOf rows ms) (sym (h ∙ is)) (report-of rows told (subst (λ (m : Message). AnswersStats rows m told) same t))
 answered rows asked sent told (Err e) same t is h = tt
 
 -- a report has no fault

@@ -12,8 +12,8 @@ use Rattle.fdd_nodes.proofs.AfterLaws.{apply-push}
 use Rattle.leaf_actions.specs.declared.view.PortView.{PortView}
 use Rattle.table_emitter.specs.declared.fault.EmitError.{EmitError}
 use Rattle.table_emitter.specs.declared.kinds.Kinds.{Kinds}
-use Rattle.table_emitter.specs.Entries.{Entry, entries, AreRowsOf, AreRows, Adds, LeadsTo, AddsFrom}
-use Rattle.table_emitter.specs.Faults.{Bars, BarsFrom}
+use Rattle.table_emitter.specs.Entries.{Entry, entries, AreRowsOf, AreRows, AddsRows, LeadsTo, AddsFrom}
+use Rattle.table_emitter.specs.Faults.{RefusesPort, BarsFrom}
 use Rattle.table_emitter.specs.Kinds.{kinds_of, after_true, after_false, is_void}
 use Rattle.table_emitter.proofs.KindLaws.{kinds_true, kinds_false, no_entries}
 use Rattle.table_emitter.proofs.Listed.{adds_none, added_length, adds_then, bars_left, bars_right}
@@ -50,7 +50,7 @@ pub record IsAfter (v : PortView) (top : ℕ) (w : Way) (x : Packet) (k : Kinds)
   pub leads : LeadsTo x k way
   pub done : List Entry
   pub all : entries w d ≡ done ++ entries way e
-  pub rows : Adds v top done old new
+  pub rows : AddsRows v top done old new
 
 -- the walk of the part d stands at the part e
 pub record IsWalked (v : PortView) (top : ℕ) (x : Packet) (j k : Kinds) (d e : Tree) (old new : List Row) : Type 0 where
@@ -99,19 +99,19 @@ true_bars v top x y j k i d a t' t e l old mid z ea et ey ei h bars w led =
     let at = (subst (λ (u : Tree). IsWalked v top x j k d u old mid) ea h).each w led in
     let b = bars_at v (length mid) y (put l x) i (after_true k l) t' t z ey ei et bars (with_true at.way l) (leads_true x k at.way l at.leads) in
     let both = entries (with_true at.way l) t ++ entries (with_false at.way l) e in
-    subst (λ (es : List Entry). Bars v (length old) es z) (sym at.all)
+    subst (λ (es : List Entry). RefusesPort v (length old) es z) (sym at.all)
     (bars_right v top at.done both old mid z at.rows (bars_left v (length mid) (entries (with_true at.way l) t) (entries (with_false at.way l) e) z b))
 
 -- the rows of the part that is left
 rows_on : (v : PortView) (top : ℕ) (x : Packet) (j k : Kinds) (d a e : Tree) (old mid new : List Row) → a ≡ e → IsWalked v top x j k d a old mid → AddsFrom v top x k e mid new → AddsFrom v top x j d old new
 rows_on v top x j k d a e old mid new ea h adds w led =
     let at = (subst (λ (u : Tree). IsWalked v top x j k d u old mid) ea h).each w led in
-    subst (λ (es : List Entry). Adds v top es old new) (sym at.all) (adds_then v top at.done (entries at.way e) old mid new at.rows (adds at.way at.leads))
+    subst (λ (es : List Entry). AddsRows v top es old new) (sym at.all) (adds_then v top at.done (entries at.way e) old mid new at.rows (adds at.way at.leads))
 
 bars_on : (v : PortView) (top : ℕ) (x : Packet) (j k : Kinds) (d a e : Tree) (old mid : List Row) (z : EmitError) → a ≡ e → IsWalked v top x j k d a old mid → BarsFrom v (length mid) x k e z → BarsFrom v (length old) x j d z
 bars_on v top x j k d a e old mid z ea h bars w led =
     let at = (subst (λ (u : Tree). IsWalked v top x j k d u old mid) ea h).each w led in
-    subst (λ (es : List Entry). Bars v (length old) es z) (sym at.all) (bars_right v top at.done (entries at.way e) old mid z at.rows (bars at.way at.leads))
+    subst (λ (es : List Entry). RefusesPort v (length old) es z) (sym at.all) (bars_right v top at.done (entries at.way e) old mid z at.rows (bars at.way at.leads))
 
 pub last_rows : {T : Type 0} (v : PortView) (top : ℕ) (x : Packet) (j k : Kinds) (d a e : Tree) (old mid new : List Row) (o : Result T EmitError) → a ≡ e → IsWalked v top x j k d a old mid → OnOk o (AddsFrom v top x k e mid new) →
     OnOk o (AddsFrom v top x j d old new)
@@ -130,11 +130,11 @@ at_root x k ex ek = record { cell = ex; kinds = ek }
 -- the rows of a port, from its walk
 pub port_rows : (v : PortView) (top : ℕ) (d : Tree) (x : Packet) (k : Kinds) (old new : List Row) → x ≡ open_cell → k ≡ kinds_of no_tests → old ≡ [] → AddsFrom v top x k d old new → AreRows v top (entries no_tests d) new
 port_rows v top d x k old new ex ek eo a =
-    let b : Adds v top (entries no_tests d) [] new = subst (λ (rs : List Row). Adds v top (entries no_tests d) rs new) eo (a no_tests (at_root x k ex ek)) in
+    let b : AddsRows v top (entries no_tests d) [] new = subst (λ (rs : List Row). AddsRows v top (entries no_tests d) rs new) eo (a no_tests (at_root x k ex ek)) in
     record {
       rows = subst (λ (rs : List Row). AreRowsOf v top (entries no_tests d) rs) (sym b.all) (let e : top - 0 ≡ top = omega arith in subst (λ n. AreRowsOf v n (entries no_tests d) b.more) e b.rows);
       few = let l = added_length v top (entries no_tests d) [] new b in omega (arith, l, b.few);
     }
 
-pub port_bars : (v : PortView) (d : Tree) (x : Packet) (k : Kinds) (old : List Row) (z : EmitError) → x ≡ open_cell → k ≡ kinds_of no_tests → old ≡ [] → BarsFrom v (length old) x k d z → Bars v 0 (entries no_tests d) z
-port_bars v d x k old z ex ek eo b = subst (λ (rs : List Row). Bars v (length rs) (entries no_tests d) z) eo (b no_tests (at_root x k ex ek))
+pub port_bars : (v : PortView) (d : Tree) (x : Packet) (k : Kinds) (old : List Row) (z : EmitError) → x ≡ open_cell → k ≡ kinds_of no_tests → old ≡ [] → BarsFrom v (length old) x k d z → RefusesPort v 0 (entries no_tests d) z
+port_bars v d x k old z ex ek eo b = subst (λ (rs : List Row). RefusesPort v (length rs) (entries no_tests d) z) eo (b no_tests (at_root x k ex ek))

@@ -7,7 +7,7 @@ ghost use Rattle.fdd_nodes.specs.Trees.{Leaf as TreeLeaf, tree};
 ghost use Rattle.leaf_actions.specs.Settable.{AreSettable};
 ghost use Rattle.table_emitter.specs.Emission.{CanBeMade};
 ghost use Rattle.table_emitter.specs.Entries.{entries, AreActionsOf, AreRows, AddsFrom};
-ghost use Rattle.table_emitter.specs.Faults.{Bars, BarsFrom, BarsLeaf, BarsRow};
+ghost use Rattle.table_emitter.specs.Faults.{RefusesPort, BarsFrom, BarsLeaf, BarsRow};
 
 use crate::fault::EmitError;
 use crate::kinds::Kinds;
@@ -30,7 +30,7 @@ pub(crate) fn list_port(
     requires stamp { IsVlanId view.now.stamp }
     requires top { 16000 ≤ top }
     ensures rows { IfOk result (AreRows view.now top (entries no_tests (tree part.now))) }
-    ensures bars { IfErr result (Bars view.now 0 (entries no_tests (tree part.now))) }
+    ensures bars { IfErr result (RefusesPort view.now 0 (entries no_tests (tree part.now))) }
 {
     let mut rows = Vec::new(alloc);
     walk(

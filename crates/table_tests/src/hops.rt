@@ -7,8 +7,8 @@ ghost use Rattle.nk_values.specs.Changes.{row_of};
 use crate::networks::{Net, topology};
 use flow_index::{ChangeError, Table};
 use nk_values::{
-    ANY_PORT, Action, Actions, Command, FlowMod, Header, History, IN_PORT, List, Packet, Pattern,
-    Tag, in_range,
+    ANY_PORT, Action, Actions, FlowCommand, FlowMod, Header, History, IN_PORT, List, Packet,
+    Pattern, Tag, in_range,
 };
 use packet_tracer::{Flight, Hopped, hop};
 use std::alloc::{AllocError, Global};
@@ -43,7 +43,7 @@ fn entering(alloc: Global, hops: u64) -> Flight {
 
 // A table of one row, which any packet hits.
 fn table(alloc: Global, change: &mut FlowMod) -> Result<Table, ChangeError>
-    requires { change.old.command ≡ Command.Add }
+    requires { change.old.command ≡ FlowCommand.Add }
     ensures { IfOk result (λ t. (r : Row) → IsIn t.rows r → r ≡ row_of change.old) }
 {
     let mut table = Table::new(alloc, 1);
@@ -53,7 +53,7 @@ fn table(alloc: Global, change: &mut FlowMod) -> Result<Table, ChangeError>
 
 // A row that sends a packet back as it is, and one with another destination over the link.
 fn two_ways(alloc: Global) -> Result<FlowMod, AllocError>
-    ensures { IfOk result (λ change. change.command ≡ Command.Add) }
+    ensures { IfOk result (λ change. change.command ≡ FlowCommand.Add) }
 {
     let mut actions = List::new(alloc);
     actions.push(Action::Output(IN_PORT))?;
@@ -61,7 +61,7 @@ fn two_ways(alloc: Global) -> Result<FlowMod, AllocError>
     actions.push(Action::SetDlDst(5))?;
     actions.push(Action::Output(2))?;
     Ok(FlowMod {
-        command: Command::Add,
+        command: FlowCommand::Add,
         pattern: Pattern::any(),
         priority: 1,
         out_port: ANY_PORT,
@@ -77,7 +77,7 @@ fn hopped_by<R: Abort>(
     topology: &Topology,
     flight: &Flight,
 ) -> Result<Hopped, ChangeError>
-    requires { change.old.command ≡ Command.Add }
+    requires { change.old.command ≡ FlowCommand.Add }
 {
     let table = table(alloc, change)?;
     assert!(rt; in_range(flight.history.newest()));

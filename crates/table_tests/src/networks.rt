@@ -1,13 +1,13 @@
 // Small networks.
 use std::alloc::Global;
 use std::process::Abort;
-use topology_model::{End, Ports, TopoLine, Topology};
+use topology_model::{PortRef, Ports, TopoLine, Topology};
 
 /// Switches with their ports, and links.
 #[derive(Clone, Copy)]
 pub struct Net<'a> {
     pub switches: &'a [(u16, &'a [u16])],
-    pub links: &'a [(End, End)],
+    pub links: &'a [(PortRef, PortRef)],
 }
 
 fn lines(alloc: Global, net: Net) -> Option<Vec<TopoLine>> {

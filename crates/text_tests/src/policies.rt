@@ -1,5 +1,5 @@
 // Policies: places inside a larger text, predicates, and the most values.
-use netkat_parser::{ParseError, Place, parse_policy, parse_policy_at};
+use netkat_parser::{ParseError, Position, parse_policy, parse_policy_at};
 use nk_syntax::Pol;
 use nk_values::TextFault;
 use std::alloc::{AllocError, Global};
@@ -24,7 +24,7 @@ const INSIDE: [(&str, u64, u64, TextFault, u64, u64); 3] = [
 fn places(rt: HostRuntime) {
     for (text, line, column, fault, at_line, at_column) in INSIDE {
         assert!(rt; line < 100 && column < 100 && text.len() < 100);
-        let place = Place { line, column };
+        let place = Position { line, column };
         let found = refused(parse_policy_at(rt.alloc(), text.as_bytes(), place));
         assert_eq!(rt; found, Some((fault, at_line, at_column)), "{text}");
     }

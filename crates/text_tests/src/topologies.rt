@@ -3,13 +3,13 @@ use nk_syntax::{Pol, Pols};
 use std::alloc::{AllocError, Global};
 use std::process::Abort;
 use std::test::Fail;
-use topology_model::{End, Ports, TopoError, TopoLine, Topology};
+use topology_model::{PortRef, Ports, TopoError, TopoLine, Topology};
 
 // Switches with their ports, and then links.
 fn lines(
     alloc: Global,
     switches: &[(u16, &[u16])],
-    links: &[(End, End)],
+    links: &[(PortRef, PortRef)],
 ) -> Result<Vec<TopoLine>, AllocError> {
     let mut lines = Vec::new(alloc);
     for (sw, ports) in switches {

@@ -16,7 +16,7 @@ use Rattle.world_core.specs.declared.event.ControllerEvent.TheVariants as of_con
 use Rattle.world_core.specs.Laws.{EveryRunIsGood, HaltsStay, LossesCount, LastLossHalts, losses}
 use Rattle.world_core.specs.Steps.{Runs}
 use Rattle.world_core.specs.declared.settings.Settings.{Settings}
-use Rattle.world_core.specs.Worlds.{WorldValue, start}
+use Rattle.world_core.specs.Worlds.{WorldValue, initial_world}
 use Rattle.world_journal.specs.declared.entry.Entry.{Entry}
 use Rattle.world_journal.specs.declared.line.Line.{Line}
 use Rattle.world_journal.specs.Arriving.{IsLast, IsOver, IsSettled}
@@ -27,7 +27,7 @@ use Rattle.program_answer.specs.declared.answer.AnswerError.{AnswerError}
 use Rattle.program_answer.specs.declared.answer.AnswerError.TheVariants as error
 use Rattle.program_answer.specs.Answers.{Reads, Stops}
 use Rattle.program_answer.specs.Called.{Change, HasRisen, NetSeen, SourceSeen}
-use Rattle.program_answer.specs.Input.{IsAccepted, IsAcceptedAs, IsRefused}
+use Rattle.program_answer.specs.Input.{IsAccepted, IsAcceptedAs, IsInputRefused}
 use Rattle.program_answer.specs.Worlds.{IsWorldAnswer, start_of, world_settings}
 use Rattle.program_answer.proofs.Stopping.{reads_more}
 use Rattle.fleet_workers.specs.Watching.{AreSightsOf, Post}
@@ -103,8 +103,8 @@ lines_more [] l = refl
 lines_more (x ∷ ls) l = ap (λ (xs : List Line). line_of x ∷ xs) (lines_more ls l)
 
 -- the world that the call made is the document's
-pub starts_as : (d : Document) (versions : List Version) (w : WorldValue) (settings : Settings) → w ≡ start d.topology versions settings → settings ≡ world_settings d.settings → w ≡ start_of (doc_of d) versions
-starts_as d versions w settings a b = a ∙ ap (λ (x : Settings). start d.topology versions x) b
+pub starts_as : (d : Document) (versions : List Version) (w : WorldValue) (settings : Settings) → w ≡ initial_world d.topology versions settings → settings ≡ world_settings d.settings → w ≡ start_of (doc_of d) versions
+starts_as d versions w settings a b = a ∙ ap (λ (x : Settings). initial_world d.topology versions x) b
 
 -- ---- of a source
 
@@ -146,7 +146,7 @@ cut_stops s pairs threads d versions (error.Fault (fault.Compile policy f)) read
 cut_stops s pairs threads d versions (error.Fault (fault.Emit policy f)) read h = absurd h
 
 -- what stops every command stops a run
-pub input_stops : (s : SourceSeen) (pairs threads : Change ℕ) (e : AnswerError) → Stops IsRefused s e → RunStops s pairs threads e
+pub input_stops : (s : SourceSeen) (pairs threads : Change ℕ) (e : AnswerError) → Stops IsInputRefused s e → RunStops s pairs threads e
 input_stops s pairs threads error.Memory h = h
 input_stops s pairs threads (error.Fault fault.Net) h = absurd h
 input_stops s pairs threads (error.Fault fault.NoThread) h = absurd h

@@ -25,7 +25,7 @@ use Rattle.program_answer.specs.declared.answer.AnswerError.TheVariants as error
 use Rattle.program_answer.specs.declared.status.Status.{Status}
 use Rattle.program_answer.specs.Answers.{Reads, StopsBy}
 use Rattle.program_answer.specs.Called.{Change, HasRisen, IsSame, NetSeen, SourceSeen}
-use Rattle.program_answer.specs.Input.{IsAccepted, IsAcceptedAs, IsRefused}
+use Rattle.program_answer.specs.Input.{IsAccepted, IsAcceptedAs, IsInputRefused}
 use Rattle.program_answer.specs.Statuses.{report_status}
 use Rattle.program_answer.specs.Worlds.{start_of}
 
@@ -121,14 +121,14 @@ pub record IsCut (source : SourceSeen) (count : Change ℕ) : Type 0 where
 abbrev pub RunStopsBy : SourceSeen → Change ℕ → Change ℕ → Fault → Type 0
 RunStopsBy source pairs threads fault.Net = IsCut source pairs
 RunStopsBy source pairs threads fault.NoThread = IsCut source threads
-RunStopsBy source pairs threads fault.Report = StopsBy IsRefused source fault.Report
-RunStopsBy source pairs threads fault.Read = StopsBy IsRefused source fault.Read
-RunStopsBy source pairs threads fault.Usage = StopsBy IsRefused source fault.Usage
-RunStopsBy source pairs threads (fault.Line line column f) = StopsBy IsRefused source (fault.Line line column f)
-RunStopsBy source pairs threads (fault.NotEnabled line) = StopsBy IsRefused source (fault.NotEnabled line)
-RunStopsBy source pairs threads (fault.NotTwo line) = StopsBy IsRefused source (fault.NotTwo line)
-RunStopsBy source pairs threads (fault.Compile policy f) = StopsBy IsRefused source (fault.Compile policy f)
-RunStopsBy source pairs threads (fault.Emit policy f) = StopsBy IsRefused source (fault.Emit policy f)
+RunStopsBy source pairs threads fault.Report = StopsBy IsInputRefused source fault.Report
+RunStopsBy source pairs threads fault.Read = StopsBy IsInputRefused source fault.Read
+RunStopsBy source pairs threads fault.Usage = StopsBy IsInputRefused source fault.Usage
+RunStopsBy source pairs threads (fault.Line line column f) = StopsBy IsInputRefused source (fault.Line line column f)
+RunStopsBy source pairs threads (fault.NotEnabled line) = StopsBy IsInputRefused source (fault.NotEnabled line)
+RunStopsBy source pairs threads (fault.NotTwo line) = StopsBy IsInputRefused source (fault.NotTwo line)
+RunStopsBy source pairs threads (fault.Compile policy f) = StopsBy IsInputRefused source (fault.Compile policy f)
+RunStopsBy source pairs threads (fault.Emit policy f) = StopsBy IsInputRefused source (fault.Emit policy f)
 
 -- the same, if it is not out of memory, before which no read failed
 abbrev pub RunStops : SourceSeen → Change ℕ → Change ℕ → AnswerError → Type 0

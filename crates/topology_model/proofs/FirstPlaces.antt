@@ -6,17 +6,17 @@ use Rattle.std.proofs.lemmas.Option.{slice_get-get_or}
 use Rattle.std.specs.Option.{IsSomeAnd}
 use Rattle.topology_model.specs.Firsts.{firsts_of, HasPortsBehind}
 use Rattle.topology_model.specs.Layouts.{Layout, place_of, places_at}
-use Rattle.topology_model.specs.declared.line.Site.{Site}
+use Rattle.topology_model.specs.declared.line.DeclaredSwitch.{DeclaredSwitch}
 
-length-places : (s : Site) → length (places_at s) ≡ length s.ports
+length-places : (s : DeclaredSwitch) → length (places_at s) ≡ length s.ports
 length-places s = length-map s.ports (λ n. place_of (s.sw, n))
 
-pub length-firsts : (n : ℕ) (ss : List Site) → length (firsts_of n ss) ≡ length ss
+pub length-firsts : (n : ℕ) (ss : List DeclaredSwitch) → length (firsts_of n ss) ≡ length ss
 length-firsts n [] = refl
 length-firsts n (s ∷ ss) = omega (arith, length-firsts (n + length s.ports) ss)
 
 -- the number at a place
-firsts-get : (n : ℕ) (ss : List Site) (k : ℕ) → k < length ss → get_or (firsts_of n ss) k 0 ≡ n + length (flat_map places_at (take k ss))
+firsts-get : (n : ℕ) (ss : List DeclaredSwitch) (k : ℕ) → k < length ss → get_or (firsts_of n ss) k 0 ≡ n + length (flat_map places_at (take k ss))
 firsts-get n [] k h = absurd (omega (arith, h))
 firsts-get n (s ∷ ss) zero h = omega arith
 firsts-get n (s ∷ ss) (suc k) h =
@@ -24,7 +24,7 @@ firsts-get n (s ∷ ss) (suc k) h =
     let l = length-append (places_at s) (flat_map places_at (take k ss)) in
     omega (arith, more, l, length-places s)
 
-pub counted : (ss : List Site) (k : ℕ) → k < length ss → get_or (firsts_of 0 ss) k 0 ≡ length (flat_map places_at (take k ss))
+pub counted : (ss : List DeclaredSwitch) (k : ℕ) → k < length ss → get_or (firsts_of 0 ss) k 0 ≡ length (flat_map places_at (take k ss))
 counted ss k h = omega (arith, firsts-get 0 ss k h)
 
 -- whichever number stands for a place that is not there
@@ -33,12 +33,12 @@ get-any [] k d e h = absurd (omega (arith, h))
 get-any (n ∷ ns) zero d e h = refl
 get-any (n ∷ ns) (suc k) d e h = get-any ns k d e (omega (arith, h))
 
-pub first-at : (ss : List Site) (ns : List ℕ) (k n : ℕ) → k < length ss → ns ≡ firsts_of 0 ss → n ≡ get_or ns k n → n ≡ length (flat_map places_at (take k ss))
+pub first-at : (ss : List DeclaredSwitch) (ns : List ℕ) (k n : ℕ) → k < length ss → ns ≡ firsts_of 0 ss → n ≡ get_or ns k n → n ≡ length (flat_map places_at (take k ss))
 first-at ss ns k n h e g =
     g ∙ ap (λ xs. get_or xs k n) e ∙ get-any (firsts_of 0 ss) k n 0 (omega (arith, h, length-firsts 0 ss)) ∙ counted ss k h
 
 -- what stands there
-split-at : (ss : List Site) (k : ℕ) (d : Site) → k < length ss → flat_map places_at ss ≡ flat_map places_at (take k ss) ++ (places_at (get_or ss k d) ++ flat_map places_at (drop (suc k) ss))
+split-at : (ss : List DeclaredSwitch) (k : ℕ) (d : DeclaredSwitch) → k < length ss → flat_map places_at ss ≡ flat_map places_at (take k ss) ++ (places_at (get_or ss k d) ++ flat_map places_at (drop (suc k) ss))
 split-at [] k d h = absurd (omega (arith, h))
 split-at (s ∷ ss) zero d h = refl
 split-at (s ∷ ss) (suc k) d h =
@@ -47,7 +47,7 @@ split-at (s ∷ ss) (suc k) d h =
 
 pub ports-behind : (t : Layout) (k n : ℕ) → k < length t.switches → n ≡ length (flat_map places_at (take k t.switches)) → IsSomeAnd (slice_get t.switches k) (λ s. HasPortsBehind t s n)
 ports-behind t k n h e =
-    let d : Site = record { sw = 0; ports = [] } in
+    let d : DeclaredSwitch = record { sw = 0; ports = [] } in
     rw (slice_get-get_or t.switches k d h) (record {
       front = flat_map places_at (take k t.switches);
       back = flat_map places_at (drop (suc k) t.switches);
@@ -56,6 +56,6 @@ ports-behind t k n h e =
     })
 
 -- one more switch
-pub firsts-more : (all whole : List ℕ) (ss : List Site) (i n : ℕ) (d : Site) → i < length ss → all ++ firsts_of n (drop i ss) ≡ whole
+pub firsts-more : (all whole : List ℕ) (ss : List DeclaredSwitch) (i n : ℕ) (d : DeclaredSwitch) → i < length ss → all ++ firsts_of n (drop i ss) ≡ whole
     → (all ++ n ∷ []) ++ firsts_of (n + length (get_or ss i d).ports) (drop (i + 1) ss) ≡ whole
 firsts-more all whole ss i n d h e = rw (add-one, append_assoc) (let k = drop-cons ss i d h in ap (λ xs. all ++ firsts_of n xs) (sym k) ∙ e)

@@ -9,14 +9,14 @@ use Rattle.history_meaning.specs.Network.{Place}
 use Rattle.topology_model.specs.Ends.{same_end}
 use Rattle.topology_model.specs.Layouts.{Layout, place_of, has_port, same_place, far_end}
 use Rattle.topology_model.specs.Wired.{IsDeclared, IsSound}
-use Rattle.topology_model.specs.declared.line.Site.{Site}
+use Rattle.topology_model.specs.declared.line.DeclaredSwitch.{DeclaredSwitch}
 use Rattle.topology_model.proofs.Refused.{IsNewLink}
 use Rattle.topology_model.proofs.Wires.{place-same, same-place, linked, far_end-append}
 
 true-false : (b : Bool) → b ≡ true → b ≡ false → ⊥
 true-false b p q = cc
 
-pub live : (sites : List Site) (a b : ℕ × ℕ) (m n : ℕ × ℕ → Option (Option (ℕ × ℕ))) → has_port sites (place_of a) ≡ true → has_port sites (place_of b) ≡ true →
+pub live : (sites : List DeclaredSwitch) (a b : ℕ × ℕ) (m n : ℕ × ℕ → Option (Option (ℕ × ℕ))) → has_port sites (place_of a) ≡ true → has_port sites (place_of b) ≡ true →
     ((e : ℕ × ℕ) → is_some (m e) ≡ has_port sites (place_of e)) → ((e : ℕ × ℕ) → n e ≡ cond (same_end b e) (Some (Some a)) (cond (same_end a e) (Some (Some b)) (m e))) →
     (e : ℕ × ℕ) → is_some (n e) ≡ has_port sites (place_of e)
 live sites a b m n from to old now e = ap is_some (now e) ∙ split (same_end b e) (same_end a e) refl refl
@@ -62,7 +62,7 @@ any_in (x ∷ xs) n e = split (x == n) refl e (any_in xs n)
     split false d k f = inr (f k)
 
 -- what the test for a declared port tells
-pub declared : (sites : List Site) (links : List (Place × Place)) (a : Place) → has_port sites a ≡ true → IsDeclared (record { switches = sites; links = links }) a
+pub declared : (sites : List DeclaredSwitch) (links : List (Place × Place)) (a : Place) → has_port sites a ≡ true → IsDeclared (record { switches = sites; links = links }) a
 declared [] links a e = absurd (cc)
 declared (s ∷ ss) links a e = split (s.sw == a.sw) (list_any (λ n. n == a.pt) s.ports) refl refl e (declared ss links a)
   where
@@ -122,7 +122,7 @@ module _ (t : Layout) (a b : Place) (s : IsSound t) (fa : is_some (far_end t.lin
 
 pub sound : (t : Layout) (a b : ℕ × ℕ) → IsSound t → IsNewLink t a b → IsSound (record { switches = t.switches; links = t.links ++ (place_of a, place_of b) ∷ (place_of b, place_of a) ∷ [] })
 sound t a b s n = record {
-  sites = s.sites;
+  sites = s.peers;
   differ = s.differ;
   few = s.few;
   declared = λ x y m.

@@ -6,7 +6,7 @@ use Rattle.std.proofs.lemmas.Bool.Decides.{nat_tests, Decides-eqb}
 use Rattle.std.proofs.lemmas.List.Quantifiers.{position-Some}
 use Rattle.std.proofs.lemmas.Option.{slice_get-get_or}
 use Rattle.topology_model.specs.Layouts.{place_in}
-use Rattle.topology_model.specs.declared.line.Site.{Site}
+use Rattle.topology_model.specs.declared.line.DeclaredSwitch.{DeclaredSwitch}
 
 position-yes : {X : Type 0} (p : X → Bool) (x : X) (xs : List X) → p x ≡ true → position p (x ∷ xs) ≡ Some 0
 position-yes p x xs e = rw e (grind (arith, nat_tests))
@@ -46,12 +46,12 @@ position-new p (x ∷ xs) y e h = split (p x) refl h (position-new p xs y e)
     split false d k f = position-no p x (xs ++ y ∷ []) d ∙ ap (option_map (λ n. suc n)) (f (rw d at k))
 
 -- what stands at the place of a switch
-pub named : (sites : List Site) (sw k : ℕ) → place_in sites sw ≡ Some k → IsSomeAnd (slice_get sites k) (λ s. s.sw ≡ sw)
+pub named : (sites : List DeclaredSwitch) (sw k : ℕ) → place_in sites sw ≡ Some k → IsSomeAnd (slice_get sites k) (λ s. s.sw ≡ sw)
 named sites sw k e =
-    let d : Site = record { sw = 0; ports = [] } in
+    let d : DeclaredSwitch = record { sw = 0; ports = [] } in
     let r = position-Some (λ s. s.sw == sw) sites k d e in
     rw (slice_get-get_or sites k d r.0) ((Decides-eqb (get_or sites k d).sw sw).0 r.1)
 
-pub named_if : (sites : List Site) (sw : ℕ) (o : Option ℕ) → o ≡ place_in sites sw → IfSome o (λ k. IsSomeAnd (slice_get sites k) (λ s. s.sw ≡ sw))
+pub named_if : (sites : List DeclaredSwitch) (sw : ℕ) (o : Option ℕ) → o ≡ place_in sites sw → IfSome o (λ k. IsSomeAnd (slice_get sites k) (λ s. s.sw ≡ sw))
 named_if sites sw None e = tt
 named_if sites sw (Some k) e = named sites sw k (sym e)

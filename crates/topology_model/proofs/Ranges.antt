@@ -10,13 +10,13 @@ use Rattle.history_meaning.specs.Network.{Place}
 use Rattle.topology_model.specs.Layouts.{Layout, place_of, both_ways, has_port, is_linked, far_end, is_edge, places_at, edges_of, wiring}
 use Rattle.topology_model.specs.Lines.{IsEnd}
 use Rattle.topology_model.specs.Wired.{IsDeclared, IsSound, IsWiring}
-use Rattle.topology_model.specs.declared.line.Site.{Site}
+use Rattle.topology_model.specs.declared.line.DeclaredSwitch.{DeclaredSwitch}
 use Rattle.topology_model.proofs.Linking.{declared}
 use Rattle.topology_model.proofs.Wires.{linked, joined}
 
 pub in_range : (t : Layout) (a : Place) → IsSound t → IsDeclared t a → IsValue Sw a.sw × IsValue Pt a.pt
 in_range t a s d =
-    let site = s.sites d.site d.among in
+    let site = s.peers d.site d.among in
     (subst (λ (n : ℕ). IsValue Sw n) d.switch site.switch, site.ports a.pt d.port)
 
 -- a place of a list of numbers
@@ -58,11 +58,11 @@ in_any (x ∷ xs) n (inr m) = split (x == n) (in_any xs n m)
     split false h = h
 
 -- and what makes the test true
-pub has : (sites : List Site) (s : Site) (a : Place) → IsIn sites s → s.sw ≡ a.sw → IsIn s.ports a.pt → has_port sites a ≡ true
+pub has : (sites : List DeclaredSwitch) (s : DeclaredSwitch) (a : Place) → IsIn sites s → s.sw ≡ a.sw → IsIn s.ports a.pt → has_port sites a ≡ true
 has [] s a m e p = absurd m
 has (x ∷ xs) s a (inl d) e p =
-    let sw : (x.sw == a.sw) ≡ true = (Decides-eqb x.sw a.sw).1 (ap (λ (z : Site). z.sw) d ∙ e) in
-    let pt : list_any (λ n. n == a.pt) x.ports ≡ true = in_any x.ports a.pt (subst (λ (z : Site). IsIn z.ports a.pt) (sym d) p) in
+    let sw : (x.sw == a.sw) ≡ true = (Decides-eqb x.sw a.sw).1 (ap (λ (z : DeclaredSwitch). z.sw) d ∙ e) in
+    let pt : list_any (λ n. n == a.pt) x.ports ≡ true = in_any x.ports a.pt (subst (λ (z : DeclaredSwitch). IsIn z.ports a.pt) (sym d) p) in
     rw (sw, pt) refl
 has (x ∷ xs) s a (inr m) e p = split (x.sw == a.sw && list_any (λ n. n == a.pt) x.ports) (has xs s a m e p)
   where

@@ -16,15 +16,15 @@ use Rattle.history_meaning.proofs.Runs.{only}
 use Rattle.topology_model.specs.Layouts.{Layout, place_of, place_in, has_switch, has_port, far_end}
 use Rattle.topology_model.specs.Lines.{IsLineInRange, has_repeat}
 use Rattle.topology_model.specs.Wired.{IsSite, IsSound}
-use Rattle.topology_model.specs.declared.line.Site.{Site}
+use Rattle.topology_model.specs.declared.line.DeclaredSwitch.{DeclaredSwitch}
 use Rattle.topology_model.specs.declared.line.TopoLine.TheVariants.{Switch}
 use Rattle.topology_model.proofs.Positions.{position-other, position-new}
 use Rattle.topology_model.proofs.Refused.{IsNewSwitch}
 
-abbrev site : ℕ → List ℕ → Site
+abbrev site : ℕ → List ℕ → DeclaredSwitch
 site sw ports = record { sw = sw; ports = ports }
 
-pub placed : (sites : List Site) (sw : ℕ) (ports : List ℕ) (m n : ℕ → Option ℕ) → has_switch sites sw ≡ false → ((q : ℕ) → m q ≡ place_in sites q) →
+pub placed : (sites : List DeclaredSwitch) (sw : ℕ) (ports : List ℕ) (m n : ℕ → Option ℕ) → has_switch sites sw ≡ false → ((q : ℕ) → m q ≡ place_in sites q) →
     ((q : ℕ) → n q ≡ cond (sw == q) (Some (length sites)) (m q)) → (q : ℕ) → n q ≡ place_in (sites ++ site sw ports ∷ []) q
 placed sites sw ports m n new old now q = now q ∙ split (sw == q) refl
   where
@@ -32,7 +32,7 @@ placed sites sw ports m n new old now q = now q ∙ split (sw == q) refl
     split true e = sym (position-new (λ s. s.sw == q) sites (site sw ports) e (subst (λ (k : ℕ). has_switch sites k ≡ false) ((Decides-eqb sw q).0 e) new))
     split false e = old q ∙ sym (position-other (λ s. s.sw == q) sites (site sw ports) e)
 
-pub no_port : (sites : List Site) (sw pt : ℕ) → has_switch sites sw ≡ false → has_port sites (place_of (sw, pt)) ≡ false
+pub no_port : (sites : List DeclaredSwitch) (sw pt : ℕ) → has_switch sites sw ≡ false → has_port sites (place_of (sw, pt)) ≡ false
 no_port [] sw pt e = refl
 no_port (s ∷ ss) sw pt e = split (s.sw == sw) e (no_port ss sw pt)
   where
@@ -40,7 +40,7 @@ no_port (s ∷ ss) sw pt e = split (s.sw == sw) e (no_port ss sw pt)
     split true d f = absurd (cc)
     split false d f = f d
 
-pub live : (sites : List Site) (sw : ℕ) (ports : List ℕ) (m n : ℕ × ℕ → Option (Option (ℕ × ℕ))) → ((e : ℕ × ℕ) → is_some (m e) ≡ has_port sites (place_of e)) →
+pub live : (sites : List DeclaredSwitch) (sw : ℕ) (ports : List ℕ) (m n : ℕ × ℕ → Option (Option (ℕ × ℕ))) → ((e : ℕ × ℕ) → is_some (m e) ≡ has_port sites (place_of e)) →
     ((e : ℕ × ℕ) → n e ≡ cond (sw == e.0 && list_any (λ k. k == e.1) ports) (Some None) (m e)) → (e : ℕ × ℕ) → is_some (n e) ≡ has_port (sites ++ site sw ports ∷ []) (place_of e)
 live sites sw ports m n old now e =
     ap is_some (now e) ∙ split (sw == e.0 && list_any (λ k. k == e.1) ports) (has_port sites (place_of e)) (old e)
@@ -52,7 +52,7 @@ live sites sw ports m n old now e =
     split false true h = h
     split false false h = h
 
-pub far : (sites : List Site) (sw : ℕ) (ports : List ℕ) (links : List (Place × Place)) (m n : ℕ × ℕ → Option (Option (ℕ × ℕ))) → has_switch sites sw ≡ false →
+pub far : (sites : List DeclaredSwitch) (sw : ℕ) (ports : List ℕ) (links : List (Place × Place)) (m n : ℕ × ℕ → Option (Option (ℕ × ℕ))) → has_switch sites sw ≡ false →
     ((e : ℕ × ℕ) → is_some (m e) ≡ has_port sites (place_of e)) → ((e : ℕ × ℕ) → option_map place_of (option_flatten (m e)) ≡ far_end links (place_of e)) →
     ((e : ℕ × ℕ) → n e ≡ cond (sw == e.0 && list_any (λ k. k == e.1) ports) (Some None) (m e)) → (e : ℕ × ℕ) → option_map place_of (option_flatten (n e)) ≡ far_end links (place_of e)
 far sites sw ports links m n new has old now e = ap (λ o. option_map place_of (option_flatten o)) (now e) ∙ split (sw == e.0) (list_any (λ k. k == e.1) ports) refl
@@ -68,7 +68,7 @@ far sites sw ports links m n new has old now e = ap (λ o. option_map place_of (
     split false c d = old e
 
 -- a number that no switch has
-unnamed : (sites : List Site) (sw : ℕ) → has_switch sites sw ≡ false → ¬ (IsIn (map (λ s. s.sw) sites) sw)
+unnamed : (sites : List DeclaredSwitch) (sw : ℕ) → has_switch sites sw ≡ false → ¬ (IsIn (map (λ s. s.sw) sites) sw)
 unnamed [] sw e m = m
 unnamed (s ∷ ss) sw e m = split (s.sw == sw) refl e m (unnamed ss sw)
   where
@@ -77,10 +77,10 @@ unnamed (s ∷ ss) sw e m = split (s.sw == sw) refl e m (unnamed ss sw)
     split false d k (inl h) f = let t : (s.sw == sw) ≡ true = (Decides-eqb s.sw sw).1 h in absurd (cc)
     split false d k (inr h) f = f k h
 
-pub differ_push : (sites : List Site) (sw : ℕ) (ports : List ℕ) → EachOnce (map (λ s. s.sw) sites) → ¬ (IsIn (map (λ s. s.sw) sites) sw) → EachOnce (map (λ s. s.sw) (sites ++ site sw ports ∷ []))
+pub differ_push : (sites : List DeclaredSwitch) (sw : ℕ) (ports : List ℕ) → EachOnce (map (λ s. s.sw) sites) → ¬ (IsIn (map (λ s. s.sw) sites) sw) → EachOnce (map (λ s. s.sw) (sites ++ site sw ports ∷ []))
 differ_push sites sw ports d n =
-    let numbers : List ℕ = map (λ (s : Site). s.sw) sites in
-    subst (λ (ns : List ℕ). EachOnce ns) (sym (map-append (λ (s : Site). s.sw) sites (site sw ports ∷ [])))
+    let numbers : List ℕ = map (λ (s : DeclaredSwitch). s.sw) sites in
+    subst (λ (ns : List ℕ). EachOnce ns) (sym (map-append (λ (s : DeclaredSwitch). s.sw) sites (site sw ports ∷ [])))
     (pairs-append (λ a b. a ≢ b) numbers (sw ∷ []) d ((λ y m. absurd m), tt) (λ a b m k same. n (subst (λ (i : ℕ). IsIn numbers i) (same ∙ sym (only sw b k)) m)))
 
 -- the test for numbers that come twice
@@ -111,8 +111,8 @@ pub sound : (t : Layout) (sw : ℕ) (ports : List ℕ) → IsSound t → IsLineI
     IsSound (record { switches = t.switches ++ site sw ports ∷ []; links = t.links })
 sound t sw ports s r n = record {
   sites = λ x m. elim (in-either t.switches (site sw ports ∷ []) x m) [
-    | inl y ↦ s.sites x y
-    | inr y ↦ elim y [ inl e ↦ subst (λ (z : Site). IsSite z) e (record { switch = r.0; ports = λ n k. each_in (IsValue Pt) ports n r.1 k; differ = no_repeat ports n.differ; few = n.few }) | inr y ↦ absurd y ]
+    | inl y ↦ s.peers x y
+    | inr y ↦ elim y [ inl e ↦ subst (λ (z : DeclaredSwitch). IsSite z) e (record { switch = r.0; ports = λ n k. each_in (IsValue Pt) ports n r.1 k; differ = no_repeat ports n.differ; few = n.few }) | inr y ↦ absurd y ]
   ];
   differ = differ_push t.switches sw ports s.differ (unnamed t.switches sw n.new);
   few = omega (arith, length-append t.switches (site sw ports ∷ []), n.room);

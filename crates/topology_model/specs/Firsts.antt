@@ -3,15 +3,15 @@ use Rattle.std.specs.Prelude.{◌≡◌, ℕ, ◌+◌, List, [], ◌∷◌, ◌+
 use Rattle.std.specs.List.{flat_map}
 use Rattle.history_meaning.specs.Network.{Place}
 use Rattle.topology_model.specs.Layouts.{Layout, places_at}
-use Rattle.topology_model.specs.declared.line.Site.{Site}
+use Rattle.topology_model.specs.declared.line.DeclaredSwitch.{DeclaredSwitch}
 
 -- how many ports come before those of each switch, where so many come before the first
-abbrev pub firsts_of : ℕ → List Site → List ℕ
+abbrev pub firsts_of : ℕ → List DeclaredSwitch → List ℕ
 firsts_of n [] = []
 firsts_of n (s ∷ ss) = n ∷ firsts_of (n + length s.ports) ss
 
 -- the ports of the switch stand behind this many others, in declared order
-pub record HasPortsBehind (t : Layout) (s : Site) (n : ℕ) : Type 0 where
+pub record HasPortsBehind (t : Layout) (s : DeclaredSwitch) (n : ℕ) : Type 0 where
   pub front : List Place
   pub back : List Place
   pub parts : flat_map places_at t.switches ≡ front ++ (places_at s ++ back)

@@ -2,11 +2,11 @@
 use Rattle.std.specs.Prelude.{ℕ, Bool, ◌==◌, ◌&&◌, List, [], ◌∷◌, map, filter, position, Option, Some, None, is_some, not, if◌then◌else◌}
 use Rattle.std.specs.List.{flat_map, list_any}
 use Rattle.history_meaning.specs.Network.{Place, Wiring}
-use Rattle.topology_model.specs.declared.line.Site.{Site}
+use Rattle.topology_model.specs.declared.line.DeclaredSwitch.{DeclaredSwitch}
 
 -- The switches with their ports, in declared order, and the links, each in both directions.
 pub record Layout : Type 0 where
-  pub switches : List Site
+  pub switches : List DeclaredSwitch
   pub links : List (Place × Place)
 
 abbrev pub empty : Layout
@@ -21,15 +21,15 @@ abbrev pub both_ways : (ℕ × ℕ) × (ℕ × ℕ) → List (Place × Place)
 both_ways l = (place_of l.0, place_of l.1) ∷ (place_of l.1, place_of l.0) ∷ []
 
 -- where a switch stands among the switches
-abbrev pub place_in : List Site → ℕ → Option ℕ
+abbrev pub place_in : List DeclaredSwitch → ℕ → Option ℕ
 place_in sites sw = position (λ s. s.sw == sw) sites
 
 -- the switch is declared
-abbrev pub has_switch : List Site → ℕ → Bool
+abbrev pub has_switch : List DeclaredSwitch → ℕ → Bool
 has_switch sites sw = list_any (λ s. s.sw == sw) sites
 
 -- the port is declared
-abbrev pub has_port : List Site → Place → Bool
+abbrev pub has_port : List DeclaredSwitch → Place → Bool
 has_port sites a = list_any (λ s. s.sw == a.sw && list_any (λ n. n == a.pt) s.ports) sites
 
 abbrev pub same_place : Place → Place → Bool
@@ -48,7 +48,7 @@ abbrev pub is_edge : Layout → Place → Bool
 is_edge t a = has_port t.switches a && not (is_linked t a)
 
 -- the ports of a switch as places
-abbrev pub places_at : Site → List Place
+abbrev pub places_at : DeclaredSwitch → List Place
 places_at s = map (λ n. place_of (s.sw, n)) s.ports
 
 -- the declared ports that no link has, in declared order

@@ -5,7 +5,7 @@ use Rattle.nk_values.specs.declared.field.Field.TheVariants.{Sw, Pt}
 use Rattle.nk_values.specs.Ranges.{IsValue}
 use Rattle.history_meaning.specs.Network.{Place}
 use Rattle.topology_model.specs.Layouts.{Layout, place_of, both_ways, has_switch, has_port, same_place, is_linked, edges_of}
-use Rattle.topology_model.specs.declared.line.Site.{Site}
+use Rattle.topology_model.specs.declared.line.DeclaredSwitch.{DeclaredSwitch}
 use Rattle.topology_model.specs.declared.line.TopoLine.{TopoLine}
 use Rattle.topology_model.specs.declared.line.TopoLine.TheVariants.{Switch, Link}
 use Rattle.nk_values.specs.declared.fault.TextFault.{TextFault}
@@ -21,7 +21,7 @@ IsLineInRange (Switch sw ports) = IsValue Sw sw × All (IsValue Pt) ports
 IsLineInRange (Link a b) = IsEnd a × IsEnd b
 
 -- what a line declares: a switch, or a link in both directions
-abbrev pub sites_in : TopoLine → List Site
+abbrev pub sites_in : TopoLine → List DeclaredSwitch
 sites_in (Switch sw ports) = record { sw = sw; ports = ports } ∷ []
 sites_in (Link a b) = []
 

@@ -5,10 +5,10 @@ use Rattle.nk_values.specs.Members.{IsIn, EachOnce}
 use Rattle.nk_values.specs.Ranges.{IsValue}
 use Rattle.history_meaning.specs.Network.{Place, Wiring}
 use Rattle.topology_model.specs.Layouts.{Layout, edges_of}
-use Rattle.topology_model.specs.declared.line.Site.{Site}
+use Rattle.topology_model.specs.declared.line.DeclaredSwitch.{DeclaredSwitch}
 
 -- a switch with at most 256 ports, no two with one number
-pub record IsSite (s : Site) : Type 0 where
+pub record IsSite (s : DeclaredSwitch) : Type 0 where
   pub switch : IsValue Sw s.sw
   pub ports : (n : ℕ) → IsIn s.ports n → IsValue Pt n
   pub differ : EachOnce s.ports
@@ -16,14 +16,14 @@ pub record IsSite (s : Site) : Type 0 where
 
 -- the port is declared
 pub record IsDeclared (t : Layout) (a : Place) : Type 0 where
-  pub site : Site
+  pub site : DeclaredSwitch
   pub among : IsIn t.switches site
   pub switch : site.sw ≡ a.sw
   pub port : IsIn site.ports a.pt
 
 -- At most 256 switches, no two with one number; links between declared ports, in both directions, at most one a port and none from a port to itself.
 pub record IsSound (t : Layout) : Type 0 where
-  pub sites : (s : Site) → IsIn t.switches s → IsSite s
+  pub sites : (s : DeclaredSwitch) → IsIn t.switches s → IsSite s
   pub differ : EachOnce (map (λ s. s.sw) t.switches)
   pub few : length t.switches ≤ 256
   pub declared : (a b : Place) → IsIn t.links (a, b) → IsDeclared t a

@@ -5,7 +5,7 @@ ghost use Rattle.topology_model.specs.Layouts.{place_of, place_in, has_switch, h
 ghost use Rattle.topology_model.specs.Lines.{has_repeat};
 
 use crate::fault::LineError;
-use crate::line::{End, Ports, Site, TopoLine};
+use crate::line::{DeclaredSwitch, PortRef, Ports, TopoLine};
 use nk_values::{List, TextFault};
 use std::alloc::{AllocError, Global};
 use std::collections::HashMap;
@@ -20,12 +20,12 @@ pub const MOST_PORTS: usize = 256;
 #[derive(Drop)]
 pub struct Draft {
     // as declared
-    switches: Vec<Site>,
-    links: Vec<(End, End)>,
+    switches: Vec<DeclaredSwitch>,
+    links: Vec<(PortRef, PortRef)>,
     // where each switch stands in `switches`
     places: HashMap<u16, usize>,
     // the declared ports, each with the far end of its link, if it has one
-    far_ends: HashMap<End, Option<End>>,
+    far_ends: HashMap<PortRef, Option<PortRef>>,
 }
 
 impl Model for Draft {
@@ -60,14 +60,14 @@ impl Draft {
     }
 
     /// The switches with their ports, in declared order.
-    pub fn switches(&self) -> &[Site]
+    pub fn switches(&self) -> &[DeclaredSwitch]
         ensures { result.now ≡ self.now.switches }
     {
         &self.switches
     }
 
     /// The links, in declared order.
-    pub fn links(&self) -> &[(End, End)]
+    pub fn links(&self) -> &[(PortRef, PortRef)]
         ensures { flat_map both_ways result.now ≡ self.now.links }
     {
         &self.links
@@ -88,28 +88,28 @@ impl Draft {
     }
 
     /// Whether a port is declared.
-    pub fn has_port(&self, end: End) -> bool
+    pub fn has_port(&self, end: PortRef) -> bool
         ensures { result ≡ has_port self.now.switches (place_of end) }
     {
         self.far_ends.contains_key(&end)
     }
 
     /// The other end of a port's link, if it has one.
-    pub fn far_end(&self, end: End) -> Option<End>
+    pub fn far_end(&self, end: PortRef) -> Option<PortRef>
         ensures { option_map place_of result ≡ far_end self.now.links (place_of end) }
     {
         self.far_ends.get(&end).copied().flatten()
     }
 
     /// Whether a port is in a link.
-    pub fn is_linked(&self, end: End) -> bool
+    pub fn is_linked(&self, end: PortRef) -> bool
         ensures { result ≡ is_linked self.now (place_of end) }
     {
         self.far_end(end).is_some()
     }
 
     /// Whether a port is declared and in no link.
-    pub fn is_edge(&self, end: End) -> bool
+    pub fn is_edge(&self, end: PortRef) -> bool
         ensures { result ≡ is_edge self.now (place_of end) }
     {
         self.has_port(end) && !self.is_linked(end)
@@ -141,7 +141,7 @@ impl Draft {
     }
 
     // The fault of a link line.
-    fn link_fault(&self, a: End, b: End) -> Option<TextFault>
+    fn link_fault(&self, a: PortRef, b: PortRef) -> Option<TextFault>
         ensures { result ≡ line_fault self.now (TopoLine.Link a b) }
     {
         if !(self.has_switch(a.0) && self.has_switch(b.0)) {
@@ -156,7 +156,7 @@ impl Draft {
     }
 
     /// The declared ports that no link has, in declared order.
-    pub fn edges(&self, alloc: Global) -> Result<Vec<End>, AllocError>
+    pub fn edges(&self, alloc: Global) -> Result<Vec<PortRef>, AllocError>
         ensures edges { IfOk result (λ v. map place_of v.items ≡ edges_of self.now) }
         ensures sound { IsSound self.now }
     {
@@ -168,7 +168,7 @@ impl Draft {
     }
 
     // Puts those of one switch at the end.
-    fn add_edges(&self, site: &Site, edges: &mut Vec<End>) -> Result<(), AllocError>
+    fn add_edges(&self, site: &DeclaredSwitch, edges: &mut Vec<PortRef>) -> Result<(), AllocError>
         ensures { OnOk result (map place_of edges.new.items ≡ map place_of edges.old.items ++ filter (λ a. not (is_linked self.now a)) (places_at site.now)) }
     {
         let ports = site.ports.as_slice();
@@ -207,7 +207,7 @@ impl Draft {
         ensures ok { OnOk result (self.new ≡ with_line self.old (TopoLine.Switch sw ports.now)) }
         ensures err { OnErr result (self.new ≡ self.old) }
     {
-        let site = Site {
+        let site = DeclaredSwitch {
             sw,
             ports: copied(alloc, ports)?,
         };
@@ -224,7 +224,7 @@ impl Draft {
     }
 
     // Takes one more link.
-    fn add_link(&mut self, a: End, b: End) -> Result<(), AllocError>
+    fn add_link(&mut self, a: PortRef, b: PortRef) -> Result<(), AllocError>
         requires in_range { IsLineInRange (TopoLine.Link a b) }
         requires faultless { line_fault self.old (TopoLine.Link a b) ≡ None }
         ensures ok { OnOk result (self.new ≡ with_line self.old (TopoLine.Link a b)) }
@@ -245,9 +245,9 @@ ghost use Rattle.topology_model.specs.Ends.{entry, same_end};
 
 // Makes room for one more switch with `count` ports. All stays as it is.
 fn make_room(
-    switches: &mut Vec<Site>,
+    switches: &mut Vec<DeclaredSwitch>,
     places: &mut HashMap<u16, usize>,
-    far_ends: &mut HashMap<End, Option<End>>,
+    far_ends: &mut HashMap<PortRef, Option<PortRef>>,
     ports: usize,
 ) -> Result<(), AllocError>
     ensures switches { switches.new.items ≡ switches.old.items }
@@ -273,7 +273,7 @@ fn put_place(places: &mut HashMap<u16, usize>, sw: u16, place: usize)
 }
 
 // Puts the ports of a switch, with no link. There is room for them.
-fn put_edges(far_ends: &mut HashMap<End, Option<End>>, sw: u16, ports: &[u16])
+fn put_edges(far_ends: &mut HashMap<PortRef, Option<PortRef>>, sw: u16, ports: &[u16])
     requires { length ports.now ≤ spare far_ends.old }
     ensures { (e : ℕ × ℕ) → entry far_ends.new e ≡ (if sw == e.0 && list_any (λ n. n == e.1) ports.now then Some None else entry far_ends.old e) }
 {
@@ -283,7 +283,7 @@ fn put_edges(far_ends: &mut HashMap<End, Option<End>>, sw: u16, ports: &[u16])
 }
 
 // Puts a port, with no link, for which there is room.
-fn put_edge(far_ends: &mut HashMap<End, Option<End>>, end: End)
+fn put_edge(far_ends: &mut HashMap<PortRef, Option<PortRef>>, end: PortRef)
     requires { 0 < spare far_ends.old }
     ensures edge { (e : ℕ × ℕ) → entry far_ends.new e ≡ (if same_end end e then Some None else entry far_ends.old e) }
     ensures room { spare far_ends.old ≤ spare far_ends.new + 1 }
@@ -294,7 +294,7 @@ fn put_edge(far_ends: &mut HashMap<End, Option<End>>, end: End)
 }
 
 // Puts the far end of a port that is there.
-fn join(far_ends: &mut HashMap<End, Option<End>>, from: End, to: End)
+fn join(far_ends: &mut HashMap<PortRef, Option<PortRef>>, from: PortRef, to: PortRef)
     requires { IsTrue (is_some (entry far_ends.old from)) }
     ensures { (e : ℕ × ℕ) → entry far_ends.new e ≡ (if same_end from e then Some (Some to) else entry far_ends.old e) }
 {

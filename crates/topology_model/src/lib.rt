@@ -9,5 +9,5 @@ mod topology;
 
 pub use draft::{Draft, MOST_PORTS, MOST_SWITCHES};
 pub use fault::{LineError, TopoError};
-pub use line::{End, Ports, Site, TopoLine};
+pub use line::{DeclaredSwitch, PortRef, Ports, TopoLine};
 pub use topology::Topology;

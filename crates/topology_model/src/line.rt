@@ -2,14 +2,14 @@
 use nk_values::{Field, List};
 
 /// A port of a switch: the switch's number, 1 to 65535, and the port's, 1 to 65279.
-pub type End = (u16, u16);
+pub type PortRef = (u16, u16);
 
 /// Port numbers in a row.
 pub type Ports = List<u16>;
 
 /// A switch and its ports, in declared order.
 #[derive(Debug, Drop)]
-pub struct Site {
+pub struct DeclaredSwitch {
     pub sw: u16,
     pub ports: Ports,
 }
@@ -20,7 +20,7 @@ pub enum TopoLine {
     /// A switch with its ports.
     Switch { sw: u16, ports: Ports },
     /// A link that joins two ports, in both directions.
-    Link { a: End, b: End },
+    Link { a: PortRef, b: PortRef },
 }
 
 impl TopoLine {
@@ -55,7 +55,7 @@ fn are_ports(numbers: &[u16]) -> bool
 }
 
 // Whether both numbers are in their range.
-fn is_end(end: End) -> bool
+fn is_end(end: PortRef) -> bool
     ensures { IsTrue result ↔ IsEnd end }
 {
     Field::Sw.is_value(u64::from(end.0)) && Field::Pt.is_value(u64::from(end.1))

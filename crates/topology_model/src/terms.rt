@@ -8,7 +8,7 @@ ghost use Rattle.history_meaning.specs.Network.{at, along};
 ghost use Rattle.topology_model.specs.Layouts.{place_of};
 ghost use Rattle.topology_model.specs.Lines.{IsEnd};
 
-use crate::line::End;
+use crate::line::PortRef;
 use nk_syntax::{Pol, Pols, Pred};
 use nk_values::{Field, Lit};
 use std::alloc::{AllocError, Global};
@@ -41,7 +41,7 @@ fn assign(field: Field, number: u16) -> Pol
 
 /// `sw=a; pt=b`
 #[tactic(auto, using(crate::proofs::Rows::rows))]
-pub fn standing_at(alloc: Global, end: End) -> Result<Pol, AllocError>
+pub fn standing_at(alloc: Global, end: PortRef) -> Result<Pol, AllocError>
     requires { IsEnd end }
     ensures { IfOk result (λ p. term_of p ≡ at (place_of end)) }
 {
@@ -51,7 +51,7 @@ pub fn standing_at(alloc: Global, end: End) -> Result<Pol, AllocError>
 
 /// `sw=a; pt=b; sw:=c; pt:=d`
 #[tactic(auto, using(crate::proofs::Rows::rows))]
-pub fn going(alloc: Global, from: End, to: End) -> Result<Pol, AllocError>
+pub fn going(alloc: Global, from: PortRef, to: PortRef) -> Result<Pol, AllocError>
     requires from { IsEnd from }
     requires to { IsEnd to }
     ensures { IfOk result (λ p. term_of p ≡ along (place_of from, place_of to)) }

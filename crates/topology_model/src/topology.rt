@@ -10,7 +10,7 @@ ghost use Rattle.topology_model.specs.Causes.{IsEndCause, IsCause};
 
 use crate::draft::Draft;
 use crate::fault::{LineError, TopoError};
-use crate::line::{End, Site, TopoLine};
+use crate::line::{DeclaredSwitch, PortRef, TopoLine};
 use crate::terms::{going, standing_at};
 use nk_syntax::{Pol, Pols};
 use nk_values::TextFault;
@@ -22,7 +22,7 @@ use std::marker::Model;
 pub struct Topology {
     draft: Draft,
     // the ports without a link, in declared order
-    edges: Vec<End>,
+    edges: Vec<PortRef>,
     // how many ports the switches before each one have
     firsts: Vec<usize>,
 }
@@ -87,7 +87,7 @@ impl Topology {
     }
 
     /// The switches with their ports, in declared order.
-    pub fn switches(&self) -> &[Site]
+    pub fn switches(&self) -> &[DeclaredSwitch]
         ensures switches { result.now ≡ self.now.switches }
         ensures topology { IsTopology self.now }
     {
@@ -113,7 +113,7 @@ impl Topology {
     }
 
     /// The links, in declared order.
-    pub fn links(&self) -> &[(End, End)]
+    pub fn links(&self) -> &[(PortRef, PortRef)]
         ensures links { flat_map both_ways result.now ≡ (wiring self.now).links }
         ensures wiring { IsWiring (wiring self.now) }
     {
@@ -121,7 +121,7 @@ impl Topology {
     }
 
     /// The ports without a link, in declared order.
-    pub fn edges(&self) -> &[End]
+    pub fn edges(&self) -> &[PortRef]
         ensures edges { map place_of result.now ≡ (wiring self.now).edges }
         ensures wiring { IsWiring (wiring self.now) }
     {
@@ -197,12 +197,12 @@ impl Topology {
 
 ghost use Rattle.std.specs.Prelude.{◌≤◌};
 ghost use Rattle.topology_model.specs.Firsts.{firsts_of};
-ghost use Rattle.topology_model.specs.declared.line.Site.{Site};
+ghost use Rattle.topology_model.specs.declared.line.DeclaredSwitch.{DeclaredSwitch};
 
 // How many ports the switches before each one have.
-fn firsts_of(alloc: Global, sites: &[Site]) -> Result<Vec<usize>, AllocError>
+fn firsts_of(alloc: Global, sites: &[DeclaredSwitch]) -> Result<Vec<usize>, AllocError>
     requires few { length sites.now ≤ 256 }
-    requires narrow { (s : Site) → IsIn sites.now s → length s.ports ≤ 256 }
+    requires narrow { (s : DeclaredSwitch) → IsIn sites.now s → length s.ports ≤ 256 }
     ensures { IfOk result (λ v. v.items ≡ firsts_of 0 sites.now) }
 {
     let mut firsts = Vec::new(alloc);

@@ -27,8 +27,8 @@ use Rattle.update_coordinator.specs.contracts.coordinator.Coordinator as coordin
 use Rattle.update_coordinator.specs.contracts.coordinator.Coordinator.TheInside as coordinator_inside
 use Rattle.update_coordinator.proofs.cause.Side.TheSendSync as sides
 use Rattle.update_coordinator.proofs.phase.Phase.TheSendSync as phases
-use Rattle.update_coordinator.specs.contracts.site.Site as site
-use Rattle.update_coordinator.proofs.site.Site.TheSendSync as sites
+use Rattle.update_coordinator.specs.contracts.peer.Peer as peer
+use Rattle.update_coordinator.proofs.peer.Peer.TheSendSync as peers
 use Rattle.update_coordinator.proofs.Sharing.{history-send}
 
 vec-send : (R : RattleType) → IsSend R → IsSend (vecs.the_row R global.the_row heap.ghosts)
@@ -49,7 +49,7 @@ coordinator-inside = declared_send coordinator_inside.the_type (
         (
           vec-send u16 (search sendable),
           (
-            vec-send site.the_row sites.the_send,
+            vec-send peer.the_row peers.the_send,
             (
               vec-send span.the_row spans.the_send,
               (

@@ -12,7 +12,7 @@ use Rattle.session_core.specs.declared.session.Move.TheVariants.{Up}
 use Rattle.update_coordinator.specs.declared.phase.Phase.{Phase}
 use Rattle.update_coordinator.specs.declared.phase.Phase.TheVariants.{Opening, Install, Flip, Clean, Tidy, Sweep}
 use Rattle.update_coordinator.specs.Batches.{version_at, wipe, batch}
-use Rattle.update_coordinator.specs.Controls.{Control, Site, batch_at}
+use Rattle.update_coordinator.specs.Controls.{Control, Peer, batch_at}
 
 -- which rows of a port come or go, of which policy they come and of which they go
 abbrev pub share_in : Phase → Share
@@ -43,27 +43,27 @@ abbrev pub AreBetween : List Rows → ℕ → Span → Type 0
 AreBetween versions sw span = (i : ℕ) → IsSpan span sw (ports_of (version_at versions i))
 
 -- the cursor stands where the batch of this switch is read on
-abbrev pub IsRead : Control → Site → Cursor → Type 0
+abbrev pub IsRead : Control → Peer → Cursor → Type 0
 IsRead c s x = drop s.next (batch c.versions c.phase s.sw) ≡ left_in c.versions c.phase s.sw s.next x
 
 -- So does that of each switch; and between two places stand its ports, in the rows of each policy.
 pub record AreRead (c : Control) (spans : List Span) (cursors : List Cursor) : Type 0 where
-  pub count : length cursors ≡ length c.sites
-  pub many : length spans ≡ length c.sites
-  pub each : (k : ℕ) (s : Site) (x : Cursor) → slice_get c.sites k ≡ Some s → slice_get cursors k ≡ Some x → IsRead c s x
-  pub between : (k : ℕ) (s : Site) (span : Span) → slice_get c.sites k ≡ Some s → slice_get spans k ≡ Some span → AreBetween c.versions s.sw span
+  pub count : length cursors ≡ length c.peers
+  pub many : length spans ≡ length c.peers
+  pub each : (k : ℕ) (s : Peer) (x : Cursor) → slice_get c.peers k ≡ Some s → slice_get cursors k ≡ Some x → IsRead c s x
+  pub between : (k : ℕ) (s : Peer) (span : Span) → slice_get c.peers k ≡ Some s → slice_get spans k ≡ Some span → AreBetween c.versions s.sw span
 
 -- nothing is left of the batch of the switch at a place
 pub record IsAtEnd (place : ℕ) (c : Control) : Type 0 where
-  pub site : Site
-  pub here : slice_get c.sites place ≡ Some site
-  pub left : drop site.next (batch_at c site) ≡ []
+  pub peer : Peer
+  pub here : slice_get c.peers place ≡ Some peer
+  pub left : drop peer.next (batch_at c peer) ≡ []
 
 -- this flow mod is the next one of it, and this cursor stands after it
 pub record IsAtChange (place : ℕ) (m : FlowMod) (x : Cursor) (c : Control) : Type 0 where
-  pub site : Site
-  pub here : slice_get c.sites place ≡ Some site
-  pub left : drop site.next (batch_at c site) ≡ m ∷ left_in c.versions c.phase site.sw (site.next + 1) x
+  pub peer : Peer
+  pub here : slice_get c.peers place ≡ Some peer
+  pub left : drop peer.next (batch_at c peer) ≡ m ∷ left_in c.versions c.phase peer.sw (peer.next + 1) x
 
 -- a switch that tells its features gets its batch from the front on, where it is due
 abbrev pub begun_again : Bool → Move → ℕ → Span → List Cursor → List Cursor

@@ -8,7 +8,7 @@ ghost use Rattle.update_coordinator.specs.Drafts.{drafted};
 ghost use Rattle.update_coordinator.specs.Reading.{left_in, share_in, coming_in, going_in, begun_again, AreBetween};
 
 use crate::phase::Phase;
-use nk_values::{ANY_PORT, Actions, Command, FlowMod, Pattern, Row, Rows};
+use nk_values::{ANY_PORT, Actions, FlowCommand, FlowMod, Pattern, Row, Rows};
 use session_core::Move;
 use std::alloc::{AllocError, Global};
 use update_plan::{Cursor, Share, Span, mod_of, read_next};
@@ -36,7 +36,7 @@ impl<'a> Draft<'a> {
     {
         match self {
             Draft::Wipe => Ok(FlowMod {
-                command: Command::Delete,
+                command: FlowCommand::Delete,
                 pattern: Pattern::any(),
                 priority: 0,
                 out_port: ANY_PORT,

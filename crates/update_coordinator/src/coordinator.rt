@@ -2,10 +2,10 @@
 ghost use Rattle.std.specs.Prelude.{IsTrue, ◌↔◌, IfOk, ◌≡◌, None, OnOk, OnErr, length, option_map};
 
 use crate::cause::Cause;
-use crate::phase::{Entry, Phase};
+use crate::peer::Peer;
+use crate::phase::{Admission, Phase};
 use crate::refusal::Refusal;
-use crate::site::Site;
-use crate::starting::{cursors_of, rounds_of, sites_of, spans_of, stamps_of};
+use crate::starting::{cursors_of, peers_of, rounds_of, spans_of, stamps_of};
 use barrier_tracker::Tracker;
 use nk_values::Rows;
 use std::alloc::{AllocError, Global};
@@ -24,7 +24,7 @@ pub struct Coordinator {
     pub(crate) rounds: Vec<usize>,
     // The stamp of each policy.
     pub(crate) stamps: Vec<u16>,
-    pub(crate) sites: Vec<Site>,
+    pub(crate) peers: Vec<Peer>,
     // Where the ports of each switch stand in the rows.
     pub(crate) spans: Vec<Span>,
     // Where the batch of each switch is read on.
@@ -44,7 +44,7 @@ impl Drop for Coordinator {
             versions: _versions,
             rounds: _rounds,
             stamps: _stamps,
-            sites: _sites,
+            peers: _peers,
             spans: _spans,
             cursors: _cursors,
             replies: _replies,
@@ -62,9 +62,9 @@ impl Model for Coordinator {
 
     ghost Value = { Control };
 
-    ghost view = { λ c. record { phase = c.phase; halt = c.halt; versions = c.versions.items; sites = c.sites.items; replies = c.replies; rejoins = c.rejoins; overlap = c.overlap; swept = c.swept } };
+    ghost view = { λ c. record { phase = c.phase; halt = c.halt; versions = c.versions.items; peers = c.peers.items; replies = c.replies; rejoins = c.rejoins; overlap = c.overlap; swept = c.swept } };
 
-    ghost invariant = { λ c. IsControl (record { phase = c.phase; halt = c.halt; versions = c.versions.items; sites = c.sites.items; replies = c.replies; rejoins = c.rejoins; overlap = c.overlap; swept = c.swept }) × AreNoted c.versions.items c.rounds.items c.stamps.items × AreRead (record { phase = c.phase; halt = c.halt; versions = c.versions.items; sites = c.sites.items; replies = c.replies; rejoins = c.rejoins; overlap = c.overlap; swept = c.swept }) c.spans.items c.cursors.items };
+    ghost invariant = { λ c. IsControl (record { phase = c.phase; halt = c.halt; versions = c.versions.items; peers = c.peers.items; replies = c.replies; rejoins = c.rejoins; overlap = c.overlap; swept = c.swept }) × AreNoted c.versions.items c.rounds.items c.stamps.items × AreRead (record { phase = c.phase; halt = c.halt; versions = c.versions.items; peers = c.peers.items; replies = c.replies; rejoins = c.rejoins; overlap = c.overlap; swept = c.swept }) c.spans.items c.cursors.items };
 }
 
 impl Coordinator {
@@ -73,7 +73,7 @@ impl Coordinator {
     ghost use Rattle.policy_rows.specs.Limits.{AreWithinLimits, AreWritable};
     ghost use Rattle.update_coordinator.specs.Calls.{begun, begin_refusal, refusal_of};
     ghost use Rattle.update_coordinator.specs.Phases.{entry};
-    ghost use Rattle.update_coordinator.specs.Starts.{start};
+    ghost use Rattle.update_coordinator.specs.Starts.{initial_control};
 
     /// A coordinator of the updates to these policies, one after the other, at the switches with these numbers, of
     /// which `rejoins` sessions may be lost without a halt. With `overlap`, the number of stamps that go round, an
@@ -89,7 +89,7 @@ impl Coordinator {
         requires limits { AllByRecursion AreWithinLimits versions.items }
         requires writable { AllByRecursion AreWritable versions.items }
         requires rejoins { rejoins ≤ 1000 }
-        ensures { IfOk result (λ c. c ≡ start versions.items switches.now rejoins overlap) }
+        ensures { IfOk result (λ c. c ≡ initial_control versions.items switches.now rejoins overlap) }
     {
         Ok(Coordinator {
             phase: Phase::Opening,
@@ -98,7 +98,7 @@ impl Coordinator {
             stamps: stamps_of(alloc, &versions)?,
             spans: spans_of(alloc, &versions, switches)?,
             versions,
-            sites: sites_of(alloc, switches)?,
+            peers: peers_of(alloc, switches)?,
             cursors: cursors_of(alloc, switches.len())?,
             replies: Tracker::new(alloc, switches.len())?,
             rejoins,
@@ -116,9 +116,9 @@ impl Coordinator {
 
     /// How many switches there are.
     pub fn switch_count(&self) -> usize
-        ensures { result ≡ length self.now.sites }
+        ensures { result ≡ length self.now.peers }
     {
-        self.sites.len()
+        self.peers.len()
     }
 
     /// Where the updates stand. A halt keeps the phase.
@@ -136,7 +136,7 @@ impl Coordinator {
     }
 
     /// The entry of a packet that comes in now.
-    pub fn entry(&self) -> Entry
+    pub fn entry(&self) -> Admission
         ensures { result ≡ entry self.now.phase }
     {
         self.phase.entry()

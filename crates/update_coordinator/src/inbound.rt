@@ -4,9 +4,9 @@ ghost use Rattle.std.specs.Prelude.{IsTrue, ◌↔◌, ◌≡◌, ◌<◌, ◌�
 use crate::batch::{begin_again, begin_all};
 use crate::cause::Cause;
 use crate::coordinator::Coordinator;
+use crate::peers::{begin_phases, come_back, hear, lose};
 use crate::phase::Phase;
 use crate::refusal::Refusal;
-use crate::sites::{begin_phases, come_back, hear, lose};
 use barrier_tracker::Heard;
 use openflow_wire::{Message, WireFault};
 use session_core::Move;
@@ -22,7 +22,7 @@ impl Coordinator {
 
     /// Takes a message of the switch at a place.
     pub fn heard(&mut self, place: usize, message: &Message) -> Result<Move, Refusal>
-        requires { place < length self.old.sites }
+        requires { place < length self.old.peers }
         ensures ok { IfOk result (IsHeard place message.now self.old self.new) }
         ensures refused { IfErr result (IsRefusedAway place self.old) }
         ensures err { OnErr result (self.new ≡ self.old) }
@@ -30,12 +30,12 @@ impl Coordinator {
         if self.halt.is_some() {
             return Err(Refusal::Halted);
         }
-        if self.sites[place].is_away() {
+        if self.peers[place].is_away() {
             return Err(Refusal::Away);
         }
-        let sw = self.sites[place].sw();
+        let sw = self.peers[place].sw();
         let due = self.is_due(place);
-        let answer = hear(&mut self.sites, place, message, due);
+        let answer = hear(&mut self.peers, place, message, due);
         begin_again(&mut self.cursors, place, self.spans[place], &answer, due);
         match answer {
             Move::Barrier(xid) => self.answered(place, xid),
@@ -47,24 +47,24 @@ impl Coordinator {
 
     /// Whether the switch at a place has greeted.
     pub fn has_greeted(&self, place: usize) -> bool
-        requires { place < length self.now.sites }
+        requires { place < length self.now.peers }
         ensures { IsTrue result ↔ HasGreeted place self.now }
     {
-        self.sites[place].has_greeted()
+        self.peers[place].has_greeted()
     }
 
     /// Whether the session with the switch at a place is lost.
     pub fn away(&self, place: usize) -> bool
-        requires { place < length self.now.sites }
+        requires { place < length self.now.peers }
         ensures { IsTrue result ↔ IsAway place self.now }
     {
-        self.sites[place].is_away()
+        self.peers[place].is_away()
     }
 
     /// Takes the news that the session with the switch at a place is lost. If no more may be lost, the updates stand
     /// still.
     pub fn lost(&mut self, place: usize) -> Result<(), Refusal>
-        requires { place < length self.old.sites }
+        requires { place < length self.old.peers }
         ensures ok { OnOk result (IsLost place self.old self.new) }
         ensures refused { IfErr result (IsRefusedAway place self.old) }
         ensures err { OnErr result (self.new ≡ self.old) }
@@ -72,11 +72,11 @@ impl Coordinator {
         if self.halt.is_some() {
             return Err(Refusal::Halted);
         }
-        if self.sites[place].is_away() {
+        if self.peers[place].is_away() {
             return Err(Refusal::Away);
         }
         if self.rejoins == 0 {
-            let sw = self.sites[place].sw();
+            let sw = self.peers[place].sw();
             self.stand(Cause::Lost(sw));
         } else {
             self.lose(place);
@@ -86,7 +86,7 @@ impl Coordinator {
 
     /// Takes the news that the stream of the switch at a place has a fault.
     pub fn garbled(&mut self, place: usize, fault: WireFault) -> Result<(), Refusal>
-        requires { place < length self.old.sites }
+        requires { place < length self.old.peers }
         ensures ok { OnOk result (IsGarbled place fault self.old self.new) }
         ensures refused { IfErr result (λ r. (r ≡ Refusal.Halted) × (self.old.halt ≢ None)) }
         ensures err { OnErr result (self.new ≡ self.old) }
@@ -94,14 +94,14 @@ impl Coordinator {
         if self.halt.is_some() {
             return Err(Refusal::Halted);
         }
-        let sw = self.sites[place].sw();
+        let sw = self.peers[place].sw();
         self.stand(Cause::Garbled(sw, fault));
         Ok(())
     }
 
     /// Takes the news that the switch at a place is there again.
     pub fn rejoin(&mut self, place: usize) -> Result<(), Refusal>
-        requires { place < length self.old.sites }
+        requires { place < length self.old.peers }
         ensures ok { OnOk result (IsBack place self.old self.new) }
         ensures refused { IfErr result (IsRefusedPresent place self.old) }
         ensures err { OnErr result (self.new ≡ self.old) }
@@ -109,10 +109,10 @@ impl Coordinator {
         if self.halt.is_some() {
             return Err(Refusal::Halted);
         }
-        if !self.sites[place].is_away() {
+        if !self.peers[place].is_away() {
             return Err(Refusal::NotAway);
         }
-        come_back(&mut self.sites, place);
+        come_back(&mut self.peers, place);
         Ok(())
     }
 
@@ -131,7 +131,7 @@ impl Coordinator {
 
     // Whether the switch at a place was not heard for the batch of this phase.
     fn is_due(&self, place: usize) -> bool
-        requires { place < length self.now.sites }
+        requires { place < length self.now.peers }
         ensures { result ≡ due place self.now }
     {
         self.phase.works() && !self.replies.is_heard(place)
@@ -139,18 +139,18 @@ impl Coordinator {
 
     // The session with the switch at a place is lost, and the updates go on.
     fn lose(&mut self, place: usize)
-        requires within { place < length self.old.sites }
+        requires within { place < length self.old.peers }
         requires some { 0 < self.old.rejoins }
         ensures { IsSentAway place self.old self.new }
     {
-        lose(&mut self.sites, place);
+        lose(&mut self.peers, place);
         self.replies.forget(place);
         self.rejoins -= 1;
     }
 
     // Takes a barrier's reply.
     fn answered(&mut self, place: usize, xid: u32)
-        requires { place < length self.old.sites }
+        requires { place < length self.old.peers }
         ensures { IsAnswered place xid self.old self.new }
     {
         match self.replies.heard(place, xid) {
@@ -179,7 +179,7 @@ impl Coordinator {
         self.replies.restart();
         self.swept = self.phase.swept_after(self.swept);
         self.phase = phase;
-        begin_phases(&mut self.sites, phase.works());
+        begin_phases(&mut self.peers, phase.works());
         begin_all(&mut self.cursors, &self.spans);
     }
 }

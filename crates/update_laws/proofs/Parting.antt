@@ -7,7 +7,7 @@ use Rattle.nk_values.specs.declared.row.Row.{Row}
 use Rattle.nk_values.specs.declared.sent.Sent.{Sent}
 use Rattle.nk_values.specs.Members.{IsIn, EachOnce, Pairs}
 use Rattle.nk_values.specs.Packets.{IsWellShaped}
-use Rattle.nk_values.specs.Trails.{Trail, start, IsPast, HaveParted}
+use Rattle.nk_values.specs.Trails.{Trail, one_packet, IsPast, HaveParted}
 use Rattle.nk_values.proofs.MemberLaws.{in-either}
 use Rattle.nk_values.proofs.PairLaws.{pairs-append, pairs-right, pairs-across, pairs-weaker, pairs-without, pairs-at}
 use Rattle.nk_values.proofs.PastLaws.{past-self, past-then, parted-sym, parted-none, parted-on}
@@ -191,11 +191,11 @@ comes-parts t c ph f sent (Taken u names none a) = answered-parts t c u f sent a
 
 pub arrive-apart : (t : Layout) (c : Setting) → c.wiring ≡ wiring t → IsSetting c → (swept : ℕ) (ph : Phase) → Within c swept ph → (sw : ℕ) (left : Row → Type 0) (rows : List Row) →
     Changing (adds c ph) (Base c swept ph sw) (batch c ph sw) left rows → (pk : Packet) (tag : Option ℕ) (finished : List Trail) (next flights : List Flight) (arrivals : List Arrived) →
-    ((v : ℕ) → tag ≡ Some v → v ≤ 4094) → IsWellShaped pk → IsIn (edges_of t) (standing pk) → sw ≡ pk.sw → IsHop rows t (record { history = start pk; tag = tag; hops = 0; arrival = length arrivals }) finished next →
+    ((v : ℕ) → tag ≡ Some v → v ≤ 4094) → IsWellShaped pk → IsIn (edges_of t) (standing pk) → sw ≡ pk.sw → IsHop rows t (record { history = one_packet pk; tag = tag; hops = 0; arrival = length arrivals }) finished next →
     ((g : Flight) → IsIn flights g → g.arrival < length arrivals) → AreApart flights arrivals →
     AreApart (flights ++ next) (arrivals ++ record { packet = pk; tag = tag; entry = entry ph; finished = finished } ∷ [])
 arrive-apart t c same s swept ph within sw left rows table pk tag finished next flights arrivals small shaped edge at h known apart =
-    let f : Flight = record { history = start pk; tag = tag; hops = 0; arrival = length arrivals } in
+    let f : Flight = record { history = one_packet pk; tag = tag; hops = 0; arrival = length arrivals } in
     let a : Arrived = record { packet = pk; tag = tag; entry = entry ph; finished = finished } in
     subst (λ (fs : List Flight). AreApart (flights ++ fs) (arrivals ++ a ∷ [])) (sym h.goes_on)
     (arrive-parts t f a h.sent flights arrivals refl h.ends known (comes-parts t c ph f h.sent (comes t c same s swept ph within sw left rows table pk tag h.sent small shaped edge at h.handled)) apart)

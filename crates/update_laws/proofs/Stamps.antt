@@ -10,7 +10,7 @@ use Rattle.update_coordinator.specs.declared.cause.Cause.{Cause}
 use Rattle.update_coordinator.specs.declared.refusal.Refusal.{Refusal}
 use Rattle.update_coordinator.specs.declared.refusal.Refusal.TheVariants.{NotIdle, NothingLeft, NoStamp, Halted}
 use Rattle.update_coordinator.specs.Calls.{begin_refusal, begins, has_stamp, unless_halted}
-use Rattle.update_laws.specs.Updates.{Setting, IsSetting, Phase, Opening, Idle, Install, Flip, Drain, Clean, Tidy, Sweep, Within, last_of}
+use Rattle.update_laws.specs.Updates.{Setting, IsSetting, Phase, Opening, Idle, Install, Flip, Drain, Clean, Tidy, Sweep, Within, last_policy}
 use Rattle.update_laws.specs.Settings.{version_at, stamp_in, setting_of}
 use Rattle.update_laws.specs.Fleets.{Fleet, IsFleet}
 use Rattle.update_laws.specs.Stamps.{GoRound, AreAllUsed, LacksStamp, NoStampTwice, RefusesUsed}
@@ -19,7 +19,7 @@ use Rattle.update_laws.proofs.Places.{get-some}
 
 -- ---- those in use differ
 
-last-there : (c : Setting) (swept : ℕ) (ph : Phase) → Within c swept ph → last_of ph ≤ c.last
+last-there : (c : Setting) (swept : ℕ) (ph : Phase) → Within c swept ph → last_policy ph ≤ c.last
 last-there c swept Opening w = omega arith
 last-there c swept (Idle i) w = w.below
 last-there c swept (Install i) w = w.below
@@ -114,7 +114,7 @@ module _ (t : Layout) (vs : List Version) (limit capacity low high : ℕ) (some 
   all-used : (v : ℕ) → f.control.phase ≡ Idle v → v < length vs → (high - low + 1) ≤ v - f.control.swept → AreAllUsed (setting_of t vs limit capacity (Some (high - low + 1))) f.control low high
   all-used v idle more many stamp a b =
       let x = residue (high - low + 1) f.control.swept (stamp - low) (omega (arith, a, b)) in
-      let top : last_of f.control.phase ≡ v = ap last_of idle in (
+      let top : last_policy f.control.phase ≡ v = ap last_policy idle in (
         suc x.number,
         (omega (arith, x.above), omega (arith, x.below, many, top)),
         stamp-is x.number (omega (arith, x.below, many, more)) ∙ ap (λ (r : ℕ). low + r) x.is ∙ (let e : low + (stamp - low) ≡ stamp = omega (arith, a) in e),
@@ -125,7 +125,7 @@ module _ (t : Layout) (vs : List Version) (limit capacity low high : ℕ) (some 
   next-free v idle more few used =
       let r = mod-lt v {m = high - low + 1} (omega arith) in
       let x = used (low + v % (high - low + 1)) (omega arith) (omega (arith, r, some)) in
-      let top : last_of f.control.phase ≡ v = ap last_of idle in
+      let top : last_policy f.control.phase ≡ v = ap last_policy idle in
       by_version x.0 x.1.0 (omega (arith, x.1.1, top)) x.2
     where
       by_version : (u : ℕ) → f.control.swept < u → u ≤ v → stamp_in (version_at vs u) ≡ low + v % (high - low + 1) → ⊥

@@ -6,13 +6,13 @@ use Rattle.topology_model.specs.Layouts.{Layout}
 use Rattle.update_coordinator.specs.Controls.{Control}
 use Rattle.update_coordinator.specs.Calls.{begin_refusal}
 use Rattle.update_coordinator.specs.declared.refusal.Refusal.TheVariants.{NoStamp}
-use Rattle.update_laws.specs.Updates.{Setting, Idle, last_of}
+use Rattle.update_laws.specs.Updates.{Setting, Idle, last_policy}
 use Rattle.update_laws.specs.Settings.{setting_of}
 use Rattle.update_laws.specs.Fleets.{Fleet}
 
 -- the version is current, drains or comes in
 abbrev pub IsInUse : Control → ℕ → Type 0
-IsInUse d v = (d.swept < v) × (v ≤ last_of d.phase)
+IsInUse d v = (d.swept < v) × (v ≤ last_policy d.phase)
 
 -- the stamps of versions go round from `low` to `high`
 abbrev pub GoRound : ℕ → ℕ → List Version → Type 0

@@ -9,7 +9,7 @@ use Rattle.nk_values.specs.declared.rows.Rows.{Rows}
 use Rattle.openflow_wire.specs.RowChanges.{mod_of}
 use Rattle.update_plan.specs.declared.cursor.Share.{Share}
 use Rattle.update_plan.specs.declared.cursor.Share.TheVariants.{Bulk, Round, Ingress, Internal}
-use Rattle.update_plan.specs.declared.cursor.Place.{Place}
+use Rattle.update_plan.specs.declared.cursor.RowIndex.{RowIndex}
 use Rattle.update_plan.specs.declared.cursor.Cursor.{Cursor}
 use Rattle.update_plan.specs.declared.cursor.Span.{Span}
 use Rattle.update_plan.specs.Batches.{by_rounds, at_once, ingress, internal, row_in, band_of}
@@ -31,7 +31,7 @@ abbrev pub from_port : Share → Bool → Band → ℕ → List PortRows → Lis
 from_port share adds band sw ports = flat_map (λ p. share_of share adds band p) (filter (λ p. p.sw == sw) ports)
 
 -- and from a row of a port on
-abbrev pub from_place : Share → Bool → Band → ℕ → List PortRows → Place → List Row
+abbrev pub from_place : Share → Bool → Band → ℕ → List PortRows → RowIndex → List Row
 from_place share adds band sw ports at = drop at.row (share_at share adds band sw (slice_get ports at.port)) ++ from_port share adds band sw (drop (at.port + 1) ports)
 
 abbrev pub ports_of : Option Rows → List PortRows
@@ -42,7 +42,7 @@ ports_of (Some v) = v.ports
 abbrev pub side : Share → Bool → Option Rows → ℕ → List FlowMod
 side share adds v sw = map (mod_of adds) (from_port share adds (band_of v) sw (ports_of v))
 
-abbrev pub side_from : Share → Bool → Option Rows → ℕ → Place → List FlowMod
+abbrev pub side_from : Share → Bool → Option Rows → ℕ → RowIndex → List FlowMod
 side_from share adds v sw at = map (mod_of adds) (from_place share adds (band_of v) sw (ports_of v) at)
 
 -- a batch: what comes in, and after it what goes
@@ -50,7 +50,7 @@ abbrev pub changes : Share → Option Rows → Option Rows → ℕ → List Flow
 changes share new old sw = side share true new sw ++ side share false old sw
 
 -- what is left of it at a cursor
-abbrev pub left_at : Bool → Share → Option Rows → Option Rows → ℕ → Place → List FlowMod
+abbrev pub left_at : Bool → Share → Option Rows → Option Rows → ℕ → RowIndex → List FlowMod
 left_at true share new old sw at = side_from share false old sw at
 left_at false share new old sw at = side_from share true new sw at ++ side share false old sw
 

@@ -18,7 +18,7 @@ pub enum Share {
 
 /// A port among the ports of a policy's rows, and a row of it.
 #[derive(Clone, Copy, Debug, PartialEq, Eq)]
-pub struct Place {
+pub struct RowIndex {
     pub port: usize,
     pub row: usize,
 }
@@ -27,7 +27,7 @@ pub struct Place {
 #[derive(Clone, Copy, Debug, PartialEq, Eq)]
 pub struct Cursor {
     pub goes: bool,
-    pub at: Place,
+    pub at: RowIndex,
 }
 
 /// Between which places the ports of a switch stand among the ports of policies' rows.
@@ -75,7 +75,7 @@ impl Cursor {
     {
         Cursor {
             goes: false,
-            at: Place {
+            at: RowIndex {
                 port: span.first,
                 row: 0,
             },

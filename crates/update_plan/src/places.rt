@@ -3,27 +3,27 @@ ghost use Rattle.std.specs.Prelude.{◌≡◌, ◌<◌, ◌+◌, ◌^◌, [], If
 ghost use Rattle.update_plan.specs.Batches.{ingress, internal};
 ghost use Rattle.update_plan.specs.Reading.{share_at, from_place, IsSpan};
 
-use crate::cursor::{Place, Share, Span};
+use crate::cursor::{RowIndex, Share, Span};
 use crate::planning::{at_once, by_rounds, row_in};
 use nk_values::{Band, PortKind, Row, Rows};
 
 // The first place from one on at which there is a row.
 pub(crate) fn place_from(
-    at: Place,
+    at: RowIndex,
     share: Share,
     adds: bool,
     rows: &Rows,
     sw: u16,
     span: Span,
-) -> Option<Place>
+) -> Option<RowIndex>
     requires { IsSpan span sw rows.now.ports }
     ensures none { IfNone result (from_place share adds rows.now.band sw rows.now.ports at ≡ []) }
     ensures some { IfSome result (λ x. (from_place share adds rows.now.band sw rows.now.ports x ≡ from_place share adds rows.now.band sw rows.now.ports at) × (x.row < length (share_at share adds rows.now.band sw (slice_get rows.now.ports x.port)))) }
 {
     let mut row = at.row;
     for port in at.port..span.end {
-        if row_at(Place { port, row }, share, adds, rows, sw).is_some() {
-            return Some(Place { port, row });
+        if row_at(RowIndex { port, row }, share, adds, rows, sw).is_some() {
+            return Some(RowIndex { port, row });
         }
         row = 0;
     }
@@ -31,7 +31,7 @@ pub(crate) fn place_from(
 }
 
 // The row at a place.
-pub(crate) fn row_at(at: Place, share: Share, adds: bool, rows: &Rows, sw: u16) -> Option<&Row>
+pub(crate) fn row_at(at: RowIndex, share: Share, adds: bool, rows: &Rows, sw: u16) -> Option<&Row>
     ensures row { option_map (λ r. r.now) result ≡ slice_get (share_at share adds rows.now.band sw (slice_get rows.now.ports at.port)) at.row }
     ensures small { IfSome result (λ r. at.row + 1 < 2 ^ 64) }
 {

@@ -3,7 +3,7 @@ ghost use Rattle.std.specs.Prelude.{◌≡◌, [], ◌∷◌, true, false, IfNon
 ghost use Rattle.openflow_wire.specs.RowChanges.{mod_of};
 ghost use Rattle.update_plan.specs.Reading.{ports_of, side, side_from, left_by, IsSpan};
 
-use crate::cursor::{Cursor, Place, Share, Span};
+use crate::cursor::{Cursor, RowIndex, Share, Span};
 use crate::places::{place_from, row_at};
 use nk_values::{Row, Rows};
 
@@ -20,7 +20,7 @@ pub struct Read<'a> {
 #[derive(Clone, Copy)]
 struct SideRead<'a> {
     row: &'a Row,
-    at: Place,
+    at: RowIndex,
 }
 
 /// Reads the row of the next flow mod of a batch, in which these rows come and those go at a switch.
@@ -65,7 +65,7 @@ fn read_first_going<'a>(
     ensures none { IfNone result (side share false (option_map (λ r. r.now) old.entry) sw ≡ []) }
     ensures some { IfSome result (λ x. (x.adds ≡ false) × (x.cursor.goes ≡ true) × (side share false (option_map (λ r. r.now) old.entry) sw ≡ mod_of false x.row.now ∷ side_from share false (option_map (λ r. r.now) old.entry) sw x.cursor.at)) }
 {
-    let at = Place {
+    let at = RowIndex {
         port: span.first,
         row: 0,
     };
@@ -74,7 +74,7 @@ fn read_first_going<'a>(
 
 // Reads the row of the next flow mod of what goes.
 fn read_going<'a>(
-    at: Place,
+    at: RowIndex,
     share: Share,
     old: Option<&'a Rows>,
     sw: u16,
@@ -97,7 +97,7 @@ fn read_going<'a>(
 
 // Reads the row of the next flow mod of one side.
 fn read_side<'a>(
-    at: Place,
+    at: RowIndex,
     share: Share,
     adds: bool,
     rows: Option<&'a Rows>,
@@ -119,7 +119,7 @@ fn read_side<'a>(
     };
     Some(SideRead {
         row,
-        at: Place {
+        at: RowIndex {
             port: found.port,
             row: found.row + 1,
         },

@@ -55,15 +55,15 @@ abbrev pub both_text : FieldSet → FieldSet → List ℕ
 both_text a b = sets_text a ++ (codes "," ++ sets_text b)
 
 -- the copies that bar the rows of a policy
-abbrev pub copies_of : EmitFault → List ℕ
-copies_of (Unordered sw pt a b) = both_text a b
-copies_of (TooManyRows sw pt) = []
-copies_of (TooManySwitchRows sw) = []
-copies_of (TooManyActions sw pt) = []
+abbrev pub barred_copies : EmitFault → List ℕ
+barred_copies (Unordered sw pt a b) = both_text a b
+barred_copies (TooManyRows sw pt) = []
+barred_copies (TooManySwitchRows sw) = []
+barred_copies (TooManyActions sw pt) = []
 
 -- why a policy has no rows, with the place where
 abbrev pub emit_text : EmitFault → List ℕ
-emit_text f = place_of f ++ (label_behind (emit_number f) (emit_name f) ++ copies_of f)
+emit_text f = place_of f ++ (label_behind (emit_number f) (emit_name f) ++ barred_copies f)
 
 abbrev pub policy_text : ℕ → List ℕ
 policy_text i = codes "nkctl: policy " ++ decimal i

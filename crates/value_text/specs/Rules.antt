@@ -13,7 +13,7 @@ use Rattle.nk_values.specs.declared.rows.Band.{Band}
 use Rattle.nk_values.specs.declared.rows.Band.TheVariants.{High, Low}
 use Rattle.nk_values.specs.declared.rows.PortRows.{PortRows}
 use Rattle.nk_values.specs.declared.rows.Rows.{Rows}
-use Rattle.topology_model.specs.declared.line.Site.{Site}
+use Rattle.topology_model.specs.declared.line.DeclaredSwitch.{DeclaredSwitch}
 use Rattle.topology_model.specs.Layouts.{Layout}
 use Rattle.policy_rows.specs.declared.version.Version.{Version}
 use Rattle.nk_values.specs.Names.{name_of}
@@ -90,7 +90,7 @@ abbrev pub port_text : ℕ → PortRows → List ℕ
 port_text sw port = if port.sw == sw then rows_text port.rows else []
 
 -- a switch, and the rows of its ports
-abbrev pub switch_text : List PortRows → Site → List ℕ
+abbrev pub switch_text : List PortRows → DeclaredSwitch → List ℕ
 switch_text ports s = line (codes "switch " ++ decimal s.sw) ++ flat_map (port_text s.sw) ports
 
 abbrev pub band_text : Band → List ℕ
@@ -102,7 +102,7 @@ abbrev pub head_text : ℕ → Rows → List ℕ
 head_text i rows = codes "policy " ++ (decimal i ++ (codes " stamp " ++ (decimal rows.stamp ++ line (band_text rows.band))))
 
 -- the rows of a policy, switch by switch
-abbrev pub version_text : ℕ → Rows → List Site → List ℕ
+abbrev pub version_text : ℕ → Rows → List DeclaredSwitch → List ℕ
 version_text i rows sites = head_text i rows ++ flat_map (switch_text rows.ports) sites
 
 -- versions behind k others

@@ -12,7 +12,7 @@ use Rattle.value_text.specs.Histories.{history_text}
 use Rattle.value_text.specs.Values.{line}
 
 -- new is old with such a text behind it
-pub record Adds (IsText : List ℕ → Type 0) (old new : List ℕ) : Type 0 where
+pub record AddsText (IsText : List ℕ → Type 0) (old new : List ℕ) : Type 0 where
   pub text : List ℕ
   pub is : IsText text
   pub all : new ≡ old ++ text

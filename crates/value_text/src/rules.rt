@@ -9,7 +9,7 @@ use crate::values::{put_ascii, put_field, put_value};
 use nk_values::{Action, Band, Field, IN_PORT, Pattern, PortRows, Prefix, Row, Rows, UNTAGGED};
 use policy_rows::Version;
 use std::alloc::{AllocError, Global};
-use topology_model::{Site, Topology};
+use topology_model::{DeclaredSwitch, Topology};
 
 /// The rows of all policies, which count from 1: for each its stamp and band, and switch by switch the rows of
 /// its ports, in the order in which they count.
@@ -33,7 +33,12 @@ pub fn rules_text(
 }
 
 // Puts the rows of a policy at the end.
-fn put_version(out: &mut String, policy: u64, rows: &Rows, sites: &[Site]) -> Result<(), AllocError>
+fn put_version(
+    out: &mut String,
+    policy: u64,
+    rows: &Rows,
+    sites: &[DeclaredSwitch],
+) -> Result<(), AllocError>
     ensures { OnOk result (string_bytes out.new ≡ string_bytes out.old ++ version_text policy rows.now sites.now) }
 {
     put_head(out, policy, rows)?;
@@ -65,7 +70,7 @@ fn band(band: Band) -> &'static str
 }
 
 // Puts a switch and the rows of its ports at the end.
-fn put_switch(out: &mut String, ports: &[PortRows], site: &Site) -> Result<(), AllocError>
+fn put_switch(out: &mut String, ports: &[PortRows], site: &DeclaredSwitch) -> Result<(), AllocError>
     ensures { OnOk result (string_bytes out.new ≡ string_bytes out.old ++ switch_text ports.now site.now) }
 {
     out.push_str("switch ")?;

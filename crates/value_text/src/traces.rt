@@ -1,6 +1,6 @@
 // The texts of traces.
 ghost use Rattle.std.specs.Prelude.{◌≡◌, ◌++◌, OnOk, IfOk, map, string_bytes, decimal, codes};
-ghost use Rattle.value_text.specs.Traces.{Adds, IsPacketText, AreTexts, IsPolicyText, IsTraceText};
+ghost use Rattle.value_text.specs.Traces.{AddsText, IsPacketText, AreTexts, IsPolicyText, IsTraceText};
 ghost use Rattle.value_text.specs.Values.{line};
 
 use crate::lines::{history_lines, put_lines};
@@ -29,7 +29,7 @@ fn put_policy(
     policy: u64,
     walks: &[Walk],
 ) -> Result<(), AllocError>
-    ensures { OnOk result (Adds (IsPolicyText policy walks.now) (string_bytes out.old) (string_bytes out.new)) }
+    ensures { OnOk result (AddsText (IsPolicyText policy walks.now) (string_bytes out.old) (string_bytes out.new)) }
 {
     put_policy_line(out, policy)?;
     put_packets(alloc, out, walks)
@@ -45,7 +45,7 @@ pub fn put_policy_line(out: &mut String, policy: u64) -> Result<(), AllocError>
 
 // Puts the lines of packets at the end.
 fn put_packets(alloc: Global, out: &mut String, walks: &[Walk]) -> Result<(), AllocError>
-    ensures { OnOk result (Adds (AreTexts IsPacketText 0 walks.now) (string_bytes out.old) (string_bytes out.new)) }
+    ensures { OnOk result (AddsText (AreTexts IsPacketText 0 walks.now) (string_bytes out.old) (string_bytes out.new)) }
 {
     for (before, walk) in walks.iter().enumerate() {
         put_walk(alloc, out, before as u64 + 1, walk)?;
@@ -56,7 +56,7 @@ fn put_packets(alloc: Global, out: &mut String, walks: &[Walk]) -> Result<(), Al
 /// Puts what becomes of a packet, by its number from 1, at the end: a line `done` for each finished history, and
 /// then a line `open` for each copy in flight, sorted by bytes, equal lines once.
 pub fn put_walk(alloc: Global, out: &mut String, packet: u64, walk: &Walk) -> Result<(), AllocError>
-    ensures { OnOk result (Adds (IsPacketText packet walk.now) (string_bytes out.old) (string_bytes out.new)) }
+    ensures { OnOk result (AddsText (IsPacketText packet walk.now) (string_bytes out.old) (string_bytes out.new)) }
 {
     let done = history_lines(alloc, "done ", &walk.finished)?;
     let open = history_lines(alloc, "open ", &walk.in_flight)?;

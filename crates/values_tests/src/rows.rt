@@ -1,6 +1,6 @@
 // Rows and flow mods, copied.
 use nk_values::{
-    ANY_PORT, Action, Actions, Band, Command, Duplicate, FlowMod, Pattern, PortKind, PortLists,
+    ANY_PORT, Action, Actions, Band, Duplicate, FlowCommand, FlowMod, Pattern, PortKind, PortLists,
     PortRows, RowList, Rows,
 };
 use std::alloc::{AllocError, Global};
@@ -9,7 +9,7 @@ use std::test::Fail;
 // An addition with one output.
 fn change() -> FlowMod {
     FlowMod {
-        command: Command::Add,
+        command: FlowCommand::Add,
         pattern: Pattern::any(),
         priority: 7,
         out_port: ANY_PORT,

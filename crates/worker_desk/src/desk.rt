@@ -5,13 +5,13 @@ ghost use Rattle.worker_desk.specs.Answers.{grown, gave, CanBeWritten, GivesBack
 ghost use Rattle.worker_desk.specs.Notices.{Notice, Lost, NoMemory};
 ghost use Rattle.worker_desk.specs.Streams.{TellsWhereKnown};
 
-use crate::gate::Kind;
+use crate::gate::StepKind;
 use openflow_wire::Message;
 use outside_net::Link;
 use std::alloc::AllocError;
 
 /// The kind of the step that a call made, if it made one.
-pub type Made = Option<Kind>;
+pub type Made = Option<StepKind>;
 
 /// What a worker is to do next.
 #[derive(Drop)]

@@ -5,4 +5,4 @@ mod desk;
 mod gate;
 
 pub use desk::{Desk, Given, Made, Shut, Told};
-pub use gate::{Gate, Kind, OpenGate, Place};
+pub use gate::{Gate, Moment, OpenGate, StepKind};

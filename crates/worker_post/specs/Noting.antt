@@ -3,10 +3,10 @@ use Rattle.std.specs.Prelude.{◌≡◌, ℕ, ◌⊎◌, List, [], ◌∷◌, Op
 use Rattle.outside_io.specs.Causes.{Rose}
 use Rattle.worker_desk.specs.Answers.{grown}
 use Rattle.worker_desk.specs.Notices.{Notice, Lost, NoMemory}
-use Rattle.worker_post.specs.declared.post.After.{After}
-use Rattle.worker_post.specs.declared.post.After.TheVariants.{Going, Shut, New, Stop, Memory, Kept}
-use Rattle.worker_post.specs.declared.post.telling.Next.{Next}
-use Rattle.worker_post.specs.declared.post.telling.Next.TheVariants.{Rest, Told}
+use Rattle.worker_post.specs.declared.post.RoundEnd.{RoundEnd}
+use Rattle.worker_post.specs.declared.post.RoundEnd.TheVariants.{Going, Shut, New, Stop, Memory, Kept}
+use Rattle.worker_post.specs.declared.post.telling.Delivery.{Delivery}
+use Rattle.worker_post.specs.declared.post.telling.Delivery.TheVariants.{Rest, Told}
 
 -- No call on the end with this name failed, and nothing was told; or one failed, and that was told.
 abbrev pub NotesLoss : ℕ → ℕ → ℕ → Option (List Notice) → Option (List Notice) → Type 0
@@ -23,7 +23,7 @@ IsNotedOf faults last name before old new = (now : ℕ) × (NotesLoss name befor
 
 -- One turn over an end with this name, which had failed `before` times. `asked` holds if the desk may have asked the
 -- worker to stop or to begin anew.
-abbrev pub Notes : {E : Type 0} → Type 0 → (E → ℕ) → Option E → ℕ → ℕ → Option (List Notice) → Option (List Notice) → After E → Type 0
+abbrev pub Notes : {E : Type 0} → Type 0 → (E → ℕ) → Option E → ℕ → ℕ → Option (List Notice) → Option (List Notice) → RoundEnd E → Type 0
 Notes asked faults kept name before old new (Going e) = (faults e ≡ before) × (new ≡ old)
 Notes asked faults kept name before old new (Shut e) = NotesLoss name before (faults e) old new
 Notes asked faults kept name before old new (New e other) = asked × (faults e ≡ before) × (new ≡ old)
@@ -31,6 +31,6 @@ Notes asked faults kept name before old new (Stop e) = asked × (faults e ≡ be
 Notes asked faults kept name before old new (Memory e) = NotesMemory name before (faults e) old new
 Notes asked faults kept name before old new Kept = (now : ℕ) × NotesLoss name before now old new × IfSome kept (λ e. faults e ≡ now)
 
-abbrev pub NextNotes : {E : Type 0} → (E → ℕ) → Option E → ℕ → ℕ → Option (List Notice) → Option (List Notice) → Next E → Type 0
+abbrev pub NextNotes : {E : Type 0} → (E → ℕ) → Option E → ℕ → ℕ → Option (List Notice) → Option (List Notice) → Delivery E → Type 0
 NextNotes faults kept name before old new (Rest e) = new ≡ old
 NextNotes faults kept name before old new (Told after) = Notes ⊥ faults kept name before old new after

@@ -7,12 +7,12 @@ ghost use Rattle.worker_post.specs.Working.{IsFollowing};
 ghost use Rattle.worker_post.specs.Noting.{Notes};
 ghost use Rattle.worker_post.specs.Sessions.{IsNew};
 ghost use Rattle.worker_post.specs.Turns.{EndIs, GoesOnWith, OnNew, SentTurn, Works};
-ghost use Rattle.worker_post.specs.Works.{IsAt};
+ghost use Rattle.worker_post.specs.Works.{IsWorkAt};
 
 mod sessions;
 mod telling;
 
-use crate::messages::{Went, send_message};
+use crate::messages::{Transfer, send_message};
 use crate::passing::Who;
 use of_framing::Framer;
 use openflow_wire::Message;
@@ -21,7 +21,7 @@ use worker_desk::{Desk, Gate, Given, Told};
 
 /// How a turn of a worker ended.
 #[derive(Drop)]
-pub enum After<E> {
+pub enum RoundEnd<E> {
     /// It goes on.
     Going(E),
     /// The end is not used any more; the worker waits for a new one, or to stop.
@@ -54,7 +54,7 @@ pub struct Post<'a, D: Desk, G: Gate> {
 
 impl<'a, D: Desk, G: Gate> Post<'a, D, G> {
     // One turn: what is given is sent, or the message is received that is on its way.
-    fn turn(&self, seat: &mut D::Seat, end: D::End, inbox: &mut Inbox) -> After<D::End>
+    fn turn(&self, seat: &mut D::Seat, end: D::End, inbox: &mut Inbox) -> RoundEnd<D::End>
         requires seat { D.seated seat.old × (D.place_of (D.End.named end) ≡ D.place seat.old) }
         requires following { IsFollowing (D.End.received end) inbox.old.framer inbox.old.told }
         ensures seat { D.seated seat.new × (D.place seat.new ≡ D.place seat.old) }
@@ -70,13 +70,13 @@ impl<'a, D: Desk, G: Gate> Post<'a, D, G> {
         match self.desk.give(seat) {
             Err(_) => {
                 self.desk.close(seat);
-                After::Memory(end)
+                RoundEnd::Memory(end)
             }
-            Ok(Given::Stop) => After::Stop(end),
-            Ok(Given::NewEnd(new)) => After::New { old: end, new },
+            Ok(Given::Stop) => RoundEnd::Stop(end),
+            Ok(Given::NewEnd(new)) => RoundEnd::New { old: end, new },
             Ok(Given::Nothing { made }) => {
                 self.who.after(self.gate, made);
-                After::Going(end)
+                RoundEnd::Going(end)
             }
             Ok(Given::Out { message, made }) => {
                 self.who.after(self.gate, made);
@@ -91,7 +91,7 @@ impl<'a, D: Desk, G: Gate> Post<'a, D, G> {
     }
 
     // Sends what was given.
-    fn send_turn(&self, seat: &mut D::Seat, end: D::End, message: &Message) -> After<D::End>
+    fn send_turn(&self, seat: &mut D::Seat, end: D::End, message: &Message) -> RoundEnd<D::End>
         requires seat { D.seated seat.old × (D.place_of (D.End.named end) ≡ D.place seat.old) }
         requires fits { Fits message.now }
         ensures seat { D.seated seat.new × (D.place seat.new ≡ D.place seat.old) }
@@ -103,18 +103,18 @@ impl<'a, D: Desk, G: Gate> Post<'a, D, G> {
     {
         let mut end = end;
         match send_message(self.alloc, &mut end, message) {
-            Went::Well => After::Going(end),
-            Went::Failed => self.lose(seat, end),
-            Went::Closed => After::Shut(end),
-            Went::Memory => {
+            Transfer::Well => RoundEnd::Going(end),
+            Transfer::Failed => self.lose(seat, end),
+            Transfer::Closed => RoundEnd::Shut(end),
+            Transfer::Memory => {
                 self.desk.close(seat);
-                After::Memory(end)
+                RoundEnd::Memory(end)
             }
         }
     }
 
     // The end failed: the worker tells it.
-    fn lose(&self, seat: &mut D::Seat, end: D::End) -> After<D::End>
+    fn lose(&self, seat: &mut D::Seat, end: D::End) -> RoundEnd<D::End>
         requires seat { D.seated seat.old × (D.place_of (D.End.named end) ≡ D.place seat.old) }
         requires failed { 0 < D.End.faults end }
         ensures seat { D.seated seat.new × (D.place seat.new ≡ D.place seat.old) }
@@ -126,11 +126,11 @@ impl<'a, D: Desk, G: Gate> Post<'a, D, G> {
             → Notes ⊥ D.End.faults (D.kept seat.new) name before (D.notices seat.old) (D.notices seat.new) result }
     {
         match self.desk.lost(seat, end) {
-            Told::Back { end, made: _ } => After::Shut(end),
-            Told::Kept => After::Kept,
+            Told::Back { end, made: _ } => RoundEnd::Shut(end),
+            Told::Kept => RoundEnd::Kept,
             Told::Memory(end) => {
                 self.desk.close(seat);
-                After::Memory(end)
+                RoundEnd::Memory(end)
             }
         }
     }

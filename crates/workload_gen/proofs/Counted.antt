@@ -3,7 +3,7 @@ use Rattle.std.proofs.Common.{◌≡◌, Bool, true, false, IsTrue, ◌↔◌, �
 use Rattle.std.specs.Int.{from_bool}
 use Rattle.std.proofs.lemmas.List.{length-append}
 use Rattle.document_text.specs.declared.document.PacketLine.{PacketLine}
-use Rattle.update_laws.specs.Fleets.{End}
+use Rattle.update_laws.specs.Fleets.{WiredSwitch}
 use Rattle.update_laws.proofs.Wiring.{some-is}
 use Rattle.world_core.specs.declared.event.Event.{Event}
 use Rattle.world_core.specs.declared.event.Event.TheVariants as event
@@ -65,7 +65,7 @@ all-can : (w : WorldValue) (place k n : ℕ) → ((j : ℕ) → j < k + n → Is
 all-can w place k zero h = refl
 all-can w place k (suc n) h = inl (h k (omega arith), applies_from place (k + 1) n, refl, all-can w place (k + 1) n (λ j l. h j (omega (arith, l))))
 
-applies-can : (w : WorldValue) (place j : ℕ) (o : Option End) → slice_get w.fleet.ends place ≡ o → j < pending_at o → IsEnabled w (event.Switch (of_switch.Apply place j))
+applies-can : (w : WorldValue) (place j : ℕ) (o : Option WiredSwitch) → slice_get w.fleet.ends place ≡ o → j < pending_at o → IsEnabled w (event.Switch (of_switch.Apply place j))
 applies-can w place j None e l = absurd (omega (arith, l))
 applies-can w place j (Some x) e l = record { end_ = x; here = e; is = l }
 

@@ -9,7 +9,7 @@ use Rattle.nk_syntax.specs.Views.{term_of}
 use Rattle.topology_model.specs.Layouts.{Layout, edges_of}
 use Rattle.nk_values.specs.Tags.{IsTag}
 use Rattle.openflow_wire.specs.declared.message.Message.TheVariants as to
-use Rattle.topology_model.specs.declared.line.Site.{Site}
+use Rattle.topology_model.specs.declared.line.DeclaredSwitch.{DeclaredSwitch}
 use Rattle.topology_model.specs.Lines.{layout_of}
 use Rattle.document_text.specs.declared.document.PacketLine.{PacketLine}
 use Rattle.policy_rows.specs.declared.version.Version.{Version}
@@ -18,9 +18,9 @@ use Rattle.packet_tracer.specs.declared.flight.Flight.{Flight}
 use Rattle.rand_pcg.specs.Lcg.{Lcg}
 use Rattle.update_coordinator.specs.declared.phase.Phase.TheVariants as phase
 use Rattle.update_coordinator.specs.Calls.{drain_refusal, leaving}
-use Rattle.update_coordinator.specs.Controls.{Site as Seen}
-use Rattle.update_coordinator.specs.Starts.{new_site}
-use Rattle.update_laws.specs.Fleets.{End, Fleet}
+use Rattle.update_coordinator.specs.Controls.{Peer}
+use Rattle.update_coordinator.specs.Starts.{new_peer}
+use Rattle.update_laws.specs.Fleets.{WiredSwitch, Fleet}
 use Rattle.update_laws.proofs.Places.{get-within, get-map}
 use Rattle.update_laws.proofs.Wiring.{some-is, get-mapped}
 use Rattle.world_core.specs.declared.event.Event.{Event}
@@ -28,7 +28,7 @@ use Rattle.world_core.specs.declared.event.Event.TheVariants as event
 use Rattle.world_core.specs.declared.event.ControllerEvent.TheVariants as of_controller
 use Rattle.world_core.specs.declared.event.PacketEvent.TheVariants as of_packet
 use Rattle.world_core.specs.declared.event.SwitchEvent.TheVariants as of_switch
-use Rattle.world_core.specs.Laws.{HasRoom, IsStill, IsBarred, NoDeadEnd}
+use Rattle.world_core.specs.Laws.{HasTableRoom, IsStill, IsBarred, NoDeadEnd}
 use Rattle.world_core.specs.Settling.{NoneIs, hops_from}
 use Rattle.world_core.specs.Steps.{InFleet, IsEnabled, Stands, Step}
 use Rattle.world_core.specs.Ends.{new_end}
@@ -193,7 +193,7 @@ way-hop s k versions all left w v h f o =
       arrived = ap (λ (x : WorldValue). map line_of x.arrivals ++ left) h.now ∙ ap (λ (ls : List PacketLine). ls ++ left) (map-put line_of h.may.flight.arrival w.arrivals h.arrival _ h.of refl) ∙ o.arrived;
     }
 
-way-step : HasRoom → (s : ℕ) (versions : List Version) (all left : List PacketLine) (w : WorldValue) (e : Event) (v : WorldValue) → IsTried left e → Step w e v → IsOnWay s versions all left w → IsOnWay s versions all (left_by e left) v
+way-step : HasTableRoom → (s : ℕ) (versions : List Version) (all left : List PacketLine) (w : WorldValue) (e : Event) (v : WorldValue) → IsTried left e → Step w e v → IsOnWay s versions all left w → IsOnWay s versions all (left_by e left) v
 way-step room s versions all left w (event.Controller of_controller.Begin) v t h o = way-in _ s versions all left w v h (free-step room w (event.Controller of_controller.Begin) v tt h o.free) o
 way-step room s versions all left w (event.Controller (of_controller.Send p)) v t h o = way-in _ s versions all left w v h (free-step room w (event.Controller (of_controller.Send p)) v tt h o.free) o
 way-step room s versions all left w (event.Switch (of_switch.Take p)) v t h o = way-in _ s versions all left w v h (free-step room w (event.Switch (of_switch.Take p)) v tt h o.free) o
@@ -208,7 +208,7 @@ way-step room s versions all left w (event.Controller (of_controller.Rejoin p)) 
 way-step room s versions all left w (event.Packet (of_packet.Stuck k)) v t h o = absurd t
 way-step room s versions all left w (event.Foreign p side got) v t h o = absurd t
 
-pub way-run : HasRoom → (s : ℕ) (versions : List Version) (all left : List PacketLine) (g : Lcg) (w : WorldValue) (es : List Event) (v : WorldValue) → Drawn left g w es v → IsOnWay s versions all left w → IsOnWay s versions all (left_behind es left) v
+pub way-run : HasTableRoom → (s : ℕ) (versions : List Version) (all left : List PacketLine) (g : Lcg) (w : WorldValue) (es : List Event) (v : WorldValue) → Drawn left g w es v → IsOnWay s versions all left w → IsOnWay s versions all (left_behind es left) v
 way-run room s versions all left g w [] v d o = subst (λ (x : WorldValue). IsOnWay s versions all left x) d o
 way-run room s versions all left g w (e ∷ es) v d o =
     way-run room s versions all (left_by e left) (next_word g).1 d.0 es v d.3 (way-step room s versions all left w e d.0 (drawn-tried left w g e d.1) d.2 o)
@@ -235,7 +235,7 @@ switch-in w s zero j e l m = absurd (omega (arith, l))
 switch-in w s (suc n) zero e l m = in-left (tried_at w s) (tried_from w (s + 1) n) e (subst (λ (i : ℕ). IsIn (tried_at w i) e) (omega arith) m)
 switch-in w s (suc n) (suc j) e l m = in-right (tried_at w s) (tried_from w (s + 1) n) e (switch-in w (s + 1) n j e (omega (arith, l)) (subst (λ (i : ℕ). IsIn (tried_at w i) e) (omega arith) m))
 
-module _ (lines : List PacketLine) (w : WorldValue) (long : length w.fleet.ends ≡ length w.topology.switches) (sites : length w.fleet.ends ≡ length w.fleet.control.sites) (present : ArePresent w.fleet.control.sites) (over : NoneIs w (tried lines w)) where
+module _ (lines : List PacketLine) (w : WorldValue) (long : length w.fleet.ends ≡ length w.topology.switches) (sites : length w.fleet.ends ≡ length w.fleet.control.peers) (present : ArePresent w.fleet.control.peers) (over : NoneIs w (tried lines w)) where
   -- an event of a switch
   at-switch : (s : ℕ) (e : Event) → s < length w.fleet.ends → IsIn (tried_at w s) e → ¬ (IsEnabled w e)
   at-switch s e l m = none-of w (tried lines w) e over
@@ -246,7 +246,7 @@ module _ (lines : List PacketLine) (w : WorldValue) (long : length w.fleet.ends 
   last-of e m = none-of w (tried lines w) e over
       (in-right (tried_from w 0 (length w.topology.switches)) (hops_from 0 (length w.flights) ++ tried_last lines w) e (in-right (hops_from 0 (length w.flights)) (tried_last lines w) e m))
 
-  of-end : (s : ℕ) (Is : End → Type 0) → Stands s w Is → s < length w.fleet.ends
+  of-end : (s : ℕ) (Is : WiredSwitch → Type 0) → Stands s w Is → s < length w.fleet.ends
   of-end s Is h = get-within s w.fleet.ends h.end_ h.here
 
   pub still : IsStill w
@@ -271,11 +271,11 @@ module _ (lines : List PacketLine) (w : WorldValue) (long : length w.fleet.ends 
       applies : (s k : ℕ) → Stands s w (λ e. k < length e.switch.pending) → IsIn (applies_from s 0 (pending_at (slice_get w.fleet.ends s)) ++ event.Switch (of_switch.Take s) ∷ event.Controller (of_controller.Send s) ∷ []) (event.Switch (of_switch.Apply s k))
       applies s k h =
           in-left (applies_from s 0 (pending_at (slice_get w.fleet.ends s))) (event.Switch (of_switch.Take s) ∷ event.Controller (of_controller.Send s) ∷ []) (event.Switch (of_switch.Apply s k))
-          (subst (λ (o : Option End). IsIn (applies_from s 0 (pending_at o)) (event.Switch (of_switch.Apply s k))) (sym h.here)
+          (subst (λ (o : Option WiredSwitch). IsIn (applies_from s 0 (pending_at o)) (event.Switch (of_switch.Apply s k))) (sym h.here)
           (subst (λ (i : ℕ). IsIn (applies_from s 0 (length h.end_.switch.pending)) (event.Switch (of_switch.Apply s i))) (omega arith) (apply-in s 0 (length h.end_.switch.pending) k h.is)))
 
       sends : (s : ℕ) → IsEnabled w (event.Controller (of_controller.Send s)) → s < length w.fleet.ends
-      sends s h = omega (arith, sites, get-within s w.fleet.control.sites h.site h.here)
+      sends s h = omega (arith, sites, get-within s w.fleet.control.peers h.site h.here)
 
       reported : (stamp : ℕ) → drain_refusal w.fleet.control stamp ≡ None → IsIn (report (due w.fleet.control)) (event.Controller (of_controller.Drained stamp))
       reported stamp h =
@@ -292,10 +292,10 @@ policies-at s (suc k) (suc n) g p e = policies-at s k n (behind 1 g) p e
 start-mute : (capacity : ℕ) (numbers : List ℕ) → AreMute (map (new_end capacity) numbers)
 start-mute capacity numbers place e at m i r =
     let x = get-map (new_end capacity) place numbers e at in
-    no-error (to.Hello 1 0) m e.back (ap (λ (z : End). z.back) (sym x.2)) (λ z. z) i r
+    no-error (to.Hello 1 0) m e.back (ap (λ (z : WiredSwitch). z.back) (sym x.2)) (λ z. z) i r
 
-start-present : (numbers : List ℕ) → ArePresent (map new_site numbers)
-start-present numbers k s at = let x = get-map new_site k numbers s at in sym (ap (λ (y : Seen). y.away) x.2)
+start-present : (numbers : List ℕ) → ArePresent (map new_peer numbers)
+start-present numbers k s at = let x = get-map new_peer k numbers s at in sym (ap (λ (y : Peer). y.away) x.2)
 
 begins : (n : ℕ) (versions : List Version) → IsKept (start_of (document_of n) versions) → map (λ (x : Version). term_of x.pol) versions ≡ (document_of n).policies →
     IsOnWay (switch_count n) versions (document_of n).packets (document_of n).packets (start_of (document_of n) versions)
@@ -317,9 +317,9 @@ begins n versions kept pols = record {
 
 as-long : (w : WorldValue) → IsKept w → length w.fleet.ends ≡ length w.topology.switches
 unfolding IsKept
-as-long w k = sym (length-map w.fleet.ends (λ (e : End). e.switch.sw)) ∙ ap (λ (ns : List ℕ). length ns) k.places ∙ length-map w.topology.switches (λ (s : Site). s.sw)
+as-long w k = sym (length-map w.fleet.ends (λ (e : WiredSwitch). e.switch.sw)) ∙ ap (λ (ns : List ℕ). length ns) k.places ∙ length-map w.topology.switches (λ (s : DeclaredSwitch). s.sw)
 
-as-many : (w : WorldValue) → IsKept w → length w.fleet.ends ≡ length w.fleet.control.sites
+as-many : (w : WorldValue) → IsKept w → length w.fleet.ends ≡ length w.fleet.control.peers
 unfolding IsKept
 as-many w k = k.fleet.ends
 
@@ -340,7 +340,7 @@ not-barred : (s : ℕ) (w : WorldValue) → s ≤ 32 → w.limit ≡ 64 → AreN
 not-barred s w few limit near b = let close = (near b.flight b.flies).near in omega (arith, close, few, limit, b.limit)
 
 -- a run from a world that keeps what every world keeps
-pub kept-end : HasRoom → NoDeadEnd → (n : ℕ) (versions : List Version) (events : List Event) (v : WorldValue) → IsKept (start_of (document_of n) versions) → policies_of versions ≡ (document_of n).policies →
+pub kept-end : HasTableRoom → NoDeadEnd → (n : ℕ) (versions : List Version) (events : List Event) (v : WorldValue) → IsKept (start_of (document_of n) versions) → policies_of versions ≡ (document_of n).policies →
     Draws (document_of n).packets (generator n) (start_of (document_of n) versions) events v → HasEnded (document_of n) v
 kept-end room dead n versions events v kept pols draws = record {
   running = o.free.running;

@@ -7,7 +7,7 @@ use Rattle.nk_values.specs.Members.{IsIn}
 use Rattle.nk_values.specs.Packets.{IsInRange, IsWellShaped}
 use Rattle.nk_values.proofs.MemberLaws.{in-left, in-flat_map}
 use Rattle.topology_model.specs.Network.{Place}
-use Rattle.topology_model.specs.declared.line.Site.{Site}
+use Rattle.topology_model.specs.declared.line.DeclaredSwitch.{DeclaredSwitch}
 use Rattle.topology_model.specs.Layouts.{Layout, edges_of, has_port, is_linked, far_end}
 use Rattle.topology_model.specs.Lines.{layout_of, sites_in}
 use Rattle.topology_model.proofs.Ranges.{has, test_edge}
@@ -33,7 +33,7 @@ map-in f [] x m = absurd m
 map-in f (y ∷ ys) x (inl e) = inl (ap f e)
 map-in f (y ∷ ys) x (inr m) = inr (map-in f ys x m)
 
-abbrev site : ℕ → Site
+abbrev site : ℕ → DeclaredSwitch
 site i = record { sw = i; ports = 1 ∷ 2 ∷ 3 ∷ [] }
 
 site-in : (s i : ℕ) → 1 ≤ i → i ≤ s → IsIn (layout_of (topology_lines s)).switches (site i)

@@ -15,7 +15,7 @@ use Rattle.policy_rows.specs.Numbers.{stamp_at, band_at}
 use Rattle.update_laws.specs.Settings.{AreVersions}
 use Rattle.update_laws.proofs.Places.{Last, Earlier, among, get-within}
 use Rattle.update_laws.proofs.Wiring.{some-is, get-mapped}
-use Rattle.world_core.specs.Laws.{HasRoom, NoDeadEnd}
+use Rattle.world_core.specs.Laws.{HasTableRoom, NoDeadEnd}
 use Rattle.world_core.proofs.Beginning.{start-kept}
 use Rattle.workload_laws.specs.Emitted.{IsVersionIn}
 use Rattle.workload_laws.specs.Workload.{IsWorkload}
@@ -117,6 +117,6 @@ versions-start n d vs e a = subst (λ (x : Doc). AreVersions x.layout vs None) (
 
 -- ---- every drawn run of it ends
 
-pub runs-end : HasRoom → NoDeadEnd → RunsEnd
+pub runs-end : HasTableRoom → NoDeadEnd → RunsEnd
 runs-end room dead n versions events v t a draws =
     kept-end room dead n versions events v (start-kept (document_of n).layout versions (record { hops = 64; capacity = 200000; rejoins = 0; overlap = None }) t (starts n versions a) (omega arith)) a.policies draws

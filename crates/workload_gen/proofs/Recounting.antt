@@ -15,12 +15,12 @@ use Rattle.update_coordinator.specs.declared.phase.Phase.{Phase}
 use Rattle.update_coordinator.specs.declared.phase.Phase.TheVariants.{Opening, Idle, Install, Flip, Drain, Clean, Tidy, Sweep}
 use Rattle.update_coordinator.specs.Batches.{rounds_of}
 use Rattle.update_coordinator.specs.Calls.{begin_refusal, drain_refusal}
-use Rattle.update_coordinator.specs.Controls.{Control, Site, batch_at}
+use Rattle.update_coordinator.specs.Controls.{Control, Peer, batch_at}
 use Rattle.update_coordinator.specs.Hearing.{IsAnswered, IsMoved, due as is_due, met, told}
 use Rattle.update_coordinator.specs.Phases.{acknowledged, flipped, works}
 use Rattle.update_coordinator.specs.Sending.{MaySend}
 use Rattle.update_coordinator.proofs.Orders.{some_orders, orders_some}
-use Rattle.update_laws.specs.Fleets.{End, Fleet, SendsAt, TakesAt, AppliesAt, RepliesAt}
+use Rattle.update_laws.specs.Fleets.{WiredSwitch, Fleet, SendsAt, TakesAt, AppliesAt, RepliesAt}
 use Rattle.update_laws.proofs.Alike.{awaits-or-not}
 use Rattle.update_laws.proofs.Places.{Put, below-either, get-some, get-within, put-set}
 use Rattle.update_laws.proofs.Wiring.{some-is}
@@ -33,7 +33,7 @@ use Rattle.world_core.specs.Ends.{HasSession}
 use Rattle.world_core.specs.Settling.{hops_from}
 use Rattle.world_core.specs.Steps.{InFleet, IsEnabled, MayHop, NoneCarries, Stands, Step}
 use Rattle.world_core.specs.Worlds.{WorldValue}
-use Rattle.workload_gen.specs.Counts.{AreCounts, AreOthers, IsCount, IsQuiet}
+use Rattle.workload_gen.specs.Counts.{AreCounts, AreOthers, IsCount, ChangesOneSwitch}
 use Rattle.workload_gen.specs.Draws.{AreEnabled, applies_from, arrival, due, left_by, pending_at, report, tried_at, tried_last}
 
 -- ---- one switch
@@ -42,21 +42,21 @@ use Rattle.workload_gen.specs.Draws.{AreEnabled, applies_from, arrival, due, lef
 pub record SameAt (s : ℕ) (w v : WorldValue) : Type 0 where
   pub halt : v.fleet.control.halt ≡ w.fleet.control.halt
   pub end_ : slice_get v.fleet.ends s ≡ slice_get w.fleet.ends s
-  pub site : slice_get v.fleet.control.sites s ≡ slice_get w.fleet.control.sites s
+  pub peer : slice_get v.fleet.control.peers s ≡ slice_get w.fleet.control.peers s
 
 turned : (s : ℕ) (w v : WorldValue) → SameAt s w v → SameAt s v w
-turned s w v a = record { halt = sym a.halt; end_ = sym a.end_; site = sym a.site }
+turned s w v a = record { halt = sym a.halt; end_ = sym a.end_; peer = sym a.peer }
 
-stands-same : (s : ℕ) (w v : WorldValue) (Is : End → Type 0) → SameAt s w v → Stands s w Is → Stands s v Is
+stands-same : (s : ℕ) (w v : WorldValue) (Is : WiredSwitch → Type 0) → SameAt s w v → Stands s w Is → Stands s v Is
 stands-same s w v Is a h = record { end_ = h.end_; here = a.end_ ∙ h.here; is = h.is }
 
 session-same : (s : ℕ) (w v : WorldValue) → SameAt s w v → HasSession s w.fleet.control → HasSession s v.fleet.control
-session-same s w v a h = record { running = a.halt ∙ h.running; site = h.site; here = a.site ∙ h.here; there = h.there }
+session-same s w v a h = record { running = a.halt ∙ h.running; peer = h.peer; here = a.peer ∙ h.here; there = h.there }
 
 -- whether something is to be sent does not depend on the batch
 sends-same : (s : ℕ) (w v : WorldValue) → SameAt s w v → MaySend s w.fleet.control → MaySend s v.fleet.control
 sends-same s w v a h =
-    record { running = a.halt ∙ h.running; site = h.site; here = a.site ∙ h.here; some = some_orders (batch_at v.fleet.control h.site) h.site (orders_some (batch_at w.fleet.control h.site) h.site h.some) }
+    record { running = a.halt ∙ h.running; peer = h.peer; here = a.peer ∙ h.here; some = some_orders (batch_at v.fleet.control h.peer) h.peer (orders_some (batch_at w.fleet.control h.peer) h.peer h.some) }
 
 -- what can happen in the one world can in the other
 abbrev AreMoved : WorldValue → WorldValue → List Event → Type 0
@@ -99,7 +99,7 @@ tried-moved s w v a =
 kept-count : (s n : ℕ) (w v : WorldValue) → SameAt s w v → IsCount w (tried_at w s) n → IsCount v (tried_at v s) n
 kept-count s n w v a c = record {
   events = c.events;
-  enabled = subst (λ (o : Option End). AreEnabled v (event.Controller (of_controller.Heard s) ∷ event.Switch (of_switch.Reply s) ∷ (applies_from s 0 (pending_at o) ++ event.Switch (of_switch.Take s) ∷ event.Controller (of_controller.Send s) ∷ [])) c.events) (sym a.end_)
+  enabled = subst (λ (o : Option WiredSwitch). AreEnabled v (event.Controller (of_controller.Heard s) ∷ event.Switch (of_switch.Reply s) ∷ (applies_from s 0 (pending_at o) ++ event.Switch (of_switch.Take s) ∷ event.Controller (of_controller.Send s) ∷ [])) c.events) (sym a.end_)
       (enabled-moved w v (tried_at w s) c.events (tried-moved s w v a) c.enabled);
   count = c.count;
 }
@@ -110,7 +110,7 @@ kept-count s n w v a c = record {
 pub same-counts : (w v : WorldValue) (counts : List ℕ) → v.topology ≡ w.topology → v.fleet ≡ w.fleet → AreCounts w counts → AreCounts v counts
 same-counts w v counts t f c = record {
   all = c.all ∙ ap (λ (x : Layout). length x.switches) (sym t);
-  each = λ k n e. kept-count k n w v (record { halt = ap (λ (x : Fleet). x.control.halt) f; end_ = ap (λ (x : Fleet). slice_get x.ends k) f; site = ap (λ (x : Fleet). slice_get x.control.sites k) f }) (c.each k n e);
+  each = λ k n e. kept-count k n w v (record { halt = ap (λ (x : Fleet). x.control.halt) f; end_ = ap (λ (x : Fleet). slice_get x.ends k) f; peer = ap (λ (x : Fleet). slice_get x.control.peers k) f }) (c.each k n e);
 }
 
 -- all were counted anew
@@ -131,19 +131,19 @@ one-count w v p counts new t same l here others c = record {
 -- ---- events
 
 -- a switch and its channels have changed, and of the coordinator at most its part of it
-changed-end : (w v : WorldValue) (p : ℕ) (d : Control) (old new : End) → v.fleet ≡ record { control = d; ends = slice_set w.fleet.ends p new } → slice_get w.fleet.ends p ≡ Some old → d.halt ≡ w.fleet.control.halt →
-    ((s : ℕ) → s ≢ p → slice_get d.sites s ≡ slice_get w.fleet.control.sites s) → (s : ℕ) → s ≢ p → SameAt s w v
-changed-end w v p d old new e here halt sites s n = record {
+changed-end : (w v : WorldValue) (p : ℕ) (d : Control) (old new : WiredSwitch) → v.fleet ≡ record { control = d; ends = slice_set w.fleet.ends p new } → slice_get w.fleet.ends p ≡ Some old → d.halt ≡ w.fleet.control.halt →
+    ((s : ℕ) → s ≢ p → slice_get d.peers s ≡ slice_get w.fleet.control.peers s) → (s : ℕ) → s ≢ p → SameAt s w v
+changed-end w v p d old new e here halt peers s n = record {
   halt = ap (λ (x : Fleet). x.control.halt) e ∙ halt;
   end_ = ap (λ (x : Fleet). slice_get x.ends s) e ∙ (put-set p w.fleet.ends old new here).others s n;
-  site = ap (λ (x : Fleet). slice_get x.control.sites s) e ∙ sites s n;
+  peer = ap (λ (x : Fleet). slice_get x.control.peers s) e ∙ peers s n;
 }
 
 pub sent-others : (w v : WorldValue) (p : ℕ) → Step w (event.Controller (of_controller.Send p)) v → (s : ℕ) → s ≢ p → SameAt s w v
 sent-others w v p h =
     let t = h.step in
     changed-end w v p t.control t.old _ (ap (λ (x : WorldValue). x.fleet) h.now ∙ t.now) t.here (ap (λ (x : Control). x.halt) t.sent.now)
-    (λ s n. ap (λ (x : Control). slice_get x.sites s) t.sent.now ∙ (put-set p w.fleet.control.sites t.sent.site _ t.sent.here).others s n)
+    (λ s n. ap (λ (x : Control). slice_get x.peers s) t.sent.now ∙ (put-set p w.fleet.control.peers t.sent.peer _ t.sent.here).others s n)
 
 pub taken-others : (w v : WorldValue) (p : ℕ) → Step w (event.Switch (of_switch.Take p)) v → (s : ℕ) → s ≢ p → SameAt s w v
 taken-others w v p h = changed-end w v p w.fleet.control h.step.old _ (ap (λ (x : WorldValue). x.fleet) h.now ∙ h.step.now) h.step.here refl (λ s n. refl)
@@ -204,27 +204,27 @@ no-next overlap rounds (Sweep i v) w q = cc
 no-next overlap rounds (Install i) w q = if-never (nat_lt 0 (get_or rounds (i - 1) 0)) (Flip i 1) (flipped overlap i) (Install i) (λ e. cc) (λ e. flipped-installs overlap i e) q
 no-next overlap rounds (Flip i r) w q = if-never (nat_lt r (get_or rounds (i - 1) 0)) (Flip i (r + 1)) (flipped overlap i) (Flip i r) (λ e. next-round i r e) (λ e. flipped-flips overlap i r e) q
 
--- the coordinator has the same sites as before, and stands still if it did
-record SameSites (c d : Control) : Type 0 where
+-- the coordinator has the same peers as before, and stands still if it did
+record SamePeers (c d : Control) : Type 0 where
   halt : d.halt ≡ c.halt
-  sites : d.sites ≡ c.sites
+  peers : d.peers ≡ c.peers
 
-same-all : (c d : Control) → d ≡ c → SameSites c d
-same-all c d e = record { halt = ap (λ (x : Control). x.halt) e; sites = ap (λ (x : Control). x.sites) e }
+same-all : (c d : Control) → d ≡ c → SamePeers c d
+same-all c d e = record { halt = ap (λ (x : Control). x.halt) e; peers = ap (λ (x : Control). x.peers) e }
 
 -- a reply to a barrier that does not end the phase
-same-answered : (place xid : ℕ) (c d : Control) → IsAnswered place xid c d → d.phase ≡ c.phase → works c.phase ≡ true → SameSites c d
+same-answered : (place xid : ℕ) (c d : Control) → IsAnswered place xid c d → d.phase ≡ c.phase → works c.phase ≡ true → SamePeers c d
 same-answered place xid c d a same w = elim (awaits-or-not c.replies place xid) [
   | inr n ↦ same-all c d (a.stray n)
   | inl y ↦ elim (below-either c.replies place (length c.replies)) [
     | inl h ↦ absurd (no-next c.overlap (rounds_of c.versions) c.phase w (sym (ap (λ (x : Control). x.phase) (a.last y h)) ∙ same))
     | inr u ↦
         let more : d ≡ record c { replies = heard_at c.replies place } = a.more y (λ (h : OthersHeard c.replies place). u.is (h u.other u.below u.differs)) in
-        record { halt = ap (λ (x : Control). x.halt) more; sites = ap (λ (x : Control). x.sites) more }
+        record { halt = ap (λ (x : Control). x.halt) more; peers = ap (λ (x : Control). x.peers) more }
   ]
 ]
 
-same-moved : (place sw : ℕ) (v : Move) (c d : Control) → IsMoved place sw v c d → d.phase ≡ c.phase → works c.phase ≡ true → d.halt ≡ None → SameSites c d
+same-moved : (place sw : ℕ) (v : Move) (c d : Control) → IsMoved place sw v c d → d.phase ≡ c.phase → works c.phase ≡ true → d.halt ≡ None → SamePeers c d
 same-moved place sw (moves.Barrier xid) c d h same w runs = same-answered place xid c d h same w
 same-moved place sw (moves.Failed f) c d h same w runs = absurd (let none : Some (cause.Failed sw f) ≡ None = sym (ap (λ (x : Control). x.halt) h) ∙ runs in cc)
 same-moved place sw moves.Greeted c d h same w runs = same-all c d h
@@ -239,14 +239,14 @@ heard-others w v p ph h was is batch runs =
     let c = w.fleet.control in
     let now : v.fleet ≡ record { control = t.control; ends = slice_set w.fleet.ends p (record t.old { back = t.rest }) } = ap (λ (x : WorldValue). x.fleet) h.now ∙ t.now in
     let control = ap (λ (x : Fleet). x.control) now in
-    let site = met (is_due p c) t.move (told t.message t.heard.site) in
-    let middle = record c { sites = slice_set c.sites p site } in
+    let peer = met (is_due p c) t.move (told t.message t.heard.peer) in
+    let middle = record c { peers = slice_set c.peers p peer } in
     let phase : t.control.phase ≡ c.phase = sym (ap (λ (x : Control). x.phase) control) ∙ is ∙ sym was in
     let working : works c.phase ≡ true = ap works was ∙ batch in
     let halt : t.control.halt ≡ None = sym (ap (λ (x : Control). x.halt) control) ∙ runs in
-    let same : SameSites middle t.control = same-moved p t.heard.site.sw t.move middle t.control t.heard.now phase working halt in
+    let same : SamePeers middle t.control = same-moved p t.heard.peer.sw t.move middle t.control t.heard.now phase working halt in
     changed-end w v p t.control t.old (record t.old { back = t.rest }) now t.here same.halt
-    (λ s n. ap (λ (xs : List Site). slice_get xs s) same.sites ∙ (put-set p c.sites t.heard.site site t.heard.here).others s n)
+    (λ s n. ap (λ (xs : List Peer). slice_get xs s) same.peers ∙ (put-set p c.peers t.heard.peer peer t.heard.here).others s n)
 
 -- ---- the other counts
 
@@ -301,7 +301,7 @@ same-others lines w v hops last a c = record {
   of_last = subst (λ (o : Option ℕ). IsCount v (arrival lines ++ (event.Controller of_controller.Begin) ∷ report o) last) (sym a.due_is) (moved-count w v (tried_last lines w) last (last-moved lines w v a) c.of_last);
 }
 
--- of the fleet at most the sites, the replies and the switches have changed
+-- of the fleet at most the peers, the replies and the switches have changed
 fleet-others : (Does : Fleet → Fleet → Type 0) (w v : WorldValue) (h : InFleet Does w v) → begin_refusal h.fleet.control ≡ begin_refusal w.fleet.control → ((stamp : ℕ) → drain_refusal h.fleet.control stamp ≡ drain_refusal w.fleet.control stamp) →
     due h.fleet.control ≡ due w.fleet.control → SameOthers w v
 fleet-others Does w v h begins drains due_is = record {
@@ -313,7 +313,7 @@ fleet-others Does w v h begins drains due_is = record {
   due_is = ap (λ (x : WorldValue). due x.fleet.control) h.now ∙ due_is;
 }
 
-quiet-same : (w v : WorldValue) (e : Event) → IsQuiet e → Step w e v → SameOthers w v
+quiet-same : (w v : WorldValue) (e : Event) → ChangesOneSwitch e → Step w e v → SameOthers w v
 quiet-same w v (event.Switch (of_switch.Take s)) q h =
     let t = h.step.now in
     fleet-others (TakesAt s) w v h (ap (λ (f : Fleet). begin_refusal f.control) t) (λ stamp. ap (λ (f : Fleet). drain_refusal f.control stamp) t) (ap (λ (f : Fleet). due f.control) t)
@@ -336,14 +336,14 @@ quiet-same w v (event.Controller (of_controller.Rejoin s)) q h = absurd q
 quiet-same w v (event.Packet flow) q h = absurd q
 quiet-same w v (event.Foreign s side got) q h = absurd q
 
-quiet-left : (e : Event) (lines : List PacketLine) → IsQuiet e → left_by e lines ≡ lines
+quiet-left : (e : Event) (lines : List PacketLine) → ChangesOneSwitch e → left_by e lines ≡ lines
 quiet-left (event.Switch act) lines q = refl
 quiet-left (event.Controller control) lines q = refl
 quiet-left (event.Packet flow) lines q = absurd q
 quiet-left (event.Foreign s side got) lines q = absurd q
 
 -- a quiet event changes none of the other counts
-pub quiet-others : (lines left : List PacketLine) (w v : WorldValue) (e : Event) (hops last : ℕ) → left ≡ left_by e lines → IsQuiet e → Step w e v → AreOthers w lines hops last → AreOthers v left hops last
+pub quiet-others : (lines left : List PacketLine) (w v : WorldValue) (e : Event) (hops last : ℕ) → left ≡ left_by e lines → ChangesOneSwitch e → Step w e v → AreOthers w lines hops last → AreOthers v left hops last
 quiet-others lines left w v e hops last l q h c =
     subst (λ (ls : List PacketLine). AreOthers v ls hops last) (sym (l ∙ quiet-left e lines q)) (same-others lines w v hops last (quiet-same w v e q h) c)
 

@@ -22,7 +22,7 @@ use Rattle.update_coordinator.specs.Hearing.{IsMoved}
 use Rattle.update_laws.specs.Wired.{Wire, answered, told_back}
 use Rattle.update_laws.specs.Stages.{Stage, Away, Meeting, Asking, Telling, Sending, Waiting, Answered, Resting, IsFullError, IsLine, Said, Voice, state_of}
 use Rattle.update_laws.specs.Updates.{Setting, Phase}
-use Rattle.update_laws.specs.Fleets.{End, Fleet, wire_of, TakesAt, HearsAt, IsFleet}
+use Rattle.update_laws.specs.Fleets.{WiredSwitch, Fleet, wire_of, TakesAt, HearsAt, IsFleet}
 use Rattle.update_laws.proofs.Fleets.{Here, end-here}
 use Rattle.update_laws.proofs.Hearing.{HeardLine, hear-line}
 use Rattle.update_laws.proofs.Places.{Put, put-set, below-either}
@@ -32,7 +32,7 @@ use Rattle.world_core.specs.declared.event.Event.TheVariants as event
 use Rattle.world_core.specs.declared.event.ControllerEvent.TheVariants as of_controller
 use Rattle.world_core.specs.declared.event.PacketEvent.TheVariants as of_packet
 use Rattle.world_core.specs.declared.event.SwitchEvent.TheVariants as of_switch
-use Rattle.world_core.specs.Laws.{HasSpace, HasRoom}
+use Rattle.world_core.specs.Laws.{HasSpace, HasTableRoom}
 use Rattle.world_core.specs.Steps.{InFleet, Step}
 use Rattle.world_core.specs.Worlds.{WorldValue, setting, IsKept}
 use Rattle.world_core.proofs.Kept.{line-at, step-keeps}
@@ -151,12 +151,12 @@ moved-halt place sw (moves.Barrier x) c d n a m = elim (below-either c.replies p
 -- ---- all switches
 
 -- no ERROR is on its way
-abbrev pub AreMute : List End → Type 0
-AreMute es = (place : ℕ) (e : End) → slice_get es place ≡ Some e → (m : Message) → IsIn e.back m → ¬ (IsError m)
+abbrev pub AreMute : List WiredSwitch → Type 0
+AreMute es = (place : ℕ) (e : WiredSwitch) → slice_get es place ≡ Some e → (m : Message) → IsIn e.back m → ¬ (IsError m)
 
-mute-put : (place : ℕ) (es : List End) (old new : End) → slice_get es place ≡ Some old → ((m : Message) → IsIn new.back m → ¬ (IsError m)) → AreMute es → AreMute (slice_set es place new)
+mute-put : (place : ℕ) (es : List WiredSwitch) (old new : WiredSwitch) → slice_get es place ≡ Some old → ((m : Message) → IsIn new.back m → ¬ (IsError m)) → AreMute es → AreMute (slice_set es place new)
 mute-put place es old new here quiet mute k e at m i = elim (ℕ_discrete k place) [
-  | yes d ↦ quiet m (subst (λ (x : End). IsIn x.back m) (some-is e new (sym at ∙ ap (λ (j : ℕ). slice_get (slice_set es place new) j) d ∙ p.at)) i)
+  | yes d ↦ quiet m (subst (λ (x : WiredSwitch). IsIn x.back m) (some-is e new (sym at ∙ ap (λ (j : ℕ). slice_get (slice_set es place new) j) d ∙ p.at)) i)
   | no d ↦ mute k e (sym (p.others k d) ∙ at) m i
 ]
   where
@@ -203,7 +203,7 @@ pub record IsFree (w : WorldValue) : Type 0 where
   pub kept : IsKept w
   pub room : HasSpace w
   pub running : w.fleet.control.halt ≡ None
-  pub present : ArePresent w.fleet.control.sites
+  pub present : ArePresent w.fleet.control.peers
   pub mute : AreMute w.fleet.ends
 
 -- all events but the loss and the return of a session, a stuck copy, and bytes that are not the front of a channel
@@ -214,7 +214,7 @@ IsDrivable (event.Packet (of_packet.Stuck k)) = ⊥
 IsDrivable (event.Foreign s side got) = ⊥
 IsDrivable _ = Unit {0}
 
-free-in : (Does : Fleet → Fleet → Type 0) (w v : WorldValue) (h : InFleet Does w v) → IsFree w → IsKept v → ArePresent v.fleet.control.sites → h.fleet.control.halt ≡ None → AreMute h.fleet.ends → IsFree v
+free-in : (Does : Fleet → Fleet → Type 0) (w v : WorldValue) (h : InFleet Does w v) → IsFree w → IsKept v → ArePresent v.fleet.control.peers → h.fleet.control.halt ≡ None → AreMute h.fleet.ends → IsFree v
 free-in Does w v h f k present running mute = record {
   kept = k;
   present = present;
@@ -223,7 +223,7 @@ free-in Does w v h f k present running mute = record {
   mute = subst (λ (x : WorldValue). AreMute x.fleet.ends) (sym h.now) mute;
 }
 
-full-of : (v : WorldValue) → IsKept v → (place : ℕ) (e : End) → slice_get v.fleet.ends place ≡ Some e → (m : Message) → IsIn e.back m → IsError m → IsFullError m
+full-of : (v : WorldValue) → IsKept v → (place : ℕ) (e : WiredSwitch) → slice_get v.fleet.ends place ≡ Some e → (m : Message) → IsIn e.back m → IsError m → IsFullError m
 unfolding IsKept
 full-of v k place e here m i r =
     let l = line-at v k place e here in
@@ -236,7 +236,7 @@ takes-mute w v s h f k = subst (λ (x : Fleet). AreMute x.ends) (sym t.now) (mut
     t : TakesAt s w.fleet h.fleet
     t = h.step
 
-    new : End
+    new : WiredSwitch
     new = record { there = t.rest; back = answered (answer_of t.old.switch.sw t.message) t.old.back; switch = taken t.message t.old.switch }
 
     there : slice_get v.fleet.ends s ≡ Some new
@@ -260,7 +260,7 @@ unfolding IsKept
 heard-on w p g h mute k = hears-on (setting w) p w.fleet g h k.fleet mute
 
 -- so an event that is drawn leaves them, where no flow mod meets a full table
-pub free-step : HasRoom → (w : WorldValue) (e : Event) (v : WorldValue) → IsDrivable e → Step w e v → IsFree w → IsFree v
+pub free-step : HasTableRoom → (w : WorldValue) (e : Event) (v : WorldValue) → IsDrivable e → Step w e v → IsFree w → IsFree v
 free-step room w (event.Controller of_controller.Begin) v d s f =
     free-in _ w v s f (step-keeps w (event.Controller of_controller.Begin) v s f.kept) (present-step w (event.Controller of_controller.Begin) v s refl f.present) (ap (λ (x : Fleet). x.control.halt) s.step.now ∙ f.running) (subst (λ (x : Fleet). AreMute x.ends) (sym s.step.now) f.mute)
 free-step room w (event.Controller (of_controller.Send p)) v d s f =

@@ -25,10 +25,10 @@ pub record AreOthers (w : WorldValue) (lines : List PacketLine) (hops last : ℕ
   pub of_last : IsCount w (tried_last lines w) last
 
 -- the event changes one switch, its channels and what the coordinator has sent to it
-abbrev pub IsQuiet : Event → Type 0
-IsQuiet (event.Switch act) = Unit {0}
-IsQuiet (event.Controller (of_controller.Send s)) = Unit {0}
-IsQuiet _ = ⊥
+abbrev pub ChangesOneSwitch : Event → Type 0
+ChangesOneSwitch (event.Switch act) = Unit {0}
+ChangesOneSwitch (event.Controller (of_controller.Send s)) = Unit {0}
+ChangesOneSwitch _ = ⊥
 
 abbrev pub sum_of : List ℕ → ℕ
 sum_of [] = 0

@@ -6,7 +6,7 @@ use Rattle.document_text.specs.declared.document.PacketLine.{PacketLine}
 use Rattle.update_coordinator.specs.declared.cause.Cause.{Cause}
 use Rattle.update_coordinator.specs.Calls.{leaving}
 use Rattle.update_coordinator.specs.Controls.{Control}
-use Rattle.update_laws.specs.Fleets.{End}
+use Rattle.update_laws.specs.Fleets.{WiredSwitch}
 use Rattle.world_core.specs.declared.event.Event.{Event}
 use Rattle.world_core.specs.declared.event.Event.TheVariants as event
 use Rattle.world_core.specs.declared.event.ControllerEvent.TheVariants as of_controller
@@ -24,7 +24,7 @@ abbrev pub applies_from : ℕ → ℕ → ℕ → List Event
 applies_from s k zero = []
 applies_from s k (suc n) = event.Switch (of_switch.Apply s k) ∷ applies_from s (k + 1) n
 
-abbrev pub pending_at : Option End → ℕ
+abbrev pub pending_at : Option WiredSwitch → ℕ
 pending_at None = 0
 pending_at (Some e) = length e.switch.pending
 

@@ -7,14 +7,14 @@ use Rattle.policy_rows.specs.declared.version.Version.{Version}
 use Rattle.update_coordinator.specs.declared.phase.Phase.TheVariants as phase
 use Rattle.update_laws.specs.Traffic.{Arrived}
 use Rattle.world_core.specs.declared.event.Event.{Event}
-use Rattle.world_core.specs.Worlds.{WorldValue, start}
+use Rattle.world_core.specs.Worlds.{WorldValue, initial_world}
 use Rattle.workload_gen.specs.Documents.{document_of, generator}
 use Rattle.workload_gen.specs.Draws.{Draws}
 use Rattle.workload_gen.specs.Versions.{AreVersionsOf}
 
 -- the world of these versions in the document's topology, before anything has happened
 abbrev pub start_of : Doc → List Version → WorldValue
-start_of d versions = start d.layout versions (record { hops = d.settings.hops; capacity = d.settings.capacity; rejoins = 0; overlap = None })
+start_of d versions = initial_world d.layout versions (record { hops = d.settings.hops; capacity = d.settings.capacity; rejoins = 0; overlap = None })
 
 -- the line that an arrival came from
 abbrev pub line_of : Arrived → PacketLine

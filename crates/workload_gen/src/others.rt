@@ -3,7 +3,7 @@ ghost use Rattle.std.specs.Prelude.{◌≡◌, IsTrue};
 ghost use Rattle.world_core.specs.Steps.{Step};
 ghost use Rattle.world_core.specs.Worlds.{WorldValue};
 ghost use Rattle.world_core.specs.declared.event.Event.{Event as EventValue};
-ghost use Rattle.workload_gen.specs.Counts.{AreOthers, IsQuiet};
+ghost use Rattle.workload_gen.specs.Counts.{AreOthers, ChangesOneSwitch};
 ghost use Rattle.workload_gen.specs.Draws.{left_by};
 
 use crate::counting::{count_hops, count_last};
@@ -43,7 +43,7 @@ impl Others {
 
 /// Whether an event changes only a switch, its channels and what the coordinator has sent to it.
 pub(crate) fn is_quiet(event: &Event) -> bool
-    ensures { IsTrue result → IsQuiet event.now }
+    ensures { IsTrue result → ChangesOneSwitch event.now }
 {
     matches!(
         event,

@@ -19,7 +19,7 @@ use Rattle.fdd_nodes.specs.Trees.{Tree, Tests, IsSetBy}
 use Rattle.fdd_nodes.proofs.MakesLaws.{among_lists}
 use Rattle.fdd_nodes.proofs.SplitLaws.{ordered_weaken}
 use Rattle.fdd_compile.specs.Results.{SplitDiagramOf}
-use Rattle.topology_model.specs.declared.line.Site.{Site}
+use Rattle.topology_model.specs.declared.line.DeclaredSwitch.{DeclaredSwitch}
 use Rattle.topology_model.specs.Layouts.{Layout}
 use Rattle.topology_model.specs.Wired.{IsTopology}
 use Rattle.leaf_actions.specs.declared.route.Route.{Route}
@@ -62,7 +62,7 @@ goal_at s o p d sw n f g m k =
           absurd (omega (arith, z, low, lit_small m))
     ]
 
-few_at : (s o : ℕ) (p : Term) (d : Tree) (site : Site) (n : ℕ) → Forwards s o p → SplitDiagramOf p d → length (entries_at d site n) ≤ 2 * (s + 1)
+few_at : (s o : ℕ) (p : Term) (d : Tree) (site : DeclaredSwitch) (n : ℕ) → Forwards s o p → SplitDiagramOf p d → length (entries_at d site n) ≤ 2 * (s + 1)
 few_at s o p d site n f g =
     let part = part_at site.sw n d in
     let one : TestsOne EthDst s part = record {
@@ -74,7 +74,7 @@ few_at s o p d site n f g =
     let rows = few_entries no_tests part in
     omega (arith, paths, rows)
 
-few_on : (s o : ℕ) (p : Term) (d : Tree) (site : Site) (ns : List ℕ) → s ≤ 120 → Forwards s o p → SplitDiagramOf p d → row_count d site ns ≤ 242 * length ns
+few_on : (s o : ℕ) (p : Term) (d : Tree) (site : DeclaredSwitch) (ns : List ℕ) → s ≤ 120 → Forwards s o p → SplitDiagramOf p d → row_count d site ns ≤ 242 * length ns
 few_on s o p d site [] b f g = omega arith
 few_on s o p d site (n ∷ ns) b f g = let one = few_at s o p d site n f g in let rest = few_on s o p d site ns b f g in omega (arith, b, one, rest)
 
@@ -106,7 +106,7 @@ no_fault_at o v n e (fault.TooManyActions sw pt) bo bn r x h = not_long o e.way 
 no_fault_at o v n e (fault.TooManyRows sw pt) bo bn r x h = let k : 16000 ≤ n = h.2 in omega (arith, bn, k)
 no_fault_at o v n e (fault.TooManySwitchRows sw) bo bn r x h = h
 
-no_first : (o : ℕ) (v : PortView) (d : Tree) (site : Site) (n : ℕ) (f : EmitFault) → o ≤ 3000 → length (entries_at d site n) ≤ 16000 → AreRising d → AtLeaves (Exits o) d → ¬ IsFirstFault v 0 (entries_at d site n) f
+no_first : (o : ℕ) (v : PortView) (d : Tree) (site : DeclaredSwitch) (n : ℕ) (f : EmitFault) → o ≤ 3000 → length (entries_at d site n) ≤ 16000 → AreRising d → AtLeaves (Exits o) d → ¬ IsFirstFault v 0 (entries_at d site n) f
 no_first o v d site n f bo few r x h =
     let part = part_at site.sw n d in
     let among : IsIn (entries_at d site n) h.entry = subst (λ (es : List Entry). IsIn es h.entry) (sym h.all) (in-right h.before (h.entry ∷ h.behind) h.entry (inl refl)) in
@@ -123,8 +123,8 @@ no_fault s o p d t stamp f bs bo fw g r top h = elim h.here [
       no_first o (view_of t stamp h.site k.port) d h.site k.port f bo (omega (arith, few, bs)) r
       (leaves_of (λ m. IsAmong Pt o (lit_field m) (lit_value m)) d (λ m i. fw.assigns (lit_field m) (lit_value m) (g.assigns m i))) k.here
   | inr k ↦
-      let among : IsIn t.switches h.site = subst (λ (l : List Site). IsIn l h.site) (sym h.all) (in-right h.before (h.site ∷ h.behind) h.site (inl refl)) in
-      let ports = (top.sound.sites h.site among).few in
+      let among : IsIn t.switches h.site = subst (λ (l : List DeclaredSwitch). IsIn l h.site) (sym h.all) (in-right h.before (h.site ∷ h.behind) h.site (inl refl)) in
+      let ports = (top.sound.peers h.site among).few in
       let rows = few_on s o p d h.site h.site.ports bs fw g in
       let many = k.many in
       omega (arith, ports, rows, many)

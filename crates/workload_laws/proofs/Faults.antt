@@ -6,7 +6,7 @@ use Rattle.nk_values.specs.declared.packet.Packet.{Packet}
 use Rattle.nk_values.specs.Members.{IsIn}
 use Rattle.nk_values.specs.Packets.{with_value, IsInRange, IsWellShaped}
 use Rattle.nk_values.specs.Ranges.{IsValue, place}
-use Rattle.nk_values.specs.Trails.{Trail, start, renewed}
+use Rattle.nk_values.specs.Trails.{Trail, one_packet, renewed}
 use Rattle.nk_values.proofs.MemberLaws.{in-either, from-flat_map}
 use Rattle.nk_syntax.specs.Terms.{Term, Terms, Filter, Assign, Sum, Seq, Star, Dup, no_terms, term}
 use Rattle.history_meaning.specs.Meaning.{meets, den, union, chain}
@@ -120,7 +120,7 @@ shaped p q m s = record {
 
 guarded : (s o : ℕ) (p : Term) (pk : Packet) → o ≤ 65279 → Forwards s o p → ¬ IsUnguarded p pk
 guarded s o p pk b f u =
-    let w = moves o p u.result.is_result.0 (start pk) u.result.history b f.direct f.assigns (u.shaped.in_range Pt) u.result.is_result.1 in
+    let w = moves o p u.result.is_result.0 (one_packet pk) u.result.history b f.direct f.assigns (u.shaped.in_range Pt) u.result.is_result.1 in
     u.misshaped (shaped pk u.output (subst (Moved pk) u.result.newest w) u.shaped)
 
 no_some : (p : Term) (x : CompileFault) → leftmost p ≡ None → ¬ (leftmost p ≡ Some x)

@@ -6,7 +6,7 @@ use Rattle.nk_values.specs.declared.field.Field.TheVariants.{Sw, Pt, EthDst}
 use Rattle.nk_values.specs.declared.packet.Packet.{Packet}
 use Rattle.nk_values.specs.Members.{IsIn}
 use Rattle.nk_values.specs.Packets.{with_value}
-use Rattle.nk_values.specs.Trails.{Trail, start, renewed}
+use Rattle.nk_values.specs.Trails.{Trail, one_packet, renewed}
 use Rattle.nk_values.proofs.MemberLaws.{in-either}
 use Rattle.nk_syntax.specs.Terms.{Term, Filter, Assign, Test, no_terms, term}
 use Rattle.nk_syntax.specs.Views.{term_row}
@@ -24,9 +24,9 @@ pub record IsSentOn (s : ℕ) (pk q : Packet) : Type 0 where
   pub high : pk.header.eth_dst ≤ s
   pub is : q ≡ record pk { pt = exit pk.sw pk.header.eth_dst }
 
-hop-result : (i d n : ℕ) (pk : Packet) (y : Trail) → IsIn (den (hop i d) n (start pk)) y → (pk.sw ≡ i) × (pk.header.eth_dst ≡ d) × (y.newest ≡ with_value pk Pt (exit i d))
+hop-result : (i d n : ℕ) (pk : Packet) (y : Trail) → IsIn (den (hop i d) n (one_packet pk)) y → (pk.sw ≡ i) × (pk.header.eth_dst ≡ d) × (y.newest ≡ with_value pk Pt (exit i d))
 hop-result i d n pk y m =
-    let x = start pk in
+    let x = one_packet pk in
     let r = from-chain (Filter (Test Sw i)) (term (Filter (Test EthDst d)) (term (Assign Pt (exit i d)) no_terms)) n x y m in
     let q = from-chain (Filter (Test EthDst d)) (term (Assign Pt (exit i d)) no_terms) n r.0 y r.2 in
     let t = from-chain (Assign Pt (exit i d)) no_terms n q.0 y q.2 in
@@ -45,9 +45,9 @@ from-union (p ∷ ps) n x y m = elim (in-either (den p n x) (union (term_row ps)
 pub sent-on : (s b : ℕ) (policy : Term) (pk q : Packet) → policy ≡ workload s b → HasResult policy pk q → IsSentOn s pk q
 sent-on s b policy pk q same r =
     let n = r.is_result.0 in
-    let u = from-union (flat_map (hops_at s b) (numbers 1 s)) n (start pk) r.history (subst (λ (p : Term). IsIn (den p n (start pk)) r.history) same r.is_result.1) in
+    let u = from-union (flat_map (hops_at s b) (numbers 1 s)) n (one_packet pk) r.history (subst (λ (p : Term). IsIn (den p n (one_packet pk)) r.history) same r.is_result.1) in
     let h = hop_of s b u.0 u.1 in
-    let e = hop-result h.switch h.goal n pk r.history (subst (λ (p : Term). IsIn (den p n (start pk)) r.history) (sym h.is) u.2) in
+    let e = hop-result h.switch h.goal n pk r.history (subst (λ (p : Term). IsIn (den p n (one_packet pk)) r.history) (sym h.is) u.2) in
     record {
       first = omega (arith, e.0, h.first);
       last = omega (arith, e.0, h.last);

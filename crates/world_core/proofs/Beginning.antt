@@ -15,7 +15,7 @@ use Rattle.update_coordinator.specs.Controls.{Control}
 use Rattle.update_coordinator.specs.Starts as starts
 use Rattle.update_laws.specs.Traffic.{Arrived}
 use Rattle.update_laws.specs.Settings.{AreVersions, setting_of}
-use Rattle.update_laws.specs.Fleets.{End, IsMade, IsNewEnd}
+use Rattle.update_laws.specs.Fleets.{WiredSwitch, IsMade, IsNewEnd}
 use Rattle.update_laws.proofs.Beginnings.{made-start}
 use Rattle.update_laws.proofs.Landing.{start-traffic}
 use Rattle.update_laws.proofs.Parting.{start-apart}
@@ -24,11 +24,11 @@ use Rattle.update_laws.proofs.Starting.{start-fleet}
 use Rattle.update_laws.proofs.Wiring.{some-is}
 use Rattle.world_core.specs.Ends.{new_end}
 use Rattle.world_core.specs.declared.settings.Settings.{Settings}
-use Rattle.world_core.specs.Worlds.{numbers_of, pols_of, rows_of, paired, start, IsKept}
+use Rattle.world_core.specs.Worlds.{numbers_of, pols_of, rows_of, paired, initial_world, IsKept}
 use Rattle.world_core.proofs.Paired.{paired-parts}
 use Rattle.world_core.proofs.Tables.{new-distinct}
 
-numbers-kept : (capacity : ℕ) (ns : List ℕ) → map (λ (e : End). e.switch.sw) (map (new_end capacity) ns) ≡ ns
+numbers-kept : (capacity : ℕ) (ns : List ℕ) → map (λ (e : WiredSwitch). e.switch.sw) (map (new_end capacity) ns) ≡ ns
 numbers-kept capacity [] = refl
 numbers-kept capacity (n ∷ ns) = ap (λ (ms : List ℕ). n ∷ ms) (numbers-kept capacity ns)
 
@@ -47,17 +47,17 @@ some-switch t k =
     let d = edge_declared t a.0 a.1 in
     omega (arith, not-empty t.switches d.site d.among, length-map t.switches (λ s. s.sw))
 
-new-end : (capacity : ℕ) (ns : List ℕ) (k sw : ℕ) (e : End) → slice_get ns k ≡ Some sw → slice_get (map (new_end capacity) ns) k ≡ Some e → IsNewEnd capacity sw e
+new-end : (capacity : ℕ) (ns : List ℕ) (k sw : ℕ) (e : WiredSwitch) → slice_get ns k ≡ Some sw → slice_get (map (new_end capacity) ns) k ≡ Some e → IsNewEnd capacity sw e
 new-end capacity ns k sw e a b =
     let x = get-map (new_end capacity) k ns e b in
-    subst (λ (z : End). IsNewEnd capacity sw z) x.2 (subst (λ (n : ℕ). IsNewEnd capacity sw (new_end capacity n)) (some-is sw x.0 (sym a ∙ x.1)) (record { there = refl; xid = 0; back = refl; switch = refl }))
+    subst (λ (z : WiredSwitch). IsNewEnd capacity sw z) x.2 (subst (λ (n : ℕ). IsNewEnd capacity sw (new_end capacity n)) (some-is sw x.0 (sym a ∙ x.1)) (record { there = refl; xid = 0; back = refl; switch = refl }))
 
 -- what holds of each version's rows
 pub all-rows : (P : Rows → Type 0) (vs : List Version) → ((k : ℕ) (v : Version) → slice_get vs k ≡ Some v → P v.rows) → AllByRecursion P (map (λ (v : Version). v.rows) vs)
 all-rows P [] h = tt
 all-rows P (v ∷ vs) h = (h 0 v refl, all-rows P vs (λ k w e. h (suc k) w e))
 
-pub start-kept : (t : Layout) (vs : List Version) (settings : Settings) → IsTopology t → AreVersions t vs settings.overlap → 1 ≤ settings.hops → IsKept (start t vs settings)
+pub start-kept : (t : Layout) (vs : List Version) (settings : Settings) → IsTopology t → AreVersions t vs settings.overlap → 1 ≤ settings.hops → IsKept (initial_world t vs settings)
 unfolding IsKept
 start-kept t vs settings k v l = record {
   topology = k;
@@ -66,25 +66,25 @@ start-kept t vs settings k v l = record {
   places = numbers-kept settings.capacity (numbers_of t.switches);
   rows = refl;
   distinct = new-distinct settings.capacity (numbers_of t.switches);
-  fleet = start-fleet (setting_of t vs settings.hops settings.capacity settings.overlap) (start t vs settings).fleet (made-start t vs settings.hops settings.capacity settings.overlap settings.rejoins (numbers_of t.switches) (start t vs settings).fleet k v made);
+  fleet = start-fleet (setting_of t vs settings.hops settings.capacity settings.overlap) (initial_world t vs settings).fleet (made-initial_world t vs settings.hops settings.capacity settings.overlap settings.rejoins (numbers_of t.switches) (initial_world t vs settings).fleet k v made);
   traffic = start-traffic t (setting_of t vs settings.hops settings.capacity settings.overlap) 0;
   apart = start-apart;
 }
   where
-    made : IsMade settings.capacity settings.rejoins settings.overlap vs (numbers_of t.switches) (start t vs settings).fleet
+    made : IsMade settings.capacity settings.rejoins settings.overlap vs (numbers_of t.switches) (initial_world t vs settings).fleet
     made = record { control = refl; count = length-map (numbers_of t.switches) (new_end settings.capacity); some = some-switch t k; ends = λ n sw e. new-end settings.capacity (numbers_of t.switches) n sw e }
 
 -- the world that is made of its parts
-pub made-of : (t : Layout) (vs : List Version) (settings : Settings) (ps : List Pol) (d : Control) (es : List End) (rows : List Rows) (ns ms : List ℕ) (fs : List Flight) (as' : List Arrived) →
-    ps ≡ pols_of vs → d ≡ starts.start rows ns settings.rejoins settings.overlap → rows ≡ rows_of vs → ns ≡ numbers_of t.switches → es ≡ map (new_end settings.capacity) ms → ms ≡ numbers_of t.switches → fs ≡ [] → as' ≡ [] →
-    record { topology = t; versions = paired ps d.versions; limit = settings.hops; capacity = settings.capacity; overlap = settings.overlap; fleet = record { control = d; ends = es }; flights = fs; arrivals = as' } ≡ start t vs settings
+pub made-of : (t : Layout) (vs : List Version) (settings : Settings) (ps : List Pol) (d : Control) (es : List WiredSwitch) (rows : List Rows) (ns ms : List ℕ) (fs : List Flight) (as' : List Arrived) →
+    ps ≡ pols_of vs → d ≡ starts.initial_control rows ns settings.rejoins settings.overlap → rows ≡ rows_of vs → ns ≡ numbers_of t.switches → es ≡ map (new_end settings.capacity) ms → ms ≡ numbers_of t.switches → fs ≡ [] → as' ≡ [] →
+    record { topology = t; versions = paired ps d.versions; limit = settings.hops; capacity = settings.capacity; overlap = settings.overlap; fleet = record { control = d; ends = es }; flights = fs; arrivals = as' } ≡ initial_world t vs settings
 made-of t vs settings ps d es rows ns ms fs as' p a b c e f g h = λ i. record {
   topology = t;
   versions = ((λ j. paired (p j) (ap (λ (x : Control). x.versions) a j)) ∙ ap (paired (pols_of vs)) b ∙ paired-parts vs) i;
   limit = settings.hops;
   capacity = settings.capacity;
   overlap = settings.overlap;
-  fleet = record { control = (a ∙ (λ j. starts.start (b j) (c j) settings.rejoins settings.overlap)) i; ends = (e ∙ ap (map (new_end settings.capacity)) f) i };
+  fleet = record { control = (a ∙ (λ j. starts.initial_control (b j) (c j) settings.rejoins settings.overlap)) i; ends = (e ∙ ap (map (new_end settings.capacity)) f) i };
   flights = g i;
   arrivals = h i;
 }

@@ -9,11 +9,11 @@ use Rattle.packet_tracer.specs.declared.flight.Flight.{Flight}
 use Rattle.update_coordinator.specs.Awaited.{Awaited}
 use Rattle.update_coordinator.specs.declared.cause.Cause.{Cause}
 use Rattle.update_coordinator.specs.declared.cause.Cause.TheVariants as cause
-use Rattle.update_coordinator.specs.Controls.{Control, Site, halted}
+use Rattle.update_coordinator.specs.Controls.{Control, Peer, halted}
 use Rattle.update_coordinator.specs.Calls.{next_clean}
 use Rattle.update_laws.specs.Updates.{IsSetting, Phase, Idle, Drain, Clean, Within, swept_after}
 use Rattle.update_laws.specs.Settings.{stamp_in}
-use Rattle.update_laws.specs.Fleets.{End, Fleet, FleetEvent, Begin, Send, Take, Apply, Answer, Hear, Drained, Lose, Return, Halt, FleetStep, LosesAt, ReturnsAt, SendsAt, TakesAt, AppliesAt, RepliesAt, HearsAt, Begins, Drains, wire_of}
+use Rattle.update_laws.specs.Fleets.{WiredSwitch, Fleet, FleetEvent, Begin, Send, Take, Apply, Answer, Hear, Drained, Lose, Return, Halt, FleetStep, LosesAt, ReturnsAt, SendsAt, TakesAt, AppliesAt, RepliesAt, HearsAt, Begins, Drains, wire_of}
 use Rattle.update_laws.specs.Stages.{IsLine}
 use Rattle.update_laws.specs.Traffic.{IsTraffic}
 use Rattle.update_laws.proofs.Fleets.{end-here}
@@ -136,10 +136,10 @@ halt-keeps : (why : Cause) (w : WorldValue) → IsKept w → IsKept (standing_st
 halt-keeps why w k = fleet-keeps w Halt (record w.fleet { control = halted why w.fleet.control }) k (record { cause = why; now = refl }) (same-phase w (record w.fleet { control = halted why w.fleet.control }) (refl, refl))
 
 -- the line of a switch
-pub line-at : (w : WorldValue) (k : Keeps w) (place : ℕ) (e : End) → slice_get w.fleet.ends place ≡ Some e → (s : Site) × (r : Awaited) × IsLine (setting w) w.fleet.control.swept w.fleet.control.phase (is_some w.fleet.control.halt) (wire_of w.fleet.control s r e)
+pub line-at : (w : WorldValue) (k : Keeps w) (place : ℕ) (e : WiredSwitch) → slice_get w.fleet.ends place ≡ Some e → (s : Peer) × (r : Awaited) × IsLine (setting w) w.fleet.control.swept w.fleet.control.phase (is_some w.fleet.control.halt) (wire_of w.fleet.control s r e)
 line-at w k place e here =
     let h = end-here (setting w) w.fleet k.fleet place e here in
-    (h.site, h.reply, k.fleet.lines place h.site h.reply e h.site_at h.reply_at here)
+    (h.peer, h.reply, k.fleet.lines place h.peer h.reply e h.peer_at h.reply_at here)
 
 small : (tag : Option ℕ) → IsTag tag → (n : ℕ) → tag ≡ Some n → n ≤ 4094
 small tag t n e = (subst IsTag e t).1
@@ -194,7 +194,7 @@ lost-keeps : (s : ℕ) (w v : WorldValue) → InFleet (Loses s) w v → IsKept w
 lost-keeps s w v h k = elim h.step [
   | inl t ↦ in-fleet (LosesAt s) (Lose s) w v (record { fleet = h.fleet; step = t; now = h.now }) k t
       (same-phase w h.fleet (let l = loss-phase s w.fleet.control t.control t.lost in (ap (λ (x : Fleet). x.control.phase) t.now ∙ l.0, ap (λ (x : Fleet). x.control.swept) t.now ∙ l.1)))
-  | inr t ↦ subst (λ (x : WorldValue). IsKept x) (sym (h.now ∙ ap (λ (f : Fleet). record w { fleet = f }) (stopped s w.fleet h.fleet t))) (halt-keeps (cause.Lost t.lost.site.sw) w k)
+  | inr t ↦ subst (λ (x : WorldValue). IsKept x) (sym (h.now ∙ ap (λ (f : Fleet). record w { fleet = f }) (stopped s w.fleet h.fleet t))) (halt-keeps (cause.Lost t.lost.peer.sw) w k)
 ]
 
 pub step-keeps : (w : WorldValue) (e : Event) (v : WorldValue) → Step w e v → IsKept w → IsKept v

@@ -10,7 +10,7 @@ use Rattle.packet_tracer.specs.declared.flight.Flight.{Flight}
 use Rattle.packet_tracer.specs.Hops.{NoTie}
 use Rattle.update_coordinator.specs.declared.phase.Phase.TheVariants as phase
 use Rattle.update_coordinator.specs.Calls.{draining}
-use Rattle.update_laws.specs.Fleets.{End, AppliesAt, waited, IsFleet}
+use Rattle.update_laws.specs.Fleets.{WiredSwitch, AppliesAt, waited, IsFleet}
 use Rattle.update_laws.specs.Settings.{AreVersions}
 use Rattle.update_laws.specs.Traffic.{Arrived, IsGood, IsLanded}
 use Rattle.world_core.specs.declared.settings.Settings.{Settings}
@@ -19,8 +19,8 @@ use Rattle.world_core.specs.declared.event.Event.TheVariants as event
 use Rattle.world_core.specs.declared.event.ControllerEvent.TheVariants as of_controller
 use Rattle.world_core.specs.declared.event.PacketEvent.TheVariants as of_packet
 use Rattle.world_core.specs.declared.event.SwitchEvent.TheVariants as of_switch
-use Rattle.world_core.specs.Worlds.{WorldValue, setting, start, IsKept}
-use Rattle.world_core.specs.Settling.{Follows}
+use Rattle.world_core.specs.Worlds.{WorldValue, setting, initial_world, IsKept}
+use Rattle.world_core.specs.Settling.{Exhausts}
 use Rattle.world_core.specs.Steps.{InFleet, IsEnabled, Step, Runs}
 
 -- Of each packet that came in: its finished histories and the futures of its copies are, each exactly once, its complete histories under one policy, the one that was current when it came in or the one that was coming in.
@@ -33,7 +33,7 @@ EveryRunIsGood w = (events : List Event) (v : WorldValue) → Runs w events v �
 
 -- A world that starts with rows for its policies keeps what every world keeps.
 abbrev pub StartIsKept : Type 0
-StartIsKept = (t : Layout) (versions : List Version) (settings : Settings) → IsTopology t → AreVersions t versions settings.overlap → 1 ≤ settings.hops → IsKept (start t versions settings)
+StartIsKept = (t : Layout) (versions : List Version) (settings : Settings) → IsTopology t → AreVersions t versions settings.overlap → 1 ≤ settings.hops → IsKept (initial_world t versions settings)
 
 -- Once no copy of it is in flight, its finished histories are, each exactly once, its complete ones under that policy.
 abbrev pub PacketsLand : Type 0
@@ -94,8 +94,8 @@ abbrev pub HasSpace : WorldValue → Type 0
 HasSpace w = (w.overlap ≡ None) × (130000 ≤ w.capacity)
 
 -- Then no flow mod meets a full table.
-abbrev pub HasRoom : Type 0
-HasRoom = (w : WorldValue) (s k : ℕ) (v : WorldValue) → IsKept w → HasSpace w → (h : InFleet (AppliesAt s k) w v) → h.step.answer ≡ None
+abbrev pub HasTableRoom : Type 0
+HasTableRoom = (w : WorldValue) (s k : ℕ) (v : WorldValue) → IsKept w → HasSpace w → (h : InFleet (AppliesAt s k) w v) → h.step.answer ≡ None
 
 -- two worlds show the same: the coordinator, the copies in flight, and the packets that came in
 pub record ShowsSame (w v : WorldValue) : Type 0 where
@@ -109,7 +109,7 @@ RunsAgree = (w : WorldValue) (events : List Event) (v x : WorldValue) → IsKept
 
 -- What is done by itself is decided by where it starts.
 abbrev pub FollowsAgree : (WorldValue → List Event) → Type 0
-FollowsAgree tried = (w : WorldValue) (es : List Event) (v : WorldValue) (fs : List Event) (u : WorldValue) → IsKept w → Follows tried w es v → Follows tried w fs u → es ≡ fs
+FollowsAgree tried = (w : WorldValue) (es : List Event) (v : WorldValue) (fs : List Event) (u : WorldValue) → IsKept w → Exhausts tried w es v → Exhausts tried w fs u → es ≡ fs
 
 -- An event that happens could happen.
 abbrev pub StepIsEnabled : Type 0
@@ -121,4 +121,4 @@ SwitchesFollow = (w : WorldValue) → IsKept w → IsFleet (setting w) w.fleet
 
 -- No two rows of a table tie, whatever packet and tag come in.
 abbrev pub NoRowsTie : Type 0
-NoRowsTie = (w : WorldValue) (place : ℕ) (e : End) → IsKept w → slice_get w.fleet.ends place ≡ Some e → (i : Incoming) → NoTie e.switch.table.rows i
+NoRowsTie = (w : WorldValue) (place : ℕ) (e : WiredSwitch) → IsKept w → slice_get w.fleet.ends place ≡ Some e → (i : Incoming) → NoTie e.switch.table.rows i

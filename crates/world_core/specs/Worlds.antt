@@ -5,13 +5,13 @@ use Rattle.nk_values.specs.declared.rows.Rows.{Rows}
 use Rattle.nk_values.specs.Tables.{Distinct}
 use Rattle.topology_model.specs.Layouts.{Layout}
 use Rattle.topology_model.specs.Wired.{IsTopology}
-use Rattle.topology_model.specs.declared.line.Site.{Site}
+use Rattle.topology_model.specs.declared.line.DeclaredSwitch.{DeclaredSwitch}
 use Rattle.policy_rows.specs.declared.version.Version.{Version}
 use Rattle.packet_tracer.specs.declared.flight.Flight.{Flight}
 use Rattle.update_coordinator.specs.Starts as starts
 use Rattle.update_laws.specs.Updates.{Setting}
 use Rattle.update_laws.specs.Settings.{AreVersions, setting_of}
-use Rattle.update_laws.specs.Fleets.{End, Fleet, IsFleet}
+use Rattle.update_laws.specs.Fleets.{WiredSwitch, Fleet, IsFleet}
 use Rattle.update_laws.specs.Traffic.{Arrived, IsTraffic, AreApart}
 use Rattle.world_core.specs.declared.settings.Settings.{Settings}
 use Rattle.world_core.specs.Ends.{new_end}
@@ -30,7 +30,7 @@ pub record WorldValue : Type 0 where
 abbrev pub setting : WorldValue → Setting
 setting w = setting_of w.topology w.versions w.limit w.capacity w.overlap
 
-abbrev pub numbers_of : List Site → List ℕ
+abbrev pub numbers_of : List DeclaredSwitch → List ℕ
 numbers_of sites = map (λ s. s.sw) sites
 
 abbrev pub pols_of : List Version → List Pol
@@ -46,15 +46,15 @@ paired (p ∷ ps) [] = []
 paired (p ∷ ps) (r ∷ rs) = record { pol = p; rows = r } ∷ paired ps rs
 
 -- the world before anything has happened
-abbrev pub start : Layout → List Version → Settings → WorldValue
-start t versions settings = record {
+abbrev pub initial_world : Layout → List Version → Settings → WorldValue
+initial_world t versions settings = record {
   topology = t;
   versions = versions;
   limit = settings.hops;
   capacity = settings.capacity;
   overlap = settings.overlap;
   fleet = record {
-    control = starts.start (rows_of versions) (numbers_of t.switches) settings.rejoins settings.overlap;
+    control = starts.initial_control (rows_of versions) (numbers_of t.switches) settings.rejoins settings.overlap;
     ends = map (new_end settings.capacity) (numbers_of t.switches);
   };
   flights = [];
@@ -62,15 +62,15 @@ start t versions settings = record {
 }
 
 -- no two rows of a table have one pattern and priority
-abbrev pub AreDistinct : List End → Type 0
-AreDistinct ends = (place : ℕ) (e : End) → slice_get ends place ≡ Some e → Distinct e.switch.table.rows
+abbrev pub AreDistinct : List WiredSwitch → Type 0
+AreDistinct ends = (place : ℕ) (e : WiredSwitch) → slice_get ends place ≡ Some e → Distinct e.switch.table.rows
 
 -- What every world keeps: its versions stand for their policies, and the coordinator has their rows; the switches are those of the topology, no two rows of a table have one key, each switch is where the phase has it, each packet is handled by one policy of its entry, and its copies are apart.
 pub record Keeps (w : WorldValue) : Type 0 where
   pub topology : IsTopology w.topology
   pub versions : AreVersions w.topology w.versions w.overlap
   pub limit : 1 ≤ w.limit
-  pub places : map (λ (e : End). e.switch.sw) w.fleet.ends ≡ numbers_of w.topology.switches
+  pub places : map (λ (e : WiredSwitch). e.switch.sw) w.fleet.ends ≡ numbers_of w.topology.switches
   pub rows : w.fleet.control.versions ≡ rows_of w.versions
   pub distinct : AreDistinct w.fleet.ends
   pub fleet : IsFleet (setting w) w.fleet

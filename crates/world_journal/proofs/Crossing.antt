@@ -14,8 +14,8 @@ use Rattle.std.below.std_heap.proofs.GlobalAllocator.TheSendSync as heaps
 use Rattle.topology_model.proofs.topology.Topology.TheSendSync as topologies
 use Rattle.update_coordinator.proofs.Crossing.{coordinator-send}
 use Rattle.world_journal.proofs.Passing.{flights-send, arrival-send}
-use Rattle.world_core.specs.contracts.end.End as end_
-use Rattle.world_core.proofs.end.End.TheSendSync as ends
+use Rattle.world_core.specs.contracts.wired_switch.WiredSwitch as end_
+use Rattle.world_core.proofs.wired_switch.WiredSwitch.TheSendSync as ends
 use Rattle.world_core.specs.contracts.arrival.Arrival as arrival
 use Rattle.world_core.specs.contracts.world.World as world
 use Rattle.world_core.specs.contracts.world.World.TheInside as inside

@@ -8,8 +8,8 @@ use Rattle.world_core.specs.declared.event.Event.{Event}
 use Rattle.world_core.specs.declared.event.Event.TheVariants as event
 use Rattle.world_core.specs.declared.event.ControllerEvent.TheVariants as of_controller
 use Rattle.world_core.specs.declared.event.PacketEvent.TheVariants as of_packet
-use Rattle.worker_desk.specs.declared.gate.Kind.{Kind}
-use Rattle.worker_desk.specs.declared.gate.Kind.TheVariants as kind
+use Rattle.worker_desk.specs.declared.gate.StepKind.{StepKind}
+use Rattle.worker_desk.specs.declared.gate.StepKind.TheVariants as kind
 use Rattle.worker_desk.specs.declared.desk.Given.{Given}
 use Rattle.worker_desk.specs.declared.desk.Given.TheVariants as given
 use Rattle.worker_desk.specs.declared.desk.Told.{Told}
@@ -19,13 +19,13 @@ use Rattle.worker_desk.specs.declared.desk.Shut.TheVariants as shut
 use Rattle.world_journal.specs.Journals.{HeldValue, entry}
 use Rattle.world_journal.specs.declared.entry.Entry.{Entry}
 use Rattle.world_journal.specs.declared.line.Line.{Line}
-use Rattle.world_journal.specs.declared.moves.Did.{Did}
-use Rattle.world_journal.specs.declared.moves.Did.TheVariants as did
+use Rattle.world_journal.specs.declared.moves.StepOutcome.{StepOutcome}
+use Rattle.world_journal.specs.declared.moves.StepOutcome.TheVariants as did
 use Rattle.world_journal.specs.declared.updates.Absence.{Absence}
 use Rattle.world_journal.specs.declared.updates.Update.{Update}
 use Rattle.world_journal.specs.declared.updates.Update.TheVariants as update
 use Rattle.world_journal.specs.Runs.{RunValue, dropping, laying, marking, taking}
-use Rattle.world_journal.specs.Calls.{Advances, Arrives, Cuts, Drops, Gives, GoesOn, IsStale, Loses, LosesNow, Made, Puts, Receives, Returns, RunsOut, Shuts, TakesIn, Tells, TellsNow, TurnsAway, Works, noted}
+use Rattle.world_journal.specs.Calls.{Advances, RunArrives, RunCuts, Drops, RunGives, GoesOn, IsStale, RunLoses, LosesNow, Made, RunPuts, Receives, Returns, RunsOut, Shuts, TakesIn, RunTells, TellsNow, TurnsAway, Works, noted}
 use Rattle.world_journal.specs.Moves.{ComesIn, HopsOn, Rejoins, Updates}
 
 -- the journal of the first begins that of the second
@@ -61,12 +61,12 @@ taken-on {E} old new side s is = held-on old new (ap (λ (r : RunValue E). r.hel
 made-on : {E : Type 0} (w : ℕ) (e : Event) (old new : RunValue E) → Made w e old new → Extends old new
 made-on w e old new h = entry-on old new (entry w e) h.journal
 
-cuts-on : {E : Type 0} (w : ℕ) (e : Event) (end : E) (old new : RunValue E) → Cuts w e end old new → Extends old new
+cuts-on : {E : Type 0} (w : ℕ) (e : Event) (end : E) (old new : RunValue E) → RunCuts w e end old new → Extends old new
 cuts-on w e end old new h = entry-on old new (entry w e) h.journal
 
 -- ---- give
 
-advances-on : {E : Type 0} (w : ℕ) (side : Side) (s : ℕ) (old new : RunValue E) (made : Option Kind) → Advances w side s old new made → Extends old new
+advances-on : {E : Type 0} (w : ℕ) (side : Side) (s : ℕ) (old new : RunValue E) (made : Option StepKind) → Advances w side s old new made → Extends old new
 advances-on w side.Controller s old new None h = same-on old new h.1
 advances-on w side.Controller s old new (Some kind.Send) h = made-on w _ old new h
 advances-on w side.Controller s old new (Some kind.Take) h = absurd h
@@ -84,7 +84,7 @@ advances-on w side.Switch s old new (Some kind.Heard) h = absurd h
 advances-on w side.Switch s old new (Some kind.Arrive) h = absurd h
 advances-on w side.Switch s old new (Some kind.Hop) h = absurd h
 
-puts-on : {E : Type 0} (w : ℕ) (side : Side) (s : ℕ) (old new : RunValue E) (made : Option Kind) (waiting : Bool) → Puts w side s old new made waiting → Extends old new
+puts-on : {E : Type 0} (w : ℕ) (side : Side) (s : ℕ) (old new : RunValue E) (made : Option StepKind) (waiting : Bool) → RunPuts w side s old new made waiting → Extends old new
 puts-on w side s old new made waiting h = marked-on old h.between new side s waiting (advances-on w side s old h.between made h.step) h.marked
 
 goes-on : {E : Type 0} (w : ℕ) (side : Side) (s : ℕ) (old new : RunValue E) (g : Given E) → GoesOn w side s old new g → Extends old new
@@ -103,7 +103,7 @@ works-on w side s old new (given.Out m (Some k)) h = goes-on w side s old new (g
 works-on w side s old new (given.Expect made) h = goes-on w side s old new (given.Expect made) h.1
 works-on w side s old new (given.Nothing made) h = goes-on w side s old new (given.Nothing made) h.1
 
-gives-on : {E : Type 0} (w : ℕ) (side : Side) (s : ℕ) (old new : RunValue E) (g : Given E) → Gives w side s old new g → Extends old new
+gives-on : {E : Type 0} (w : ℕ) (side : Side) (s : ℕ) (old new : RunValue E) (g : Given E) → RunGives w side s old new g → Extends old new
 gives-on w side s old new given.Stop h = same-on old new h.1
 gives-on w side s old new (given.NewEnd e) h = taken-on old new side s h.2
 gives-on w side s old new (given.Out m made) h = works-on w side s old new (given.Out m made) h.2
@@ -114,7 +114,7 @@ runs-out-on : {E : Type 0} (w : ℕ) (side : Side) (s : ℕ) (old new : RunValue
 runs-out-on w side s old new (inl is) = same-on old new is
 runs-out-on w side s old new (inr h) = puts-on w side s old new h.0 true h.1
 
-pub given-on : {E F : Type 0} (w : ℕ) (side : Side) (s : ℕ) (old new : RunValue E) (r : Result (Given E) F) → IfOk r (Gives w side s old new) → OnErr r (RunsOut w side s old new) → Extends old new
+pub given-on : {E F : Type 0} (w : ℕ) (side : Side) (s : ℕ) (old new : RunValue E) (r : Result (Given E) F) → IfOk r (RunGives w side s old new) → OnErr r (RunsOut w side s old new) → Extends old new
 given-on w side s old new (Ok g) h m = gives-on w side s old new g h
 given-on w side s old new (Err e) h m = runs-out-on w side s old new m
 
@@ -149,7 +149,7 @@ now-on : {E : Type 0} (w : ℕ) (side : Side) (s : ℕ) (bytes : List ℕ) (k : 
 now-on w side s bytes k end old new t (inl h) = takes-on w side s end old new t h.1
 now-on w side s bytes k end old new t (inr h) = turns-on w side s bytes k end old new t h.1
 
-pub tells-on : {E : Type 0} (n name w : ℕ) (side : Side) (s : ℕ) (bytes : List ℕ) (k : ℕ) (end : E) (old new : RunValue E) (t : Told E) → Tells n name w side s bytes k end old new t → Extends old new
+pub tells-on : {E : Type 0} (n name w : ℕ) (side : Side) (s : ℕ) (bytes : List ℕ) (k : ℕ) (end : E) (old new : RunValue E) (t : Told E) → RunTells n name w side s bytes k end old new t → Extends old new
 tells-on n name w side s bytes k end old new t (inl h) = now-on w side s bytes k end old new t h.1
 tells-on n name w side s bytes k end old new t (inr h) = stale-on end old new t h.1
 
@@ -162,7 +162,7 @@ loses-now-on w s end old new (Back e None) h = same-on old new h.2
 loses-now-on w s end old new Kept h = drops-on w s end old new h
 loses-now-on w s end old new (Memory e) h = same-on old new h.1
 
-pub loses-on : {E : Type 0} (n name w s : ℕ) (end : E) (old new : RunValue E) (t : Told E) → Loses n name w s end old new t → Extends old new
+pub loses-on : {E : Type 0} (n name w s : ℕ) (end : E) (old new : RunValue E) (t : Told E) → RunLoses n name w s end old new t → Extends old new
 loses-on n name w s end old new t (inl h) = loses-now-on w s end old new t h.1
 loses-on n name w s end old new t (inr h) = stale-on end old new t h.1
 
@@ -195,20 +195,20 @@ updates-on n w lines old new update.Stop h = same-on old new h.1
 returns-on : {E : Type 0} (w s : ℕ) (pair : E × E) (old new : RunValue E) → Returns w s pair old new → Extends old new
 returns-on {E} w s pair old new h = on-held old h.between new (made-on w _ old h.between h.step) (ap (λ (r : RunValue E). r.held) h.now)
 
-pub rejoins-on : {E : Type 0} (n w : ℕ) (a : Absence) (pair : E × E) (old new : RunValue E) (d : Did) → Rejoins n w a pair old new d → Extends old new
+pub rejoins-on : {E : Type 0} (n w : ℕ) (a : Absence) (pair : E × E) (old new : RunValue E) (d : StepOutcome) → Rejoins n w a pair old new d → Extends old new
 rejoins-on n w a pair old new did.Step h = returns-on w a.place pair old new h.2
 rejoins-on n w a pair old new did.Nothing h = same-on old new h.2
 rejoins-on n w a pair old new did.Stop h = same-on old new h.1
 
-arrives-on : {E : Type 0} (w : ℕ) (lines : List Line) (place : ℕ) (old new : RunValue E) → Arrives w lines place old new → Extends old new
+arrives-on : {E : Type 0} (w : ℕ) (lines : List Line) (place : ℕ) (old new : RunValue E) → RunArrives w lines place old new → Extends old new
 arrives-on w lines place old new h = entry-on old new (entry w (event.Packet (of_packet.Arrive h.line.packet h.line.tag))) h.journal
 
-pub comes-on : {E : Type 0} (w : ℕ) (lines : List Line) (place : ℕ) (old new : RunValue E) (d : Did) → ComesIn w lines place old new d → Extends old new
+pub comes-on : {E : Type 0} (w : ℕ) (lines : List Line) (place : ℕ) (old new : RunValue E) (d : StepOutcome) → ComesIn w lines place old new d → Extends old new
 comes-on w lines place old new did.Step h = arrives-on w lines place old new h.1
 comes-on w lines place old new did.Nothing h = same-on old new h.3
 comes-on w lines place old new did.Stop h = same-on old new h.1
 
-pub hops-on : {E : Type 0} (w : ℕ) (old new : RunValue E) (d : Did) → HopsOn w old new d → Extends old new
+pub hops-on : {E : Type 0} (w : ℕ) (old new : RunValue E) (d : StepOutcome) → HopsOn w old new d → Extends old new
 hops-on w old new did.Step h = made-on w _ old new h.1.1
 hops-on w old new did.Nothing h = same-on old new h.2
 hops-on w old new did.Stop h = same-on old new h.1

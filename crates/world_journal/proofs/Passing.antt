@@ -35,7 +35,7 @@ use Rattle.flight_queues.specs.contracts.flights.Flights as flights
 use Rattle.flight_queues.specs.contracts.flights.Flights.TheInside as flights_inside
 use Rattle.world_core.specs.contracts.arrival.Arrival as arrival
 use Rattle.world_core.specs.contracts.arrival.Arrival.TheInside as arrival_inside
-use Rattle.update_coordinator.proofs.phase.Entry.TheSendSync as entries
+use Rattle.update_coordinator.proofs.phase.Admission.TheSendSync as entries
 use Rattle.flight_queues.specs.contracts.numbered.Mark as mark
 use Rattle.flight_queues.proofs.numbered.Mark.TheSendSync as marks
 use Rattle.update_coordinator.proofs.Sharing.{history-send}

@@ -3,7 +3,7 @@ use Rattle.std.proofs.Common.{◌≡◌, ◌≤◌, ◌<◌, ℕ, ◌⊎◌, Boo
 use mathlib.Core.List.{IsPrefix}
 use Rattle.status_board.proofs.Rising.{last_of-snoc}
 use Rattle.status_board.specs.declared.post.Post.{Post}
-use Rattle.status_board.specs.Posts.{last_of, newest, opening, post_at}
+use Rattle.status_board.specs.Posts.{last_post, newest, opening, post_at}
 use Rattle.update_coordinator.specs.declared.phase.Phase.{Phase}
 use Rattle.watch_laws.proofs.Posted.{posts-stay, stand-is-post}
 use Rattle.watch_laws.specs.Watching.{ArePosts, IsPosted, stand}
@@ -60,7 +60,7 @@ closed-kept {E} start old new posts is keeps = (
 
 -- ---- a post
 
-counts-within : (start : WorldValue) (events : List Event) (p : Post) (posts : List Post) → p.count ≤ length events → ArePosts start events posts → (last_of p posts).count ≤ length events
+counts-within : (start : WorldValue) (events : List Event) (p : Post) (posts : List Post) → p.count ≤ length events → ArePosts start events posts → (last_post p posts).count ≤ length events
 counts-within start events p [] within are = within
 counts-within start events p (q ∷ qs) within are = counts-within start events q qs are.0.within are.1
 

@@ -1,7 +1,7 @@
 -- What the calls of a session's or a switch's worker answer, by the state that they find.
 use Rattle.std.specs.Prelude.{◌≡◌, ℕ, ◌+◌, ◌-◌, ◌<◌, ◌≤◌, ◌⊎◌, ◌==◌, leb, ltb, if◌then◌else◌, Bool, true, false, List, [], ◌∷◌, ◌++◌, Option, Some, None, slice_get, slice_set}
-use Rattle.worker_desk.specs.declared.gate.Kind.{Kind}
-use Rattle.worker_desk.specs.declared.gate.Kind.TheVariants as kind
+use Rattle.worker_desk.specs.declared.gate.StepKind.{StepKind}
+use Rattle.worker_desk.specs.declared.gate.StepKind.TheVariants as kind
 use Rattle.update_coordinator.specs.declared.cause.Side.{Side}
 use Rattle.update_coordinator.specs.declared.cause.Side.TheVariants as side
 use Rattle.world_core.specs.declared.event.Event.{Event}
@@ -66,14 +66,14 @@ pub record Made {E : Type 0} (w : ℕ) (e : Event) (old new : RunValue E) : Type
   pub rest : IsBeside old new
 
 -- the same, and the end was kept
-pub record Cuts {E : Type 0} (w : ℕ) (e : Event) (end : E) (old new : RunValue E) : Type 0 where
+pub record RunCuts {E : Type 0} (w : ℕ) (e : Event) (end : E) (old new : RunValue E) : Type 0 where
   pub step : Step old.held.world e new.held.world
   pub journal : new.held.journal ≡ old.held.journal ++ entry w e ∷ []
   pub ends : new.held.ends ≡ old.held.ends ++ end ∷ []
   pub rest : IsBeside old new
 
 -- worker w let the packet at a place of the lines come in
-pub record Arrives {E : Type 0} (w : ℕ) (lines : List Line) (place : ℕ) (old new : RunValue E) : Type 0 where
+pub record RunArrives {E : Type 0} (w : ℕ) (lines : List Line) (place : ℕ) (old new : RunValue E) : Type 0 where
   pub line : Line
   pub here : slice_get lines place ≡ Some line
   pub first : slice_get old.arrived place ≡ Some false
@@ -88,7 +88,7 @@ abbrev pub IsBarred : WorldValue → List Line → ℕ → Type 0
 IsBarred w lines place = (line : Line) → slice_get lines place ≡ Some line → ¬ IsEnabled w (event.Packet (of_packet.Arrive line.packet line.tag))
 
 -- The step that this side of switch s makes by itself, if one is enabled: a session sends; a switch applies the first pending flow mod, or else answers its barrier.
-abbrev pub Advances : {E : Type 0} → ℕ → Side → ℕ → RunValue E → RunValue E → Option Kind → Type 0
+abbrev pub Advances : {E : Type 0} → ℕ → Side → ℕ → RunValue E → RunValue E → Option StepKind → Type 0
 Advances w side.Controller s old new None = (¬ IsEnabled old.held.world (event.Controller (of_controller.Send s))) × (new ≡ old)
 Advances w side.Controller s old new (Some kind.Send) = Made w (event.Controller (of_controller.Send s)) old new
 Advances w side.Switch s old new None = (¬ IsEnabled old.held.world (event.Switch (of_switch.Apply s 0))) × (¬ IsEnabled old.held.world (event.Switch (of_switch.Reply s))) × (new ≡ old)
@@ -101,7 +101,7 @@ abbrev pub receipt : Side → ℕ → Event
 receipt side.Controller s = event.Controller (of_controller.Heard s)
 receipt side.Switch s = event.Switch (of_switch.Take s)
 
-abbrev pub receipt_kind : Side → Kind
+abbrev pub receipt_kind : Side → StepKind
 receipt_kind side.Controller = kind.Heard
 receipt_kind side.Switch = kind.Take
 
@@ -112,19 +112,19 @@ has_put side s w v = ltb (sent_at w side s) (sent_at v side s)
 -- ---- give
 
 -- a step put a message on the channel, and this is noted of it: whether it waits to be handed out
-pub record Puts {E : Type 0} (w : ℕ) (side : Side) (s : ℕ) (old new : RunValue E) (made : Option Kind) (waiting : Bool) : Type 0 where
+pub record RunPuts {E : Type 0} (w : ℕ) (side : Side) (s : ℕ) (old new : RunValue E) (made : Option StepKind) (waiting : Bool) : Type 0 where
   pub between : RunValue E
   pub step : Advances w side s old between made
   pub put : has_put side s old.held.world between.held.world ≡ true
   pub marked : new ≡ marking between side s waiting
 
 -- no message was put there
-pub record Rests {E : Type 0} (w : ℕ) (side : Side) (s : ℕ) (old new : RunValue E) (made : Option Kind) : Type 0 where
+pub record Rests {E : Type 0} (w : ℕ) (side : Side) (s : ℕ) (old new : RunValue E) (made : Option StepKind) : Type 0 where
   pub step : Advances w side s old new made
   pub put : has_put side s old.held.world new.held.world ≡ false
 
 -- where no message is put on the channel one may be received
-abbrev pub RestsAs : {E : Type 0} → WorldValue → Side → ℕ → Option Kind → Given E → Type 0
+abbrev pub RestsAs : {E : Type 0} → WorldValue → Side → ℕ → Option StepKind → Given E → Type 0
 RestsAs w side s made (Expect m) = (m ≡ made) × IsEnabled w (receipt side s)
 RestsAs w side s made (Nothing m) = (m ≡ made) × ¬ IsEnabled w (receipt side s)
 RestsAs w side s made _ = ⊥
@@ -134,7 +134,7 @@ abbrev pub GoesOn : {E : Type 0} → ℕ → Side → ℕ → RunValue E → Run
 GoesOn w side s old new Stop = ⊥
 GoesOn w side s old new (NewEnd e) = ⊥
 GoesOn w side s old new (Out m None) = ⊥
-GoesOn w side s old new (Out m (Some k)) = Puts w side s old new (Some k) false × (newest_at new.held.world side s ≡ Some m)
+GoesOn w side s old new (Out m (Some k)) = RunPuts w side s old new (Some k) false × (newest_at new.held.world side s ≡ Some m)
 GoesOn w side s old new (Expect made) = Rests w side s old new made × IsEnabled new.held.world (receipt side s)
 GoesOn w side s old new (Nothing made) = Rests w side s old new made × ¬ IsEnabled new.held.world (receipt side s)
 
@@ -146,14 +146,14 @@ Works w side s old new (Out m None) = (waits old side s ≡ true) × (newest_at 
 Works w side s old new g = (waits old side s ≡ false) × GoesOn w side s old new g
 
 -- What `give` answers to the worker at this side of switch s: that it is to stop; a new end; the message that waits; or what its next step comes to.
-abbrev pub Gives : {E : Type 0} → ℕ → Side → ℕ → RunValue E → RunValue E → Given E → Type 0
-Gives w side s old new Stop = Stops old s × (new ≡ old)
-Gives w side s old new (NewEnd e) = (¬ Stops old s) × (end_at old side s ≡ Some e) × (new ≡ taking old side s)
-Gives w side s old new g = (¬ Stops old s) × (end_at old side s ≡ None) × Works w side s old new g
+abbrev pub RunGives : {E : Type 0} → ℕ → Side → ℕ → RunValue E → RunValue E → Given E → Type 0
+RunGives w side s old new Stop = Stops old s × (new ≡ old)
+RunGives w side s old new (NewEnd e) = (¬ Stops old s) × (end_at old side s ≡ Some e) × (new ≡ taking old side s)
+RunGives w side s old new g = (¬ Stops old s) × (end_at old side s ≡ None) × Works w side s old new g
 
 -- Out of memory nothing changed, or a step stands and its message waits.
 abbrev pub RunsOut : {E : Type 0} → ℕ → Side → ℕ → RunValue E → RunValue E → Type 0
-RunsOut w side s old new = (new ≡ old) ⊎ ((made : Option Kind) × Puts w side s old new made true)
+RunsOut w side s old new = (new ≡ old) ⊎ ((made : Option StepKind) × RunPuts w side s old new made true)
 
 -- ---- tell, lost, shut
 
@@ -187,7 +187,7 @@ TakesIn w side s end old new (Memory e) = (e ≡ end) × (new ≡ old)
 abbrev pub TurnsAway : {E : Type 0} → ℕ → Side → ℕ → List ℕ → ℕ → E → RunValue E → RunValue E → Told E → Type 0
 TurnsAway w side s bytes k end old new (Back e (Some made)) = ⊥
 TurnsAway w side s bytes k end old new (Back e None) = (e ≡ end) × (new ≡ old) × IsVain side s bytes k old
-TurnsAway w side s bytes k end old new Kept = (told_before s side old.held.journal ≡ k) × Cuts w (event.Foreign s side bytes) end old new
+TurnsAway w side s bytes k end old new Kept = (told_before s side old.held.journal ≡ k) × RunCuts w (event.Foreign s side bytes) end old new
 TurnsAway w side s bytes k end old new (Memory e) = (e ≡ end) × (new ≡ old)
 
 -- what is answered over an end of an earlier session
@@ -206,13 +206,13 @@ abbrev pub TellsNow : {E : Type 0} → ℕ → Side → ℕ → List ℕ → ℕ
 TellsNow w side s bytes k end old new told = (IsFrontAt bytes side s old.held.world × TakesIn w side s end old new told) ⊎ ((¬ IsFrontAt bytes side s old.held.world) × TurnsAway w side s bytes k end old new told)
 
 -- What `tell` answers over an end with this name: in its present session the front is received, where it can be; other bytes end the session, where they came next.
-abbrev pub Tells : {E : Type 0} → ℕ → ℕ → ℕ → Side → ℕ → List ℕ → ℕ → E → RunValue E → RunValue E → Told E → Type 0
-Tells n name w side s bytes k end old new told = (IsPresent n s name old × TellsNow w side s bytes k end old new told) ⊎ ((¬ IsPresent n s name old) × IsStale end old new told)
+abbrev pub RunTells : {E : Type 0} → ℕ → ℕ → ℕ → Side → ℕ → List ℕ → ℕ → E → RunValue E → RunValue E → Told E → Type 0
+RunTells n name w side s bytes k end old new told = (IsPresent n s name old × TellsNow w side s bytes k end old new told) ⊎ ((¬ IsPresent n s name old) × IsStale end old new told)
 
 -- The session was lost and the end kept, and nothing waits for the workers of the switch any more.
 pub record Drops {E : Type 0} (w s : ℕ) (end : E) (old new : RunValue E) : Type 0 where
   pub between : RunValue E
-  pub step : Cuts w (event.Controller (of_controller.Lost s)) end old between
+  pub step : RunCuts w (event.Controller (of_controller.Lost s)) end old between
   pub now : new ≡ dropping between s
 
 -- what is answered where the end of the present session failed
@@ -223,8 +223,8 @@ LosesNow w s end old new Kept = Drops w s end old new
 LosesNow w s end old new (Memory e) = (e ≡ end) × (new ≡ old)
 
 -- what `lost` answers over an end with this name
-abbrev pub Loses : {E : Type 0} → ℕ → ℕ → ℕ → ℕ → E → RunValue E → RunValue E → Told E → Type 0
-Loses n name w s end old new told = (IsPresent n s name old × LosesNow w s end old new told) ⊎ ((¬ IsPresent n s name old) × IsStale end old new told)
+abbrev pub RunLoses : {E : Type 0} → ℕ → ℕ → ℕ → ℕ → E → RunValue E → RunValue E → Told E → Type 0
+RunLoses n name w s end old new told = (IsPresent n s name old × LosesNow w s end old new told) ⊎ ((¬ IsPresent n s name old) × IsStale end old new told)
 
 -- what `shut` answers
 abbrev pub Shuts : {E : Type 0} → Side → ℕ → RunValue E → RunValue E → Shut E → Type 0

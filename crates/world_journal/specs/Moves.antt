@@ -7,24 +7,24 @@ use Rattle.world_core.specs.declared.event.PacketEvent.TheVariants as of_packet
 use Rattle.world_core.specs.Steps.{IsEnabled}
 use Rattle.world_core.specs.Worlds.{WorldValue}
 use Rattle.world_journal.specs.Arriving.{IsLast}
-use Rattle.world_journal.specs.Calls.{Made, Arrives, IsBarred, Returns}
+use Rattle.world_journal.specs.Calls.{Made, RunArrives, IsBarred, Returns}
 use Rattle.world_journal.specs.Journals.{events_of, name_of, session}
 use Rattle.world_journal.specs.Runs.{HasEnded, RunValue}
 use Rattle.world_journal.specs.declared.line.Line.{Line}
-use Rattle.world_journal.specs.declared.moves.Did.{Did}
-use Rattle.world_journal.specs.declared.moves.Did.TheVariants.{Step, Nothing, Stop}
+use Rattle.world_journal.specs.declared.moves.StepOutcome.{StepOutcome}
+use Rattle.world_journal.specs.declared.moves.StepOutcome.TheVariants.{Step, Nothing, Stop}
 use Rattle.world_journal.specs.declared.updates.Absence.{Absence}
 use Rattle.world_journal.specs.declared.updates.Update.{Update}
 use Rattle.world_journal.specs.declared.updates.Update.TheVariants as update
 
 -- The packet at a place comes in; or it has come in before, or cannot; or there is no line there, or the run was closed.
-abbrev pub ComesIn : {E : Type 0} → ℕ → List Line → ℕ → RunValue E → RunValue E → Did → Type 0
-ComesIn w lines place old new Step = (old.closed ≡ false) × Arrives w lines place old new
+abbrev pub ComesIn : {E : Type 0} → ℕ → List Line → ℕ → RunValue E → RunValue E → StepOutcome → Type 0
+ComesIn w lines place old new Step = (old.closed ≡ false) × RunArrives w lines place old new
 ComesIn w lines place old new Nothing = (old.closed ≡ false) × (place < length lines) × ((slice_get old.arrived place ≡ Some true) ⊎ IsBarred old.held.world lines place) × (new ≡ old)
 ComesIn w lines place old new Stop = ((old.closed ≡ true) ⊎ (length lines ≤ place)) × (new ≡ old)
 
 -- A copy takes a hop; or none may take one now; or the run was closed.
-abbrev pub HopsOn : {E : Type 0} → ℕ → RunValue E → RunValue E → Did → Type 0
+abbrev pub HopsOn : {E : Type 0} → ℕ → RunValue E → RunValue E → StepOutcome → Type 0
 HopsOn w old new Step = (old.closed ≡ false) × ((k : ℕ) × Made w (event.Packet (of_packet.Hop k)) old new)
 HopsOn w old new Nothing = (old.closed ≡ false) × ((k : ℕ) → ¬ IsEnabled old.held.world (event.Packet (of_packet.Hop k))) × (new ≡ old)
 HopsOn w old new Stop = (old.closed ≡ true) × (new ≡ old)
@@ -58,7 +58,7 @@ Updates n w lines old new update.Nothing = (¬ HasEnded lines old) × NoneMissin
 Updates n w lines old new update.Stop = HasEnded lines old × (new ≡ old)
 
 -- The switch of an absence returns over a pair; or it is not to return any more; or the run was closed.
-abbrev pub Rejoins : {E : Type 0} → ℕ → ℕ → Absence → E × E → RunValue E → RunValue E → Did → Type 0
+abbrev pub Rejoins : {E : Type 0} → ℕ → ℕ → Absence → E × E → RunValue E → RunValue E → StepOutcome → Type 0
 Rejoins n w a pair old new Step = (old.closed ≡ false) × IsAbsence n old a × Returns w a.place pair old new
 Rejoins n w a pair old new Nothing = (old.closed ≡ false) × (¬ IsAbsence n old a) × (new ≡ old)
 Rejoins n w a pair old new Stop = (old.closed ≡ true) × (new ≡ old)

@@ -7,10 +7,10 @@ ghost use Rattle.world_journal.specs.Journals.{switches};
 ghost use Rattle.world_journal.specs.Makers.{IsCaller, IsTraffic};
 ghost use Rattle.world_journal.specs.Moves.{ComesIn, HopsOn, Rejoins, Updates};
 ghost use Rattle.world_journal.specs.Runs.{IsNewPair};
-ghost use Rattle.world_journal.specs.declared.moves.Did.TheVariants as did;
+ghost use Rattle.world_journal.specs.declared.moves.StepOutcome.TheVariants as did;
 ghost use Rattle.world_journal.specs.declared.updates.Update.TheVariants as update;
 
-use crate::moves::Did;
+use crate::moves::StepOutcome;
 use crate::name::RunName;
 use crate::poster::Poster;
 use crate::seat::Seat;
@@ -47,7 +47,7 @@ pub(crate) fn rejoin_of<L: RunName, P: Poster, E: Link>(
     seat: &mut Seat<L>,
     absence: Absence,
     pair: (E, E),
-) -> Result<Did, AllocError>
+) -> Result<StepOutcome, AllocError>
     requires caller { IsCaller seat.old.worker }
     requires named { (E.named pair.0 ≡ absence.name) × (E.named pair.1 ≡ absence.name) }
     requires fresh { IsNewPair E.received pair }
@@ -56,7 +56,7 @@ pub(crate) fn rejoin_of<L: RunName, P: Poster, E: Link>(
     ensures memory { OnErr result (run.new ≡ run.old) }
 {
     match run {
-        None => Ok(Did::Stop),
+        None => Ok(StepOutcome::Stop),
         Some(there) => {
             let did = there.run.rejoin(alloc, seat, absence, pair)?;
             post_step(&mut there.run, &mut there.pen);
@@ -71,14 +71,14 @@ pub(crate) fn come_in_of<L: RunName, P: Poster, E: Link>(
     alloc: Global,
     seat: &mut Seat<L>,
     place: usize,
-) -> Result<Did, AllocError>
+) -> Result<StepOutcome, AllocError>
     requires { IsTraffic (switches L.start) seat.old.worker }
     ensures seat { IsUnmoved seat.old.worker seat.new.worker seat.old.share.parts seat.new.share.parts }
     ensures answer { IfOk result (λ d. OnRun (λ old new. ComesIn seat.old.worker L.lines place old new d) (d ≡ did.Stop) run.old run.new) }
     ensures memory { OnErr result (run.new ≡ run.old) }
 {
     match run {
-        None => Ok(Did::Stop),
+        None => Ok(StepOutcome::Stop),
         Some(there) => {
             let did = there.run.come_in(alloc, seat, place)?;
             post_step(&mut there.run, &mut there.pen);
@@ -92,14 +92,14 @@ pub(crate) fn hop_on_of<L: RunName, P: Poster, E: Link>(
     run: &mut Option<Watched<L, P, E>>,
     alloc: Global,
     seat: &mut Seat<L>,
-) -> Result<Did, AllocError>
+) -> Result<StepOutcome, AllocError>
     requires { IsTraffic (switches L.start) seat.old.worker }
     ensures seat { IsUnmoved seat.old.worker seat.new.worker seat.old.share.parts seat.new.share.parts }
     ensures answer { IfOk result (λ d. OnRun (λ old new. HopsOn seat.old.worker old new d) (d ≡ did.Stop) run.old run.new) }
     ensures memory { OnErr result (run.new ≡ run.old) }
 {
     match run {
-        None => Ok(Did::Stop),
+        None => Ok(StepOutcome::Stop),
         Some(there) => {
             let did = there.run.hop_on(alloc, seat)?;
             post_step(&mut there.run, &mut there.pen);

@@ -8,7 +8,7 @@ ghost use Rattle.worker_desk.specs.declared.desk.Told.TheVariants as told;
 ghost use Rattle.worker_desk.specs.declared.desk.Shut.TheVariants as shut;
 ghost use Rattle.world_journal.specs.Ahead.{IsWork, MayWork};
 ghost use Rattle.world_journal.specs.Asking.{Closes, LaysBack, OnRun};
-ghost use Rattle.world_journal.specs.Calls.{Gives, IsUnmoved, IsWorker, Loses, RunsOut, Shuts, Tells, place_of, side_of};
+ghost use Rattle.world_journal.specs.Calls.{RunGives, IsUnmoved, IsWorker, RunLoses, RunsOut, Shuts, RunTells, place_of, side_of};
 ghost use Rattle.world_journal.specs.Journals.{switches};
 
 use crate::name::RunName;
@@ -30,7 +30,7 @@ pub(crate) fn given_of<L: RunName, P: Poster, E: Link>(
     ensures fits { IfOk result CanBeWritten }
     ensures named { IfOk result (OnNewEnd (λ e. E.named e % switches L.start ≡ place_of (switches L.start) seat.old.worker)) }
     ensures fresh { IfOk result (OnNewEnd (λ e. IfSome (E.received e) (λ xs. xs ≡ []))) }
-    ensures answer { IfOk result (λ g. OnRun (λ old new. Gives seat.old.worker (side_of (switches L.start) seat.old.worker) (place_of (switches L.start) seat.old.worker) old new g) (g ≡ given.Stop) run.old run.new) }
+    ensures answer { IfOk result (λ g. OnRun (λ old new. RunGives seat.old.worker (side_of (switches L.start) seat.old.worker) (place_of (switches L.start) seat.old.worker) old new g) (g ≡ given.Stop) run.old run.new) }
     ensures memory { OnErr result (OnRun (RunsOut seat.old.worker (side_of (switches L.start) seat.old.worker) (place_of (switches L.start) seat.old.worker)) ⊥ run.old run.new) }
 {
     match run {
@@ -53,7 +53,7 @@ pub(crate) fn more_of<L: RunName, P: Poster, E: Link>(
     ensures seat { IsUnmoved seat.old.worker seat.new.worker seat.old.share.parts seat.new.share.parts }
     ensures fits { IfSome result CanBeWritten }
     ensures work { IfSome result IsWork }
-    ensures answer { IfSome result (λ g. OnRun (λ old new. Gives seat.old.worker (side_of (switches L.start) seat.old.worker) (place_of (switches L.start) seat.old.worker) old new g) (g ≡ given.Stop) run.old run.new) }
+    ensures answer { IfSome result (λ g. OnRun (λ old new. RunGives seat.old.worker (side_of (switches L.start) seat.old.worker) (place_of (switches L.start) seat.old.worker) old new g) (g ≡ given.Stop) run.old run.new) }
     ensures none { IfNone result ((run.new ≡ run.old) ⊎ OnRun (RunsOut seat.old.worker (side_of (switches L.start) seat.old.worker) (place_of (switches L.start) seat.old.worker)) ⊥ run.old run.new) }
 {
     if !may_work(run, seat) {
@@ -87,7 +87,7 @@ pub(crate) fn told_of<L: RunName, P: Poster, E: Link>(
     requires name { E.named end % switches L.start ≡ place_of (switches L.start) seat.old.worker }
     requires stream { TellsWhereKnown (E.received end) k bytes.now }
     ensures seat { IsUnmoved seat.old.worker seat.new.worker seat.old.share.parts seat.new.share.parts }
-    ensures answer { OnRun (λ old new. Tells (switches L.start) (E.named end) seat.old.worker (side_of (switches L.start) seat.old.worker) (place_of (switches L.start) seat.old.worker) bytes.now k end old new result) (result ≡ told.Back end None) run.old run.new }
+    ensures answer { OnRun (λ old new. RunTells (switches L.start) (E.named end) seat.old.worker (side_of (switches L.start) seat.old.worker) (place_of (switches L.start) seat.old.worker) bytes.now k end old new result) (result ≡ told.Back end None) run.old run.new }
     ensures back { GivesBack end result }
 {
     match run {
@@ -111,7 +111,7 @@ pub(crate) fn lost_of<L: RunName, P: Poster, E: Link>(
     requires name { E.named end % switches L.start ≡ place_of (switches L.start) seat.old.worker }
     requires failed { 0 < E.faults end }
     ensures seat { IsUnmoved seat.old.worker seat.new.worker seat.old.share.parts seat.new.share.parts }
-    ensures answer { OnRun (λ old new. Loses (switches L.start) (E.named end) seat.old.worker (place_of (switches L.start) seat.old.worker) end old new result) (result ≡ told.Back end None) run.old run.new }
+    ensures answer { OnRun (λ old new. RunLoses (switches L.start) (E.named end) seat.old.worker (place_of (switches L.start) seat.old.worker) end old new result) (result ≡ told.Back end None) run.old run.new }
     ensures back { GivesBack end result }
 {
     match run {

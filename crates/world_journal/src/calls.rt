@@ -9,27 +9,7 @@ ghost use Rattle.world_core.specs.declared.fault.StepFault.TheVariants as faults
 ghost use Rattle.world_journal.specs.Journals.{switches, present_name};
 ghost use Rattle.world_journal.specs.Makers.{WorksAt};
 ghost use Rattle.world_journal.specs.Runs.{waits};
-ghost use Rattle.world_journal.specs.Calls.{
-  Advances,
-  Gives,
-  GoesOn,
-  IsFrontAt,
-  IsUnmoved,
-  IsWorker,
-  Loses,
-  LosesNow,
-  RestsAs,
-  RunsOut,
-  Shuts,
-  TakesIn,
-  Tells,
-  TellsNow,
-  TurnsAway,
-  Works,
-  place_of,
-  receipt,
-  side_of,
-};
+ghost use Rattle.world_journal.specs.Calls.{Advances, RunGives, GoesOn, IsFrontAt, IsUnmoved, IsWorker, RunLoses, LosesNow, RestsAs, RunsOut, Shuts, TakesIn, RunTells, TellsNow, TurnsAway, Works, place_of, receipt, side_of, };
 
 use crate::held::CutFault;
 use crate::name::RunName;
@@ -39,7 +19,7 @@ use openflow_wire::{Message, Octets};
 use outside_net::Link;
 use std::alloc::{AllocError, Global};
 use update_coordinator::Side;
-use worker_desk::{Given, Kind, Made, Shut, Told};
+use worker_desk::{Given, Made, Shut, StepKind, Told};
 use world_core::{ControllerEvent, Event, StepFault, SwitchEvent, World};
 
 impl<L: RunName, E: Link> Run<L, E> {
@@ -53,7 +33,7 @@ impl<L: RunName, E: Link> Run<L, E> {
         ensures fits { IfOk result CanBeWritten }
         ensures named { IfOk result (OnNewEnd (λ e. E.named e % switches L.start ≡ place_of (switches L.start) seat.old.worker)) }
         ensures fresh { IfOk result (OnNewEnd (λ e. IfSome (E.received e) (λ xs. xs ≡ []))) }
-        ensures answer { IfOk result (Gives seat.old.worker (side_of (switches L.start) seat.old.worker) (place_of (switches L.start) seat.old.worker) self.old self.new) }
+        ensures answer { IfOk result (RunGives seat.old.worker (side_of (switches L.start) seat.old.worker) (place_of (switches L.start) seat.old.worker) self.old self.new) }
         ensures memory { OnErr result (RunsOut seat.old.worker (side_of (switches L.start) seat.old.worker) (place_of (switches L.start) seat.old.worker) self.old self.new) }
     {
         let (side, s) = seat.at();
@@ -75,7 +55,7 @@ impl<L: RunName, E: Link> Run<L, E> {
         requires name { E.named end % switches L.start ≡ place_of (switches L.start) seat.old.worker }
         requires stream { TellsWhereKnown (E.received end) k bytes.now }
         ensures seat { IsUnmoved seat.old.worker seat.new.worker seat.old.share.parts seat.new.share.parts }
-        ensures answer { Tells (switches L.start) (E.named end) seat.old.worker (side_of (switches L.start) seat.old.worker) (place_of (switches L.start) seat.old.worker) bytes.now k end self.old self.new result }
+        ensures answer { RunTells (switches L.start) (E.named end) seat.old.worker (side_of (switches L.start) seat.old.worker) (place_of (switches L.start) seat.old.worker) bytes.now k end self.old self.new result }
         ensures back { GivesBack end result }
     {
         let (side, s) = seat.at();
@@ -93,7 +73,7 @@ impl<L: RunName, E: Link> Run<L, E> {
         requires name { E.named end % switches L.start ≡ place_of (switches L.start) seat.old.worker }
         requires failed { 0 < E.faults end }
         ensures seat { IsUnmoved seat.old.worker seat.new.worker seat.old.share.parts seat.new.share.parts }
-        ensures answer { Loses (switches L.start) (E.named end) seat.old.worker (place_of (switches L.start) seat.old.worker) end self.old self.new result }
+        ensures answer { RunLoses (switches L.start) (E.named end) seat.old.worker (place_of (switches L.start) seat.old.worker) end self.old self.new result }
         ensures back { GivesBack end result }
     {
         let (side, s) = seat.at();
@@ -135,7 +115,7 @@ fn give_at<L: RunName, E: Link>(
     ensures fits { IfOk result CanBeWritten }
     ensures named { IfOk result (OnNewEnd (λ e. E.named e % switches L.start ≡ s)) }
     ensures fresh { IfOk result (OnNewEnd (λ e. IfSome (E.received e) (λ xs. xs ≡ []))) }
-    ensures answer { IfOk result (Gives seat.old.worker side s run.old run.new) }
+    ensures answer { IfOk result (RunGives seat.old.worker side s run.old run.new) }
     ensures memory { OnErr result (RunsOut seat.old.worker side s run.old run.new) }
 {
     if run.stops(s) {
@@ -228,19 +208,19 @@ fn advance<L: RunName, E: Link>(
             seat,
             Event::Controller(ControllerEvent::Send(s)),
         ) {
-            Ok(()) => Ok(Some(Kind::Send)),
+            Ok(()) => Ok(Some(StepKind::Send)),
             Err(StepFault::Memory) => Err(AllocError),
             Err(StepFault::NotEnabled) => Ok(None),
         },
         Side::Switch => match run.step(alloc, seat, Event::Switch(SwitchEvent::Apply(s, 0))) {
-            Ok(()) => Ok(Some(Kind::Apply)),
+            Ok(()) => Ok(Some(StepKind::Apply)),
             Err(StepFault::Memory) => Err(AllocError),
             Err(StepFault::NotEnabled) => match run.step(
                 alloc,
                 seat,
                 Event::Switch(SwitchEvent::Reply(s)),
             ) {
-                Ok(()) => Ok(Some(Kind::Reply)),
+                Ok(()) => Ok(Some(StepKind::Reply)),
                 Err(StepFault::Memory) => Err(AllocError),
                 Err(StepFault::NotEnabled) => Ok(None),
             },
@@ -320,8 +300,8 @@ fn receive_at<L: RunName, E: Link>(
 {
     let before = run.world().sent_count(s, side);
     let kind = match side {
-        Side::Controller => Kind::Heard,
-        Side::Switch => Kind::Take,
+        Side::Controller => StepKind::Heard,
+        Side::Switch => StepKind::Take,
     };
     match run.step(alloc, seat, receipt(side, s)) {
         Ok(()) => {

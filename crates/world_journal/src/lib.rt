@@ -24,7 +24,7 @@ pub use entry::Entry;
 pub use held::{CutFault, Held};
 pub use laws::{hello_waits, sent_is_put};
 pub use line::Line;
-pub use moves::Did;
+pub use moves::StepOutcome;
 pub use name::RunName;
 pub use poster::Poster;
 pub use run::{Run, RunFault};

@@ -17,7 +17,7 @@ use world_core::{Event, PacketEvent, StepFault, World};
 
 /// What came of a call.
 #[derive(Clone, Copy, Debug, PartialEq, Eq)]
-pub enum Did {
+pub enum StepOutcome {
     /// A step was made.
     Step,
     /// There is none now.
@@ -34,42 +34,42 @@ impl<L: RunName, E: Link> Run<L, E> {
         alloc: Global,
         seat: &mut Seat<L>,
         place: usize,
-    ) -> Result<Did, AllocError>
+    ) -> Result<StepOutcome, AllocError>
         requires { IsTraffic (switches L.start) seat.old.worker }
         ensures seat { IsUnmoved seat.old.worker seat.new.worker seat.old.share.parts seat.new.share.parts }
         ensures answer { IfOk result (ComesIn seat.old.worker L.lines place self.old self.new) }
         ensures memory { OnErr result (self.new ≡ self.old) }
     {
         if self.is_closed() {
-            return Ok(Did::Stop);
+            return Ok(StepOutcome::Stop);
         }
         match self.has_arrived(place) {
-            None => Ok(Did::Stop),
-            Some(true) => Ok(Did::Nothing),
+            None => Ok(StepOutcome::Stop),
+            Some(true) => Ok(StepOutcome::Nothing),
             Some(false) => match self.arrive(alloc, seat, place) {
-                Ok(()) => Ok(Did::Step),
-                Err(StepFault::NotEnabled) => Ok(Did::Nothing),
+                Ok(()) => Ok(StepOutcome::Step),
+                Err(StepFault::NotEnabled) => Ok(StepOutcome::Nothing),
                 Err(StepFault::Memory) => Err(AllocError),
             },
         }
     }
 
     /// Lets the first copy that may take another hop take it. There is no more to do if the run was closed.
-    pub fn hop_on(&mut self, alloc: Global, seat: &mut Seat<L>) -> Result<Did, AllocError>
+    pub fn hop_on(&mut self, alloc: Global, seat: &mut Seat<L>) -> Result<StepOutcome, AllocError>
         requires { IsTraffic (switches L.start) seat.old.worker }
         ensures seat { IsUnmoved seat.old.worker seat.new.worker seat.old.share.parts seat.new.share.parts }
         ensures answer { IfOk result (HopsOn seat.old.worker self.old self.new) }
         ensures memory { OnErr result (self.new ≡ self.old) }
     {
         if self.is_closed() {
-            return Ok(Did::Stop);
+            return Ok(StepOutcome::Stop);
         }
         let Some(place) = first_hop(self.world()) else {
-            return Ok(Did::Nothing);
+            return Ok(StepOutcome::Nothing);
         };
         match self.step(alloc, seat, Event::Packet(PacketEvent::Hop(place))) {
-            Ok(()) => Ok(Did::Step),
-            Err(StepFault::NotEnabled) => Ok(Did::Nothing),
+            Ok(()) => Ok(StepOutcome::Step),
+            Err(StepFault::NotEnabled) => Ok(StepOutcome::Nothing),
             Err(StepFault::Memory) => Err(AllocError),
         }
     }

@@ -1,7 +1,7 @@
 //! What a run is named after.
 ghost use Rattle.std.specs.Prelude.{ℕ, List, [], None};
 ghost use Rattle.topology_model.specs.Layouts.{empty};
-ghost use Rattle.world_core.specs.Worlds.{WorldValue, start};
+ghost use Rattle.world_core.specs.Worlds.{WorldValue, initial_world};
 ghost use Rattle.world_journal.specs.declared.line.Line.{Line as LineValue};
 
 use status_board::BoardName;
@@ -21,7 +21,7 @@ pub trait RunName: Ledger + BoardName {
 }
 
 impl RunName for Brand {
-    ghost start = { start empty [] (record { hops = 1; capacity = 0; rejoins = 0; overlap = None }) };
+    ghost start = { initial_world empty [] (record { hops = 1; capacity = 0; rejoins = 0; overlap = None }) };
 
     ghost lines = { [] };
 

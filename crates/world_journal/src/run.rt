@@ -99,7 +99,7 @@ impl<L: RunName, E: Link> Run<L, E> {
     ghost use Rattle.world_journal.specs.Cuts.{HandsBack, Refuses};
     ghost use Rattle.world_journal.specs.Arriving.{HaveAllCome, IsOver, is_arrival};
     ghost use Rattle.world_journal.specs.Runs.{HasEnded, RunValue, Stops, waits, marking};
-    ghost use Rattle.world_journal.specs.Calls.{Made, Cuts, Arrives, IsBarred};
+    ghost use Rattle.world_journal.specs.Calls.{Made, RunCuts, RunArrives, IsBarred};
 
     /// A run that begins: no packet has come in, and each switch's HELLO waits to be handed out.
     pub fn new(
@@ -189,7 +189,7 @@ impl<L: RunName, E: Link> Run<L, E> {
     ) -> Result<(), CutFault<E>>
         requires maker { MayMake (switches L.start) seat.old.worker event }
         requires met { MetBy (switches L.start) E.named E.faults E.received self.old.held.journal event end }
-        ensures made { OnOk result (Cuts seat.old.worker event end self.old self.new) }
+        ensures made { OnOk result (RunCuts seat.old.worker event end self.old self.new) }
         ensures refused { IfErr result (λ e. Refuses (¬ IsEnabled self.old.held.world event) e) }
         ensures seat { (seat.new.worker ≡ seat.old.worker) × (seat.new.share.parts ≡ seat.old.share.parts) }
         ensures booked { OnOk result (seat.new.share.amount ≡ seat.old.share.amount + 1) }
@@ -208,7 +208,7 @@ impl<L: RunName, E: Link> Run<L, E> {
     ) -> Result<(), StepFault>
         requires maker { IsTraffic (switches L.start) seat.old.worker }
         requires first { slice_get self.old.arrived place ≡ Some false }
-        ensures made { OnOk result (Arrives seat.old.worker L.lines place self.old self.new) }
+        ensures made { OnOk result (RunArrives seat.old.worker L.lines place self.old self.new) }
         ensures refused { result ≡ Err faults.NotEnabled → IsBarred self.old.held.world L.lines place }
         ensures seat { (seat.new.worker ≡ seat.old.worker) × (seat.new.share.parts ≡ seat.old.share.parts) }
         ensures booked { OnOk result (seat.new.share.amount ≡ seat.old.share.amount + 1) }

@@ -12,7 +12,7 @@ use crate::ahead::Ahead;
 use crate::asked_moves::{come_in_of, hop_on_of, rejoin_of, update_of};
 use crate::asks::{close_of, given_of, lay_of, lost_of, more_of, shut_of, told_of};
 use crate::held::Held;
-use crate::moves::Did;
+use crate::moves::StepOutcome;
 use crate::name::RunName;
 use crate::poster::Poster;
 use crate::run::RunFault;
@@ -219,7 +219,7 @@ impl<R: Wait + Drop, L: RunName, P: Poster, E: Link> RunDesk<R, L, P, E> {
         seat: &mut Seat<L>,
         absence: Absence,
         pair: (E, E),
-    ) -> Result<Did, AllocError>
+    ) -> Result<StepOutcome, AllocError>
         requires caller { IsCaller seat.old.worker }
         requires named { (E.named pair.0 ≡ absence.name) × (E.named pair.1 ≡ absence.name) }
         requires fresh { IsNewPair E.received pair }
@@ -231,7 +231,7 @@ impl<R: Wait + Drop, L: RunName, P: Poster, E: Link> RunDesk<R, L, P, E> {
     }
 
     /// Lets the packet at a place of the lines come in.
-    pub fn come_in(&self, seat: &mut Seat<L>, place: usize) -> Result<Did, AllocError>
+    pub fn come_in(&self, seat: &mut Seat<L>, place: usize) -> Result<StepOutcome, AllocError>
         requires { IsTraffic (switches L.start) seat.old.worker }
         ensures { IsUnmoved seat.old.worker seat.new.worker seat.old.share.parts seat.new.share.parts }
     {
@@ -241,7 +241,7 @@ impl<R: Wait + Drop, L: RunName, P: Poster, E: Link> RunDesk<R, L, P, E> {
     }
 
     /// Lets the first copy that may take another hop take it.
-    pub fn hop_on(&self, seat: &mut Seat<L>) -> Result<Did, AllocError>
+    pub fn hop_on(&self, seat: &mut Seat<L>) -> Result<StepOutcome, AllocError>
         requires { IsTraffic (switches L.start) seat.old.worker }
         ensures { IsUnmoved seat.old.worker seat.new.worker seat.old.share.parts seat.new.share.parts }
     {

@@ -12,7 +12,7 @@ ghost use Rattle.world_journal.specs.Makers.{IsCaller};
 ghost use Rattle.world_journal.specs.Moves.{IsAbsence, IsMissing, IsUpdate, Rejoins, Updates};
 ghost use Rattle.world_journal.specs.Runs.{IsNewPair};
 
-use crate::moves::Did;
+use crate::moves::StepOutcome;
 use crate::name::RunName;
 use crate::run::{Run, is_last};
 use crate::seat::Seat;
@@ -78,7 +78,7 @@ impl<L: RunName, E: Link> Run<L, E> {
         seat: &mut Seat<L>,
         absence: Absence,
         pair: (E, E),
-    ) -> Result<Did, AllocError>
+    ) -> Result<StepOutcome, AllocError>
         requires caller { IsCaller seat.old.worker }
         requires named { (E.named pair.0 ≡ absence.name) × (E.named pair.1 ≡ absence.name) }
         requires fresh { IsNewPair E.received pair }
@@ -87,14 +87,14 @@ impl<L: RunName, E: Link> Run<L, E> {
         ensures memory { OnErr result (self.new ≡ self.old) }
     {
         if self.is_closed() {
-            return Ok(Did::Stop);
+            return Ok(StepOutcome::Stop);
         }
         if !self.is_absent(absence) {
-            return Ok(Did::Nothing);
+            return Ok(StepOutcome::Nothing);
         }
         match self.return_over(alloc, seat, absence.place, pair) {
-            Ok(()) => Ok(Did::Step),
-            Err(StepFault::NotEnabled) => Ok(Did::Nothing),
+            Ok(()) => Ok(StepOutcome::Step),
+            Err(StepFault::NotEnabled) => Ok(StepOutcome::Nothing),
             Err(StepFault::Memory) => Err(AllocError),
         }
     }

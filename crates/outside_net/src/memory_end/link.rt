@@ -95,7 +95,7 @@ impl<R: Wait + Drop> Link for MemoryEnd<R> {
     ghost use Rattle.outside_io.specs.Lists.{AppendsPrefix};
     ghost use Rattle.outside_net.specs.Causes.{LinkCause};
     ghost use Rattle.outside_net.specs.Told.{Grows};
-    ghost use Rattle.outside_net.specs.Memory.{end_failed, end_failing, end_faults, end_met, end_name, end_received, end_sent, CallIsListed, HasRoom, SendIsToFail};
+    ghost use Rattle.outside_net.specs.Memory.{end_failed, end_failing, end_faults, end_met, end_name, end_received, end_sent, CallIsListed, HasByteRoom, SendIsToFail};
 
     ghost named = { λ e. e.name };
 
@@ -114,7 +114,7 @@ impl<R: Wait + Drop> Link for MemoryEnd<R> {
         ensures received { Some (end_received self.new) ≡ Some (end_received self.old) }
         ensures named { end_name self.new ≡ end_name self.old }
         ensures faults { end_faults self.new ≡ end_faults self.old }
-        ensures room { OnOk result (HasRoom self.new bytes) }
+        ensures room { OnOk result (HasByteRoom self.new bytes) }
         ensures failed { end_failed self.new ≡ end_failed self.old }
         ensures met { end_met self.new ≡ end_met self.old }
         ensures failing { end_failing self.new ≡ end_failing self.old }
@@ -132,7 +132,7 @@ impl<R: Wait + Drop> Link for MemoryEnd<R> {
         ensures named { end_name self.new ≡ end_name self.old }
         ensures cause { LinkCause (end_faults self.old) (end_faults self.new) result }
         ensures listed { end_failed self.old ≡ false → SendIsToFail self.new → result ≡ Err LinkFault.Failed }
-        ensures fails { end_failed self.old ≡ false → end_met self.old ≡ false → HasRoom self.old (length bytes.now) → result ≡ Err LinkFault.Failed → SendIsToFail self.new }
+        ensures fails { end_failed self.old ≡ false → end_met self.old ≡ false → HasByteRoom self.old (length bytes.now) → result ≡ Err LinkFault.Failed → SendIsToFail self.new }
         ensures closed { end_failed self.old ≡ true → end_met self.old ≡ false → result ≡ Err LinkFault.Closed }
         ensures shut { result ≡ Err LinkFault.Failed → end_failed self.new ≡ true }
         ensures open { result ≢ Err LinkFault.Failed → end_failed self.new ≡ end_failed self.old }
@@ -171,7 +171,7 @@ impl<R: Wait + Drop> Link for MemoryEnd<R> {
         ensures named { end_name self.new ≡ end_name self.old }
         ensures cause { LinkCause (end_faults self.old) (end_faults self.new) result }
         ensures listed { end_failed self.old ≡ false → CallIsListed self.new → result ≡ Err LinkFault.Failed }
-        ensures fails { end_failed self.old ≡ false → end_met self.old ≡ false → HasRoom self.old (length place.old) → result ≡ Err LinkFault.Failed → CallIsListed self.new }
+        ensures fails { end_failed self.old ≡ false → end_met self.old ≡ false → HasByteRoom self.old (length place.old) → result ≡ Err LinkFault.Failed → CallIsListed self.new }
         ensures closed { end_failed self.old ≡ true → end_met self.old ≡ false → result ≡ Err LinkFault.Closed }
         ensures shut { result ≡ Err LinkFault.Failed → end_failed self.new ≡ true }
         ensures open { result ≢ Err LinkFault.Failed → end_failed self.new ≡ end_failed self.old }

@@ -1,11 +1,11 @@
 // The sessions of a worker, one after the other.
 ghost use Rattle.std.specs.Prelude.{◌≡◌, [], Option, IfSome};
 ghost use Rattle.worker_post.specs.Noting.{IsNotedOf, Notes};
-ghost use Rattle.worker_post.specs.Sessions.{HasWorked, IsNew, last_of};
+ghost use Rattle.worker_post.specs.Sessions.{HasWorked, IsNew, last_end};
 ghost use Rattle.worker_post.specs.Turns.{OnNew, Serves};
 ghost use Rattle.worker_post.specs.Works.{IsEnd};
 
-use super::{After, Inbox, Post};
+use super::{Inbox, Post, RoundEnd};
 use of_framing::Framer;
 use std::sync::Wait;
 use worker_desk::{Desk, Gate, Shut};
@@ -38,7 +38,7 @@ impl<'a, D: Desk, G: Gate> Post<'a, D, G> {
     }
 
     // Works over this end until its session is over.
-    fn serve<R: Wait>(&self, rt: &R, seat: &mut D::Seat, end: D::End) -> After<D::End>
+    fn serve<R: Wait>(&self, rt: &R, seat: &mut D::Seat, end: D::End) -> RoundEnd<D::End>
         requires seat { D.seated seat.old × (D.place_of (D.End.named end) ≡ D.place seat.old) }
         requires fresh { IfSome (D.End.received end) (λ xs. xs ≡ []) }
         ensures seat { D.seated seat.new × (D.place seat.new ≡ D.place seat.old) }
@@ -53,12 +53,12 @@ impl<'a, D: Desk, G: Gate> Post<'a, D, G> {
         };
         for _ in rt.forever() {
             match self.turn(seat, end, &mut inbox) {
-                After::Going(e) => end = e,
-                After::Shut(e) => return After::Shut(e),
-                After::New { old, new } => return After::New { old, new },
-                After::Stop(e) => return After::Stop(e),
-                After::Memory(e) => return After::Memory(e),
-                After::Kept => return After::Kept,
+                RoundEnd::Going(e) => end = e,
+                RoundEnd::Shut(e) => return RoundEnd::Shut(e),
+                RoundEnd::New { old, new } => return RoundEnd::New { old, new },
+                RoundEnd::Stop(e) => return RoundEnd::Stop(e),
+                RoundEnd::Memory(e) => return RoundEnd::Memory(e),
+                RoundEnd::Kept => return RoundEnd::Kept,
             }
         }
         unreachable!()
@@ -69,32 +69,32 @@ impl<'a, D: Desk, G: Gate> Post<'a, D, G> {
         requires seat { D.seated seat.old × (D.place_of (D.End.named end) ≡ D.place seat.old) }
         requires fresh { IfSome (D.End.received end) (λ xs. xs ≡ []) }
         ensures seat { D.seated seat.new × (D.place seat.new ≡ D.place seat.old) }
-        ensures worked { IfSome (last_of result.end (D.kept seat.new)) (λ e. IsEnd (D.given seat.old) (D.told seat.old) (D.End.sent end) (D.End.received end) (D.given seat.new) (D.told seat.new) (D.End.sent e) (D.End.received e)) }
-        ensures noted { IsNotedOf D.End.faults (last_of result.end (D.kept seat.new)) (D.End.named end) (D.End.faults end) (D.notices seat.old) (D.notices seat.new) }
+        ensures worked { IfSome (last_end result.end (D.kept seat.new)) (λ e. IsEnd (D.given seat.old) (D.told seat.old) (D.End.sent end) (D.End.received end) (D.given seat.new) (D.told seat.new) (D.End.sent e) (D.End.received e)) }
+        ensures noted { IsNotedOf D.End.faults (last_end result.end (D.kept seat.new)) (D.End.named end) (D.End.faults end) (D.notices seat.old) (D.notices seat.new) }
         ensures anew { IfSome result.next (IsNew D.place_of D.End.named D.End.received (D.place seat.old)) }
     {
         match self.serve(rt, seat, end) {
-            After::Going(e) => Ended {
+            RoundEnd::Going(e) => Ended {
                 end: Some(e),
                 next: None,
             },
-            After::Stop(e) => Ended {
+            RoundEnd::Stop(e) => Ended {
                 end: Some(e),
                 next: None,
             },
-            After::Memory(e) => Ended {
+            RoundEnd::Memory(e) => Ended {
                 end: Some(e),
                 next: None,
             },
-            After::New { old, new } => Ended {
+            RoundEnd::New { old, new } => Ended {
                 end: Some(old),
                 next: Some(new),
             },
-            After::Shut(e) => Ended {
+            RoundEnd::Shut(e) => Ended {
                 end: Some(e),
                 next: self.wait_out(rt, seat),
             },
-            After::Kept => Ended {
+            RoundEnd::Kept => Ended {
                 end: None,
                 next: self.wait_out(rt, seat),
             },

@@ -4,22 +4,22 @@ ghost use Rattle.openflow_wire.specs.declared.message.Message.{Message as Messag
 ghost use Rattle.openflow_wire.specs.declared.fault.WireFault.{WireFault};
 ghost use Rattle.of_framing.specs.Streams.{IsFault, IsFront};
 ghost use Rattle.worker_desk.specs.Answers.{grown};
-ghost use Rattle.worker_post.specs.Working.{Continues, IsFollowing, Tells};
+ghost use Rattle.worker_post.specs.Working.{Continues, IsFollowing, TellsStream};
 ghost use Rattle.worker_post.specs.Noting.{NextNotes, Notes};
 ghost use Rattle.worker_post.specs.Sessions.{IsNew};
 ghost use Rattle.worker_post.specs.Turns.{EndIs, GoesOn, GoesOnWith, HasEnd, NextGoesOn, NextHasEnd, NextOnNew, OnNew, ToldTurn};
 
-use super::{After, Inbox, Post};
-use crate::messages::{Went, receive};
+use super::{Inbox, Post, RoundEnd};
+use crate::messages::{Transfer, receive};
 use worker_desk::{Desk, Gate, Told};
 
 /// Whether something was told.
 #[derive(Drop)]
-pub enum Next<E> {
+pub enum Delivery<E> {
     /// Nothing: less than a message is held.
     Rest(E),
     /// Something, or there is nothing to tell any more.
-    Told(After<E>),
+    Told(RoundEnd<E>),
 }
 
 impl<'a, D: Desk, G: Gate> Post<'a, D, G> {
@@ -29,7 +29,7 @@ impl<'a, D: Desk, G: Gate> Post<'a, D, G> {
         seat: &mut D::Seat,
         end: D::End,
         inbox: &mut Inbox,
-    ) -> After<D::End>
+    ) -> RoundEnd<D::End>
         requires seat { D.seated seat.old × (D.place_of (D.End.named end) ≡ D.place seat.old) }
         requires following { IsFollowing (D.End.received end) inbox.old.framer inbox.old.told }
         ensures seat { D.seated seat.new × (D.place seat.new ≡ D.place seat.old) }
@@ -42,13 +42,13 @@ impl<'a, D: Desk, G: Gate> Post<'a, D, G> {
         ensures noted { Notes ⊥ D.End.faults (D.kept seat.new) (D.End.named end) (D.End.faults end) (D.notices seat.old) (D.notices seat.new) result }
     {
         match self.tell_next(seat, end, inbox) {
-            Next::Told(after) => after,
-            Next::Rest(end) => self.receive_more(seat, end, inbox),
+            Delivery::Told(after) => after,
+            Delivery::Rest(end) => self.receive_more(seat, end, inbox),
         }
     }
 
     // Receives, and tells the next message if it is whole now.
-    fn receive_more(&self, seat: &mut D::Seat, end: D::End, inbox: &mut Inbox) -> After<D::End>
+    fn receive_more(&self, seat: &mut D::Seat, end: D::End, inbox: &mut Inbox) -> RoundEnd<D::End>
         requires seat { D.seated seat.old × (D.place_of (D.End.named end) ≡ D.place seat.old) }
         requires following { IsFollowing (D.End.received end) inbox.old.framer inbox.old.told }
         ensures seat { D.seated seat.new × (D.place seat.new ≡ D.place seat.old) }
@@ -62,22 +62,22 @@ impl<'a, D: Desk, G: Gate> Post<'a, D, G> {
     {
         let mut end = end;
         match receive(&mut end, &mut inbox.framer) {
-            Went::Well => match self.tell_next(seat, end, inbox) {
-                Next::Told(after) => after,
-                Next::Rest(end) => After::Going(end),
+            Transfer::Well => match self.tell_next(seat, end, inbox) {
+                Delivery::Told(after) => after,
+                Delivery::Rest(end) => RoundEnd::Going(end),
             },
-            Went::Failed => self.lose(seat, end),
-            Went::Closed => After::Shut(end),
-            Went::Memory => {
+            Transfer::Failed => self.lose(seat, end),
+            Transfer::Closed => RoundEnd::Shut(end),
+            Transfer::Memory => {
                 self.desk.close(seat);
-                After::Memory(end)
+                RoundEnd::Memory(end)
             }
         }
     }
 
     // Tells the next message that is held, or the bytes that are held at a fault. After 2^64 - 1 messages a session can
     // tell no more: it ends as if memory had run out.
-    fn tell_next(&self, seat: &mut D::Seat, end: D::End, inbox: &mut Inbox) -> Next<D::End>
+    fn tell_next(&self, seat: &mut D::Seat, end: D::End, inbox: &mut Inbox) -> Delivery<D::End>
         requires seat { D.seated seat.old × (D.place_of (D.End.named end) ≡ D.place seat.old) }
         requires following { IsFollowing (D.End.received end) inbox.old.framer inbox.old.told }
         ensures seat { D.seated seat.new × (D.place seat.new ≡ D.place seat.old) }
@@ -93,12 +93,12 @@ impl<'a, D: Desk, G: Gate> Post<'a, D, G> {
     {
         if inbox.told == u64::MAX {
             self.desk.close(seat);
-            return Next::Told(After::Memory(end));
+            return Delivery::Told(RoundEnd::Memory(end));
         }
         match inbox.framer.span() {
-            None => Next::Rest(end),
-            Some(Ok(len)) => Next::Told(self.tell_message(seat, end, inbox, len)),
-            Some(Err(_fault)) => Next::Told(self.tell_fault(seat, end, inbox)),
+            None => Delivery::Rest(end),
+            Some(Ok(len)) => Delivery::Told(self.tell_message(seat, end, inbox, len)),
+            Some(Err(_fault)) => Delivery::Told(self.tell_fault(seat, end, inbox)),
         }
     }
 
@@ -109,7 +109,7 @@ impl<'a, D: Desk, G: Gate> Post<'a, D, G> {
         end: D::End,
         inbox: &mut Inbox,
         len: usize,
-    ) -> After<D::End>
+    ) -> RoundEnd<D::End>
         requires seat { D.seated seat.old × (D.place_of (D.End.named end) ≡ D.place seat.old) }
         requires following { IsFollowing (D.End.received end) inbox.old.framer inbox.old.told }
         requires count { inbox.old.told < 2 ^ 64 - 1 }
@@ -129,18 +129,18 @@ impl<'a, D: Desk, G: Gate> Post<'a, D, G> {
                 self.who.after(self.gate, made);
                 inbox.framer.skip(len);
                 inbox.told += 1;
-                After::Going(end)
+                RoundEnd::Going(end)
             }
-            Told::Kept => After::Kept,
+            Told::Kept => RoundEnd::Kept,
             Told::Memory(end) => {
                 self.desk.close(seat);
-                After::Memory(end)
+                RoundEnd::Memory(end)
             }
         }
     }
 
     // Tells the bytes that are held at a fault.
-    fn tell_fault(&self, seat: &mut D::Seat, end: D::End, inbox: &Inbox) -> After<D::End>
+    fn tell_fault(&self, seat: &mut D::Seat, end: D::End, inbox: &Inbox) -> RoundEnd<D::End>
         requires seat { D.seated seat.old × (D.place_of (D.End.named end) ≡ D.place seat.old) }
         requires following { IsFollowing (D.End.received end) inbox.now.framer inbox.now.told }
         requires fault { (f : WireFault) × IsFault inbox.now.framer f }
@@ -155,11 +155,11 @@ impl<'a, D: Desk, G: Gate> Post<'a, D, G> {
         ensures fault { D.told seat.new ≡ grown (D.told seat.old) (inbox.now.framer ∷ []) }
     {
         match self.desk.tell(seat, inbox.framer.held(), end, inbox.told) {
-            Told::Back { end, made: _ } => After::Shut(end),
-            Told::Kept => After::Kept,
+            Told::Back { end, made: _ } => RoundEnd::Shut(end),
+            Told::Kept => RoundEnd::Kept,
             Told::Memory(end) => {
                 self.desk.close(seat);
-                After::Memory(end)
+                RoundEnd::Memory(end)
             }
         }
     }

@@ -2,7 +2,7 @@ use Rattle.std.proofs.Common.{sym, subst}
 use Rattle.std.proofs.lemmas.Result.{err_from_is_err_and}
 use Rattle.program_answer.specs.declared.answer.AnswerError.{AnswerError}
 use Rattle.program_answer.specs.Answers.{Stops}
-use Rattle.program_answer.specs.Input.{IsRefused}
+use Rattle.program_answer.specs.Input.{IsInputRefused}
 use Rattle.program_answer.specs.Called.{source_of}
 use Rattle.plain_commands.proofs.Simulating.{simulate_stops, refuses_more}
 use Rattle.audit_command.proofs.Auditing.{audit_answers}
@@ -23,4 +23,4 @@ returns-in_err-input-clause-stops g c =
     let S = g.S.Source in
     let source = source_of S.left S.faults c.args.source.now c.read_input.new.source in
     let p = err_from_is_err_and c.from_residual.result c.from_residual.ensures.1 in
-    rw p.1 (refuses_more source p.0 (subst (λ (e : AnswerError). Stops IsRefused source e) (sym p.2) c.in_err-input.ensures.stops))
+    rw p.1 (refuses_more source p.0 (subst (λ (e : AnswerError). Stops IsInputRefused source e) (sym p.2) c.in_err-input.ensures.stops))

@@ -1,5 +1,5 @@
 use Rattle.std.proofs.Common.{rules, ◌≡◌, ℕ, Some, Ok, Err}
-use Rattle.document_text.specs.declared.told.Kind.TheVariants.{Setting}
+use Rattle.document_text.specs.declared.declaration.LineKind.TheVariants.{Setting}
 use Rattle.document_text.specs.Answers.{state_of, texts}
 use Rattle.document_text.proofs.Settled.{no-number}
 use Rattle.document_text.proofs.setting.hops_line.Goals as goal

@@ -5,7 +5,7 @@ use Rattle.nk_values.specs.declared.field.Field.{Field}
 use Rattle.nk_values.specs.Members.{IsIn}
 use Rattle.nk_values.proofs.MemberLaws.{in-either}
 use Rattle.fdd_differ.specs.Frames.{Lacks}
-use Rattle.fdd_store.specs.Entries.{SetsField}
+use Rattle.fdd_store.specs.Digests.{SetsField}
 use Rattle.fdd_store.specs.Stores.{tree_at}
 use Rattle.fdd_split.proofs.FieldLaws.{every_field, fields, next_taken}
 use Rattle.fdd_compile.proofs.guarded.sets_some_lacking.Goals as goal

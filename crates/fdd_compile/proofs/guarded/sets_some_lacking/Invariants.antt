@@ -2,7 +2,7 @@ use Rattle.std.proofs.Common.{take}
 use Rattle.nk_values.specs.declared.field.Field.{Field}
 use Rattle.nk_values.specs.Members.{IsIn}
 use Rattle.fdd_differ.specs.Frames.{Lacks}
-use Rattle.fdd_store.specs.Entries.{SetsField}
+use Rattle.fdd_store.specs.Digests.{SetsField}
 use Rattle.fdd_store.specs.Stores.{tree_at}
 use Rattle.fdd_compile.proofs.guarded.sets_some_lacking.Given as goal
 

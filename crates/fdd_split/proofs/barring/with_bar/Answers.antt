@@ -1,7 +1,7 @@
 use Rattle.std.proofs.Common.{rules, ◌≡◌, List, [], ◌∷◌, ◌++◌, take, ap, sym, ◌∙◌, subst}
 use Rattle.std.proofs.lemmas.List.{take_more, take_all}
 use Rattle.fdd_split.specs.declared.bars.Bar.{Bar}
-use Rattle.fdd_split.specs.Bars.{Adds}
+use Rattle.fdd_split.specs.Bars.{AddsBar}
 use Rattle.fdd_split.proofs.BarLaws.{Omits, omits_one, omits_more, adds_last}
 use Rattle.fdd_split.proofs.barring.with_bar.Goals as goal
 use Rattle.fdd_split.proofs.barring.with_bar.Goals.{then-not-covers+in_ok-push, else-not-covers}
@@ -20,5 +20,5 @@ loop-b-preserved c =
     ])
 
 pub returns : goal.returns
-returns c = subst (λ (ys : List Bar). Adds c.args.bars.now ys c.args.bar) (sym c.in_ok-push-2.ensures.items)
+returns c = subst (λ (ys : List Bar). AddsBar c.args.bars.now ys c.args.bar) (sym c.in_ok-push-2.ensures.items)
     (adds_last _ _ _ (subst (λ (ys : List Bar). Omits ys c.loop-b.all.items c.args.bar) (take_all _ _ c.loop-b-test.false) c.loop-b.invariant))

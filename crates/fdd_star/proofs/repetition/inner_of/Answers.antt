@@ -1,7 +1,7 @@
 use Rattle.std.proofs.Common.{sym, subst, ◌∙◌}
 use Rattle.std.proofs.lemmas.Bool.{false≢true}
 use Rattle.fdd_star.proofs.NarrowLaws.{narrowed_where}
-use Rattle.fdd_store.specs.Entries.{SetsField}
+use Rattle.fdd_store.specs.Digests.{SetsField}
 use Rattle.fdd_store.specs.Stores.{tree_at}
 use Rattle.fdd_star.proofs.repetition.inner_of.Goals as goal
 

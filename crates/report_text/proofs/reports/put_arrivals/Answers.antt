@@ -2,7 +2,7 @@ use Rattle.std.proofs.Common.{◌≡◌, ◌+◌, ◌<◌, List, String, length,
 use Rattle.std.proofs.lemmas.List.{drop_all, get_or-set_same}
 use Rattle.std.specs.declared.alloc.Global.{Global}
 use Rattle.report_text.specs.Reports.{HasFate, IsArrivalText}
-use Rattle.value_text.specs.Traces.{Adds}
+use Rattle.value_text.specs.Traces.{AddsText}
 use Rattle.report_text.proofs.CopyLaws.{all_copies, arrival_is, at_place, next_copies}
 use Rattle.value_text.proofs.TextLaws.{drop_next, no_text, next_text, last_text, of_kind}
 use Rattle.report_text.proofs.reports.put_arrivals.Goals as goal
@@ -28,7 +28,7 @@ loop-before-preserved c =
     let within : k < length lists.items = omega (arith, c.loop-before-test.true, c.loop-before.invariant.count, lists.ok.0) in
     let at = at_place lists.items k old within c.index_mut.ensures.value in
     let put : c.deref.result.now ≡ lines.items = c.deref.ensures.value ∙ ap (λ v. v.items) (c.index.ensures ∙ get_or-set_same lists.items k lines c.index.result.now within) in
-    let fate = subst (λ (ls : List (String Global)). Adds (HasFate (map string_bytes ls) (k + 1) a) now new) put c.in_ok-put_arrival.ensures in
+    let fate = subst (λ (ls : List (String Global)). AddsText (HasFate (map string_bytes ls) (k + 1) a) now new) put c.in_ok-put_arrival.ensures in
     let is = arrival_is flights k a lists.items old (map string_bytes lines.items) in
     let more = of_kind (HasFate (map string_bytes lines.items) (k + 1) a) (IsArrivalText flights (k + 1) a) now new
     (λ t. is t c.loop-before.invariant.left at c.in_ok-sort_lines.ensures.order c.in_ok-sort_lines.ensures.members) fate in

@@ -2,7 +2,7 @@ use Rattle.std.proofs.Common.{◌<◌, ℕ, List, sym, ◌∙◌, ap, subst, get
 use Rattle.std.proofs.lemmas.Option.{get_or_from_slice_get}
 use Rattle.nk_values.specs.declared.row.Row.{Row}
 use Rattle.nk_values.specs.Tables.{Distinct}
-use Rattle.topology_model.specs.declared.line.Site.{Site}
+use Rattle.topology_model.specs.declared.line.DeclaredSwitch.{DeclaredSwitch}
 use Rattle.topology_model.specs.Layouts.{Layout}
 use Rattle.update_coordinator.specs.Batches.{planned}
 use Rattle.update_coordinator.specs.Controls.{Control}
@@ -30,7 +30,7 @@ returns c =
     let s = stands w c.kept.ensures c.args.place c.requires c.switch.result.now c.switch.ensures in
     let site = c.index-switches-place.result in
     let sites = c.switches.ensures.switches ∙ ap (λ (t : Layout). t.switches) c.topology.ensures in
-    let here = ap (λ (xs : List Site). get_or xs c.args.place site) sites ∙ get_or_from_slice_get w.topology.switches c.args.place s.site site s.named in
+    let here = ap (λ (xs : List DeclaredSwitch). get_or xs c.args.place site) sites ∙ get_or_from_slice_get w.topology.switches c.args.place s.site site s.named in
     let sw = (get_or c.switches.result.now c.args.place site).sw in
     let is = c.deref.ensures.value ∙ (c.in_ok-planned.ensures.rows ∙ ap (λ (k : Control). planned k.versions k.swept k.phase sw) c.coordinator.ensures) in
-    audit-at w c.args.place c.switch.result.now s sw c.deref.result.now c.deref-2.result.now c.in_ok-report.report.items c.verdict_on.result (ap (λ (x : Site). x.sw) here) is c.in_ok-report.ensures c.deref-2.ensures.value c.verdict_on.ensures
+    audit-at w c.args.place c.switch.result.now s sw c.deref.result.now c.deref-2.result.now c.in_ok-report.report.items c.verdict_on.result (ap (λ (x : DeclaredSwitch). x.sw) here) is c.in_ok-report.ensures c.deref-2.ensures.value c.verdict_on.ensures

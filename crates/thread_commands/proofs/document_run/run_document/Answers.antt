@@ -2,7 +2,7 @@ use Rattle.std.proofs.Common.{◌≡◌, ◌∙◌, List, map, ap, sym, subst, r
 use Rattle.std.proofs.lemmas.Result.{err_from_is_err_and}
 use Rattle.document_text.specs.declared.document.PacketLine.{PacketLine}
 use Rattle.document_text.specs.Answers.{doc_of}
-use Rattle.world_core.specs.Worlds.{start}
+use Rattle.world_core.specs.Worlds.{initial_world}
 use Rattle.program_answer.specs.Worlds.{world_settings}
 use Rattle.outside_io.specs.Causes.{Rose}
 use Rattle.program_answer.specs.declared.answer.AnswerError.{AnswerError}
@@ -33,7 +33,7 @@ returns-in-Ok-run_world-clause-ran g c =
     let kept = record'.kept.items in
     let journal = record'.journal.items in
     let net = net_of N.faults N.broken N.gathered c.args.net.now c.take_back.new.net in
-    let is = starts_as d vs c.in_ok-world.world _ (c.in_ok-world.ensures.world ∙ ap (λ t. start t vs c.world_settings.result) c.into_parts-topology.ensures.topology) (c.world_settings.ensures ∙ ap world_settings c.into_parts-topology.ensures.settings) in
+    let is = starts_as d vs c.in_ok-world.world _ (c.in_ok-world.ensures.world ∙ ap (λ t. initial_world t vs c.world_settings.result) c.into_parts-topology.ensures.topology) (c.world_settings.ensures ∙ ap world_settings c.into_parts-topology.ensures.settings) in
     let lines : c.in_ok-lines.lines.items ≡ lines_of (doc_of d) = c.in_ok-lines.ensures ∙ ap (λ (ls : List PacketLine). map line_of ls) (c.deref.ensures.value ∙ c.into_parts-topology.ensures.packets) in
     let first_broken = c.run_world.ensures.net.1 ∙ c.make_pairs.ensures.broken in
     let first_gathered = c.run_world.ensures.net.2 ∙ c.make_pairs.ensures.gathered in

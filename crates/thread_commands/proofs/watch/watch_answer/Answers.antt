@@ -4,7 +4,7 @@ use Rattle.document_text.specs.Answers.{doc_of}
 use Rattle.program_answer.specs.declared.answer.AnswerError.{AnswerError}
 use Rattle.program_answer.specs.Answers.{Stops}
 use Rattle.program_answer.specs.Called.{change, net_of, source_of}
-use Rattle.program_answer.specs.Input.{IsRefused}
+use Rattle.program_answer.specs.Input.{IsInputRefused}
 use Rattle.program_answer.specs.Worlds.{start_of}
 use Rattle.fleet_workers.proofs.Seeing.{sights_of}
 use Rattle.thread_commands.specs.Run.{RunStops, TellsCut}
@@ -26,7 +26,7 @@ returns-in_err-input-clause-stops g c =
     let S = g.S.Source in
     let source = source_of S.left S.faults c.args.source.now c.read_input.new.source in
     let p = err_from_is_err_and c.from_residual.result c.from_residual.ensures.1 in
-    rw p.1 (input_stops source (change g.N.Net.faults c.args.net.now c.args.net.now) (change g.T.Spawner.faults c.args.threads.now c.args.threads.now) p.0 (subst (λ (e : AnswerError). Stops IsRefused source e) (sym p.2) c.in_err-input.ensures.stops))
+    rw p.1 (input_stops source (change g.N.Net.faults c.args.net.now c.args.net.now) (change g.T.Spawner.faults c.args.threads.now c.args.threads.now) p.0 (subst (λ (e : AnswerError). Stops IsInputRefused source e) (sym p.2) c.in_err-input.ensures.stops))
 
 pub returns-in_err-run-clause-stops : goal.returns-in_err-run-clause-stops
 returns-in_err-run-clause-stops g c =

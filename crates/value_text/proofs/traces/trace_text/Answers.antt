@@ -2,7 +2,7 @@ use Rattle.std.proofs.Common.{◌+◌, List, Vec, map, drop, sym, ap, subst, str
 use Rattle.std.proofs.lemmas.List.{drop_all}
 use Rattle.std.specs.declared.alloc.Global.{Global}
 use Rattle.packet_tracer.specs.declared.flight.Walk.{Walk}
-use Rattle.value_text.specs.Traces.{Adds, IsPolicyText, IsTraceText}
+use Rattle.value_text.specs.Traces.{AddsText, IsPolicyText, IsTraceText}
 use Rattle.value_text.proofs.TextLaws.{drop_next, next_text, last_text, whole_text}
 use Rattle.value_text.proofs.traces.trace_text.Goals as goal
 
@@ -13,7 +13,7 @@ pub loop-before-preserved : goal.loop-before-preserved
 loop-before-preserved c =
     let walks = c.args.walks.now in
     let k = c.loop-before.before in
-    let more = subst (λ (ws : List Walk). Adds (IsPolicyText (k + 1) ws) (string_bytes c.loop-before.out) (string_bytes c.put_policy.new.out)) c.deref.ensures.value c.in_ok-put_policy.ensures in
+    let more = subst (λ (ws : List Walk). AddsText (IsPolicyText (k + 1) ws) (string_bytes c.loop-before.out) (string_bytes c.put_policy.new.out)) c.deref.ensures.value c.in_ok-put_policy.ensures in
     next_text IsPolicyText (walks_of walks) (walks_of (drop k walks)) (walks_of (drop (k + 1) walks)) k c.index-walks-before.result.items _ _ _
     (ap walks_of (drop_next walks k c.index-walks-before.result c.loop-before-test.true c.index-walks-before.is)) c.loop-before.invariant more
 

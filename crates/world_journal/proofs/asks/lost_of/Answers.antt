@@ -1,4 +1,4 @@
-use Rattle.world_journal.specs.Calls.{Loses, place_of}
+use Rattle.world_journal.specs.Calls.{RunLoses, place_of}
 use Rattle.world_journal.specs.Journals.{switches}
 use Rattle.world_journal.proofs.Onward.{loses-on}
 use Rattle.world_journal.proofs.Posting.{did-posted, posts-on}
@@ -14,5 +14,5 @@ pub returns-in-Some-clause-answer : goal.returns-in-Some-clause-answer
 returns-in-Some-clause-answer g c =
     let n = switches g.L.RunName.start in
     let w = c.args.seat.now.worker in
-    rw (c.in-Some.is, ← c.there.view_is) (did-posted g.L.RunName.start (λ old new. Loses n (g.E.Link.named c.args.end) w (place_of n w) c.args.end old new c.lost-told.result) c.there.inside.run c.lost-told.new.self c.post_step.new.run
+    rw (c.in-Some.is, ← c.there.view_is) (did-posted g.L.RunName.start (λ old new. RunLoses n (g.E.Link.named c.args.end) w (place_of n w) c.args.end old new c.lost-told.result) c.there.inside.run c.lost-told.new.self c.post_step.new.run
     (g.P.Poster.posts c.there.inside.pen) (g.P.Poster.posts c.post_step.new.pen) c.there.invariant c.lost-told.ensures.answer c.post_step.ensures.stays c.post_step.ensures.pen c.post_step.ensures.still)

@@ -1,7 +1,7 @@
 use Rattle.std.proofs.Common.{◌+◌, [], take, drop, sym, Ok, Err, ap, ◌∙◌, subst}
 use Rattle.netkat_parser.specs.Readers.{StandsFor}
 use Rattle.document_text.specs.declared.doc_reader.Spot.TheVariants as spot
-use Rattle.document_text.specs.Answers.{state_of, IsOpening, Takes}
+use Rattle.document_text.specs.Answers.{state_of, IsOpening, TakesLine}
 use Rattle.document_text.specs.Grammar.{line_start}
 use Rattle.document_text.specs.Steps.{step}
 use Rattle.document_text.specs.Texts.{words_of}
@@ -16,7 +16,7 @@ returns-in-Err-Fault-clause-reaches c =
     let t = c.in-Err-Fault.fault in
     stop-reaches c.args.end old _ k.fed k.row c.in-Some.len first.0 first.1 first.2 (c.advance.ensures.items ∙ ap (λ b. drop c.in-Some.len b.items) k.pending) c.requires t
     (ap spot.Refused (c.fault_at.ensures ∙ ap (λ f. record { fault = f; line = c.take.new.self.line; column = 1 }) c.in-Err-Fault.fault-is ∙ ap (λ n. record { fault = t; line = n; column = 1 }) k.line))
-    (subst (λ x. Takes (step (state_of old.reader) old.line (words_of (take c.in-Some.len old.pending.items))) (state_of old.reader) (state_of c.take.new.self.reader) (Err x)) c.in-Err-Fault.field-0-is c.in-Err-Fault.ensures.takes)
+    (subst (λ x. TakesLine (step (state_of old.reader) old.line (words_of (take c.in-Some.len old.pending.items))) (state_of old.reader) (state_of c.take.new.self.reader) (Err x)) c.in-Err-Fault.field-0-is c.in-Err-Fault.ensures.takes)
 
 pub returns-in-Opening-clause-reaches : goal.returns-in-Opening-clause-reaches
 returns-in-Opening-clause-reaches c =
@@ -30,7 +30,7 @@ returns-in-Opening-clause-reaches c =
     (c.open.ensures.spot ∙ ap (λ n. spot.Text (n + 1)) k.line) (l.line ∙ ap (λ n. n + 1) k.line)
     (subst (λ n. StandsFor (line_start (n + 1)) c.open.new.self.policy []) k.line c.open.ensures.policy) (c.open.ensures.behind ∙ ap (λ n. line_start (n + 1)) k.line)
     (subst (λ r. IsOpening (step (state_of old.reader) old.line (words_of (take c.in-Some.len old.pending.items))) (state_of r)) (sym l.reader)
-    (subst (λ x. Takes (step (state_of old.reader) old.line (words_of (take c.in-Some.len old.pending.items))) (state_of old.reader) (state_of c.take.new.self.reader) (Ok x)) c.in-Opening.is taken))
+    (subst (λ x. TakesLine (step (state_of old.reader) old.line (words_of (take c.in-Some.len old.pending.items))) (state_of old.reader) (state_of c.take.new.self.reader) (Ok x)) c.in-Opening.is taken))
 
 pub returns-in_default-taken-clause-reaches : goal.returns-in_default-taken-clause-reaches
 returns-in_default-taken-clause-reaches c =
@@ -39,4 +39,4 @@ returns-in_default-taken-clause-reaches c =
     let k = c.in-Ok.ensures.keeps in
     next-reaches c.args.end old _ k.fed k.row c.in-Some.len first.0 first.1 first.2 (c.advance-2.ensures.items ∙ ap (λ b. drop c.in-Some.len b.items) k.pending) c.requires
     (k.spot ∙ c.requires) (ap (λ n. n + 1) k.line)
-    (subst (λ x. Takes (step (state_of old.reader) old.line (words_of (take c.in-Some.len old.pending.items))) (state_of old.reader) (state_of c.take.new.self.reader) (Ok x)) c.in_default-taken.is c.in-Ok.ensures.takes)
+    (subst (λ x. TakesLine (step (state_of old.reader) old.line (words_of (take c.in-Some.len old.pending.items))) (state_of old.reader) (state_of c.take.new.self.reader) (Ok x)) c.in_default-taken.is c.in-Ok.ensures.takes)

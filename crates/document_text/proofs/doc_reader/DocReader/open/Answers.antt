@@ -1,5 +1,5 @@
 use Rattle.std.proofs.Common.{ap, arith}
-use Rattle.netkat_parser.specs.declared.fault.Place.{Place}
+use Rattle.netkat_parser.specs.declared.fault.Position.{Position}
 use Rattle.document_text.proofs.doc_reader.DocReader.open.Goals as goal
 
 pub invariant_of-self : goal.invariant_of-self
@@ -10,6 +10,6 @@ invariant_of-self c =
       held = old.held;
       rows = old.rows;
       lines = old.lines;
-      place_lines = omega (arith, old.lines, ap (λ (p : Place). p.line) c.line_start-begin.ensures);
-      place_columns = omega (arith, old.held, ap (λ (p : Place). p.column) c.line_start-begin.ensures);
+      place_lines = omega (arith, old.lines, ap (λ (p : Position). p.line) c.line_start-begin.ensures);
+      place_columns = omega (arith, old.held, ap (λ (p : Position). p.column) c.line_start-begin.ensures);
     }

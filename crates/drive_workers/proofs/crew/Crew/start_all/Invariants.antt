@@ -5,7 +5,7 @@ use Rattle.drive_workers.proofs.crew.Crew.start_all.Given as goal
 abbrev pub invariant-loop-end : goal.invariant-loop-end
 invariant-loop-end g l = record {
   ends : AreEnds g.E.Link.named g.E.Link.received l.ends.items;
-  within : vec_len l.ends ≤ length g.L.DriveName.start.sites;
+  within : vec_len l.ends ≤ length g.L.DriveName.start.peers;
   later : g.T.Spawner.faults l.initial.threads ≤ g.T.Spawner.faults l.threads;
 }
 

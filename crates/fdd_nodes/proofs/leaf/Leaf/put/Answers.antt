@@ -1,7 +1,7 @@
 use Rattle.std.proofs.Common.{List, sym, subst}
 use Rattle.std.specs.List.Sorted.{IsStrictlySortedBy}
 use Rattle.nk_values.specs.declared.lit.Lit.{Lit}
-use Rattle.fdd_nodes.specs.Copies.{copy_cmp, IsPlace, Puts}
+use Rattle.fdd_nodes.specs.Copies.{copy_cmp, IsPlace, PutsCopy}
 use Rattle.fdd_nodes.proofs.OrderLaws.{rising_put, puts_insert}
 use Rattle.fdd_nodes.proofs.leaf.Leaf.put.Goals as goal
 
@@ -13,5 +13,5 @@ invariant_of-self c =
 pub returns-in_ok-insert-clause-ok : goal.returns-in_ok-insert-clause-ok
 returns-in_ok-insert-clause-ok c =
     let old = c.self.inside.copies.items in
-    let puts = subst (λ (x : List (List Lit)). Puts c.args.copy old x) (sym c.in_ok-insert.ensures.items) (puts_insert c.args.copy old c.in-Some.place) in
-    subst (λ (x : List (List Lit)). Puts c.args.copy x c.insert.new.self.items) c.self.view_is puts
+    let puts = subst (λ (x : List (List Lit)). PutsCopy c.args.copy old x) (sym c.in_ok-insert.ensures.items) (puts_insert c.args.copy old c.in-Some.place) in
+    subst (λ (x : List (List Lit)). PutsCopy c.args.copy x c.insert.new.self.items) c.self.view_is puts

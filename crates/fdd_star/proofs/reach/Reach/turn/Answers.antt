@@ -2,7 +2,7 @@ use Rattle.std.proofs.Common.{sym, ap, ◌∙◌, subst, List, [], ◌∷◌, ar
 use Rattle.std.proofs.lemmas.List.{length-append}
 use Rattle.nk_values.specs.declared.lit.Lit.{Lit}
 use Rattle.fdd_store.specs.Stores.{tree_at}
-use Rattle.fdd_star.specs.Reaches.{copies_of, Grows}
+use Rattle.fdd_star.specs.Reaches.{reached_copies, Grows}
 use Rattle.fdd_star.proofs.GrowLaws.{grows_none, grows_more, none_yet, one_more, all_done}
 use Rattle.fdd_star.proofs.reach.Reach.turn.Goals as goal
 
@@ -13,7 +13,7 @@ loop-i-init c =
 pub index-requires : goal.index-requires
 index-requires c =
     let g = c.loop-i.invariant.0 in
-    let e = ap length g.joined ∙ length-append (copies_of c.args.self.now) g.more in
+    let e = ap length g.joined ∙ length-append (reached_copies c.args.self.now) g.more in
     let b = c.loop-i-test.true in
     let n = c.loop-i.invariant.2 in
     omega (arith, e, b, n)
@@ -28,7 +28,7 @@ loop-i-preserved c =
     let b = c.loop-i.invariant.1 in
     let h = c.loop-i-test.true in
     let at = c.in_ok-copy.ensures ∙ c.index.ensures ∙ ap (λ (ys : List (List Lit)). get_or ys c.loop-i.i c.index.result.now) g.joined in
-    let xs = one_more c.args.from c.loop-i.i (copies_of c.args.self.now) g.more c.index.result.now b (omega (arith, n, h)) in
+    let xs = one_more c.args.from c.loop-i.i (reached_copies c.args.self.now) g.more c.index.result.now b (omega (arith, n, h)) in
     let step = subst (λ (x : List Lit). Grows (tree_at c.args.store.now c.args.p) c.args.cell.now (x ∷ []) c.loop-i.self c.step.new.self) at c.in_ok-step.ensures.grown in
     (subst (λ (ys : List (List Lit)). Grows (tree_at c.args.store.now c.args.p) c.args.cell.now ys c.args.self.now c.step.new.self) (sym xs) (grows_more _ _ _ _ _ _ _ g step), omega (arith, b), n, c.in_ok-step.ensures.visits)
 
@@ -38,5 +38,5 @@ returns c =
     let b = c.loop-i-test.false in
     record {
       visits = c.loop-i.invariant.3;
-      grown = subst (λ (xs : List (List Lit)). Grows (tree_at c.args.store.now c.args.p) c.args.cell.now xs c.args.self.now c.loop-i.self) (all_done c.args.from c.loop-i.i (copies_of c.args.self.now) (omega (arith, n, b))) c.loop-i.invariant.0;
+      grown = subst (λ (xs : List (List Lit)). Grows (tree_at c.args.store.now c.args.p) c.args.cell.now xs c.args.self.now c.loop-i.self) (all_done c.args.from c.loop-i.i (reached_copies c.args.self.now) (omega (arith, n, b))) c.loop-i.invariant.0;
     }

@@ -1,6 +1,6 @@
 use Rattle.std.proofs.Common.{◌≡◌, ◌∙◌, ◌<◌, ◌+◌, ℕ, List, length, slice_get, Some, sym, ap, subst, arith}
 use Rattle.update_plan.specs.declared.cursor.Cursor.{Cursor}
-use Rattle.update_coordinator.specs.Controls.{Site, Control}
+use Rattle.update_coordinator.specs.Controls.{Peer, Control}
 use Rattle.nk_values.specs.declared.rows.Rows.{Rows}
 use Rattle.std.proofs.lemmas.Option.{slice_get-get_or}
 use Rattle.std.proofs.Common.{IfNone, IfSome, [], ◌∷◌}
@@ -12,11 +12,11 @@ use Rattle.update_coordinator.proofs.coordinator.Coordinator.read.Goals as goal
 pub returns-clause-none : goal.returns-clause-none
 returns-clause-none c =
     let old = c.self.inside in
-    let c0 : Control = (record { phase = old.phase; halt = old.halt; versions = old.versions.items; sites = old.sites.items; replies = old.replies; rejoins = old.rejoins; overlap = old.overlap; swept = old.swept }) in
-    let s = c.index-site.result.now in
+    let c0 : Control = (record { phase = old.phase; halt = old.halt; versions = old.versions.items; peers = old.peers.items; replies = old.replies; rejoins = old.rejoins; overlap = old.overlap; swept = old.swept }) in
+    let s = c.index-peer.result.now in
     let x = c.index.result.now in
-    let within : c.args.place < length old.sites.items = subst (λ (v : Control). c.args.place < length v.sites) (sym c.self.view_is) c.requires.within in
-    let here : slice_get old.sites.items c.args.place ≡ Some s = slice_get-get_or old.sites.items c.args.place s within ∙ ap (λ (z : Site). Some z) (sym c.index-site.ensures) in
+    let within : c.args.place < length old.peers.items = subst (λ (v : Control). c.args.place < length v.peers) (sym c.self.view_is) c.requires.within in
+    let here : slice_get old.peers.items c.args.place ≡ Some s = slice_get-get_or old.peers.items c.args.place s within ∙ ap (λ (z : Peer). Some z) (sym c.index-peer.ensures) in
     let cursor : c.args.place < length old.cursors.items = omega (arith, within, c.self.invariant.2.count) in
     let there : slice_get old.cursors.items c.args.place ≡ Some x = slice_get-get_or old.cursors.items c.args.place x cursor ∙ ap (λ (z : Cursor). Some z) (sym c.index.ensures) in
     let at : IfNone c.read_in.result (left_in old.versions.items old.phase s.sw s.next x ≡ []) =
@@ -28,11 +28,11 @@ returns-clause-none c =
 pub returns-clause-some : goal.returns-clause-some
 returns-clause-some c =
     let old = c.self.inside in
-    let c0 : Control = (record { phase = old.phase; halt = old.halt; versions = old.versions.items; sites = old.sites.items; replies = old.replies; rejoins = old.rejoins; overlap = old.overlap; swept = old.swept }) in
-    let s = c.index-site.result.now in
+    let c0 : Control = (record { phase = old.phase; halt = old.halt; versions = old.versions.items; peers = old.peers.items; replies = old.replies; rejoins = old.rejoins; overlap = old.overlap; swept = old.swept }) in
+    let s = c.index-peer.result.now in
     let x = c.index.result.now in
-    let within : c.args.place < length old.sites.items = subst (λ (v : Control). c.args.place < length v.sites) (sym c.self.view_is) c.requires.within in
-    let here : slice_get old.sites.items c.args.place ≡ Some s = slice_get-get_or old.sites.items c.args.place s within ∙ ap (λ (z : Site). Some z) (sym c.index-site.ensures) in
+    let within : c.args.place < length old.peers.items = subst (λ (v : Control). c.args.place < length v.peers) (sym c.self.view_is) c.requires.within in
+    let here : slice_get old.peers.items c.args.place ≡ Some s = slice_get-get_or old.peers.items c.args.place s within ∙ ap (λ (z : Peer). Some z) (sym c.index-peer.ensures) in
     let cursor : c.args.place < length old.cursors.items = omega (arith, within, c.self.invariant.2.count) in
     let there : slice_get old.cursors.items c.args.place ≡ Some x = slice_get-get_or old.cursors.items c.args.place x cursor ∙ ap (λ (z : Cursor). Some z) (sym c.index.ensures) in
     let at : IfSome c.read_in.result (λ y. left_in old.versions.items old.phase s.sw s.next x ≡ drafted y.draft ∷ left_in old.versions.items old.phase s.sw (s.next + 1) y.cursor) =

@@ -1,5 +1,5 @@
 use Rattle.std.proofs.Common.{refl}
-use Rattle.worker_post.specs.declared.post.After.TheVariants.{Shut, New, Stop, Memory, Kept}
+use Rattle.worker_post.specs.declared.post.RoundEnd.TheVariants.{Shut, New, Stop, Memory, Kept}
 use Rattle.worker_post.proofs.Noting.{notes-from}
 use Rattle.worker_post.proofs.Turning.{at-start, following-start}
 use Rattle.worker_post.proofs.post.Post.serve.Goals as goal

@@ -1,5 +1,5 @@
 use Rattle.std.proofs.Common.{◌∙◌, refl, [], ◌∷◌}
-use Rattle.worker_post.specs.Sessions.{last_of}
+use Rattle.worker_post.specs.Sessions.{last_end}
 use Rattle.worker_post.proofs.post.Post.work.Goals as goal
 
 pub loop-init : goal.loop-init
@@ -14,7 +14,7 @@ loop-init g c = record {
 pub returns-in-None-next-clause-worked : goal.returns-in-None-next-clause-worked
 returns-in-None-next-clause-worked g c =
     let before = c.loop.invariant.follows in record {
-      newest = record { given = g.D.Desk.given c.loop.seat; told = g.D.Desk.told c.loop.seat; notices = g.D.Desk.notices c.loop.seat; first = c.loop.end; last = last_of c.session-last.result.end (g.D.Desk.kept c.session-last.new.seat) };
+      newest = record { given = g.D.Desk.given c.loop.seat; told = g.D.Desk.told c.loop.seat; notices = g.D.Desk.notices c.loop.seat; first = c.loop.end; last = last_end c.session-last.result.end (g.D.Desk.kept c.session-last.new.seat) };
       earlier = before.0;
       last = refl;
       served = record { ended = c.session-last.ensures.worked; noted = c.session-last.ensures.noted };
@@ -29,7 +29,7 @@ loop-preserved-in-Some-next g c =
       place = c.session-last.ensures.seat.1 ∙ c.loop.invariant.place;
       named = new.0 ∙ c.loop.invariant.place;
       fresh = new.1;
-      follows = (record { given = g.D.Desk.given c.loop.seat; told = g.D.Desk.told c.loop.seat; notices = g.D.Desk.notices c.loop.seat; first = c.loop.end; last = last_of c.session-last.result.end (g.D.Desk.kept c.session-last.new.seat) } ∷ before.0, (record { ended = c.session-last.ensures.worked; noted = c.session-last.ensures.noted }, before.1));
+      follows = (record { given = g.D.Desk.given c.loop.seat; told = g.D.Desk.told c.loop.seat; notices = g.D.Desk.notices c.loop.seat; first = c.loop.end; last = last_end c.session-last.result.end (g.D.Desk.kept c.session-last.new.seat) } ∷ before.0, (record { ended = c.session-last.ensures.worked; noted = c.session-last.ensures.noted }, before.1));
     }
 
 pub loop-preserved : goal.loop-preserved
@@ -40,5 +40,5 @@ loop-preserved g c =
       place = c.session-last.ensures.seat.1 ∙ c.loop.invariant.place;
       named = new.0 ∙ c.loop.invariant.place;
       fresh = new.1;
-      follows = (record { given = g.D.Desk.given c.loop.seat; told = g.D.Desk.told c.loop.seat; notices = g.D.Desk.notices c.loop.seat; first = c.loop.end; last = last_of c.session-last.result.end (g.D.Desk.kept c.session-last.new.seat) } ∷ before.0, (record { ended = c.session-last.ensures.worked; noted = c.session-last.ensures.noted }, before.1));
+      follows = (record { given = g.D.Desk.given c.loop.seat; told = g.D.Desk.told c.loop.seat; notices = g.D.Desk.notices c.loop.seat; first = c.loop.end; last = last_end c.session-last.result.end (g.D.Desk.kept c.session-last.new.seat) } ∷ before.0, (record { ended = c.session-last.ensures.worked; noted = c.session-last.ensures.noted }, before.1));
     }
