@@ -6,6 +6,8 @@
 //! since the last one, or why they are no report. `table N` asks a switch for its N rows, and prints how many replies it gives, how
 //! many bytes the first and the last one take, how many say that more come, and the verdict on them. Any other line is printed as
 //! it is.
+//!
+//! Layer: tests; nothing calls it.
 #![tactic(auto)]
 
 mod reports;

@@ -1,4 +1,6 @@
-// Planned rows beside the messages of a report.
+//! Planned rows beside the messages of a report.
+//!
+//! Layer: tests; private. Called by `tables`.
 use crate::rows::{key_text, row_text};
 use flow_audit::{AuditError, AuditFault, Verdict};
 use flow_index::Table;

@@ -1,4 +1,6 @@
-// Rows as text.
+//! Rows as text.
+//!
+//! Layer: tests; private. Called by `reports`.
 use nk_values::{Action, Actions, List, Pattern, Prefix, Row};
 use openflow_wire::{FlowStats, Message};
 use std::alloc::{AllocError, Global};

@@ -1,4 +1,6 @@
-// A switch that is asked for its rows.
+//! A switch that is asked for its rows.
+//!
+//! Layer: tests; private. Called by the root of the crate.
 ghost use Rattle.std.specs.Prelude.{◌≤◌, ◌<◌, ◌^◌, IsTrue, IfOk};
 ghost use Rattle.std.specs.List.{AllByRecursion};
 ghost use Rattle.nk_values.specs.declared.row.Row.{Row as RowValue};

@@ -1,4 +1,6 @@
-// The report of a schedule, and the audits of its last world.
+//! The report of a schedule, and the audits of its last world.
+//!
+//! Layer: the program; public. Called by controller_program.
 ghost use Rattle.std.specs.Prelude.{IfOk, IfErr, OnOk, length, string_bytes};
 ghost use Rattle.document_text.specs.Answers.{doc_of};
 ghost use Rattle.outside_io.specs.Lists.{TakesAtMost};

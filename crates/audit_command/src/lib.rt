@@ -1,5 +1,7 @@
 //! `nkctl audit`: what `simulate` reports, and how the table of each switch differs from the rows that the update in
 //! progress gives it.
+//!
+//! Layer: the program. The root of the crate, which controller_program calls.
 #![tactic(auto)]
 
 mod audit;

@@ -1,4 +1,6 @@
-// The lines of audits.
+//! The lines of audits.
+//!
+//! Layer: the program; public. Called by `audit`.
 ghost use Rattle.std.specs.Prelude.{◌≡◌, ◌++◌, OnOk, string_bytes};
 ghost use Rattle.audit_command.specs.Lines.{audit_line, switch_text, verdict_text};
 

@@ -1,4 +1,6 @@
-// Whether a run is over, as those are told who read its board.
+//! Whether a run is over, as those are told who read its board.
+//!
+//! Layer: runs; public. Called by `progress` and `sight_desk` here, and by drive_workers and fleet_workers.
 use std::alloc::{AllocError, Global};
 use std::sync::{Arc, Condvar, CondvarTimeouts, Mutex, Wait};
 use std::time::{Clock, Duration};

@@ -1,4 +1,6 @@
 //! Workers that read a board while a run goes on: one keeps what it saw, and one tells an onlooker.
+//!
+//! Layer: runs. The root of the crate, which drive_workers and fleet_workers call.
 #![tactic(auto)]
 
 mod ending;

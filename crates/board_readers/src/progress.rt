@@ -1,4 +1,6 @@
-// The worker that tells how far a run is while it goes on.
+//! The worker that tells how far a run is while it goes on.
+//!
+//! Layer: runs; public. Called by drive_workers and fleet_workers.
 use crate::ending::Ending;
 use crate::watcher::is_last;
 use outside_net::Job;

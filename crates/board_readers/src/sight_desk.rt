@@ -1,4 +1,6 @@
-// Where a worker lays what it saw.
+//! Where a worker lays what it saw.
+//!
+//! Layer: runs; public. Called by `watcher` here, and by fleet_workers.
 use crate::ending::Ending;
 use crate::sights::Sights;
 use status_board::BoardName;

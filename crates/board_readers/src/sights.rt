@@ -1,4 +1,6 @@
-// What an eye has seen.
+//! What an eye has seen.
+//!
+//! Layer: runs; public. Called by `sight_desk` and `watcher` here, and by fleet_workers.
 ghost use Rattle.std.specs.Prelude.{◌≡◌, IfOk};
 ghost use Rattle.status_board.specs.Posts.{newest};
 ghost use Rattle.status_board.specs.Reads.{post_of};

@@ -1,4 +1,6 @@
-// The worker that reads a board.
+//! The worker that reads a board.
+//!
+//! Layer: runs; public. Called by `progress` here, and by fleet_workers.
 use crate::sight_desk::SightDesk;
 use crate::sights::Sights;
 use outside_net::Job;

@@ -1,6 +1,8 @@
 //! Reads a board in one thread while the pen posts in another. Standard input has two numbers, how many reads and how
 //! many posts there are to be. The count of a last read, after both, is printed: that of the last post. `bench/board`
 //! times it.
+//!
+//! Layer: tests; nothing calls it.
 #![tactic(auto)]
 
 ghost use Rattle.std.specs.Prelude.{◌≡◌};

@@ -1,4 +1,6 @@
-// What two eyes read, one call after another.
+//! What two eyes read, one call after another.
+//!
+//! Layer: tests; private. Called by `threads`.
 ghost use Rattle.std.specs.Prelude.{◌≡◌};
 
 use status_board::{Board, BoardName, Eye, Pen, Seen};

@@ -1,4 +1,6 @@
-// An eye that reads in one thread while the pen posts in another, and an eye that rests meanwhile.
+//! An eye that reads in one thread while the pen posts in another, and an eye that rests meanwhile.
+//!
+//! Layer: tests; private. Its tests are run by `rt test`.
 ghost use Rattle.std.specs.Prelude.{◌≡◌};
 
 use crate::reads::{post, seen};

@@ -1,4 +1,6 @@
 //! The form of a command line, as `clap` reads it.
+//!
+//! Layer: texts that are read; private. Called by `reading`.
 ghost use Rattle.std.specs.Prelude.{◌≡◌, IfOk};
 ghost use Rattle.clap.specs.Simple.{new_app, with_rule};
 ghost use Rattle.clap.specs.Words.{app_of};

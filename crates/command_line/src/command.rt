@@ -1,4 +1,6 @@
 //! What a command line asks for.
+//!
+//! Layer: texts that are read; public. Called by `reading` here, and by controller_program.
 
 /// What a command line asks for.
 #[derive(Clone, Copy, Debug, PartialEq, Eq)]

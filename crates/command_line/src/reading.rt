@@ -1,4 +1,6 @@
 //! The words of a command line.
+//!
+//! Layer: texts that are read; public. Called by controller_program.
 ghost use Rattle.std.specs.Prelude.{◌≡◌, IfOk, IfSome, IfNone, All, IsTrue, ◌↔◌, option_and_then};
 ghost use Rattle.clap.specs.Words.{first_of, subcommand_rows_of};
 ghost use Rattle.command_line.specs.Commands.{Asks, IsCommandLine, IsPlain, base_port, workload_number};

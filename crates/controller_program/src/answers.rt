@@ -1,4 +1,6 @@
 //! Which command answers which words.
+//!
+//! Layer: the program; private. Called by `call`.
 ghost use Rattle.std.specs.Prelude.{◌≡◌, ℕ, Err};
 ghost use Rattle.outside_io.specs.Lists.{TakesAtMost};
 ghost use Rattle.command_line.specs.Commands.{IsReader};

@@ -1,4 +1,6 @@
 //! Tests of diagrams: what no clause says, that calls succeed where memory is there, and generic calls at a type.
+//!
+//! Layer: tests. The root of the crate, which no code calls.
 #![tactic(auto)]
 
 #[cfg(test)]

@@ -1,4 +1,6 @@
-// Packets, literals and diagrams that the tests ask.
+//! Packets, literals and diagrams that the tests ask.
+//!
+//! Layer: tests; private. Called by many modules.
 use fdd_nodes::{Assignments, Fdd, are_few};
 use fdd_ops::{assign, sequence, test};
 use nk_values::{Field, Header, Lit, Packet};

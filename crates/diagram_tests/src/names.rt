@@ -1,4 +1,6 @@
-// The names of diagrams in a store: one for each answer.
+//! The names of diagrams in a store: one for each answer.
+//!
+//! Layer: tests; private. Its tests are run by `rt test`.
 use crate::made::{goes_to, lit};
 use fdd_nodes::{Fdd, are_few, are_few_behind};
 use fdd_ops::{assign, choice, test, union};

@@ -1,4 +1,6 @@
-// Diagrams made by hand, cells and paths, and what they answer.
+//! Diagrams made by hand, cells and paths, and what they answer.
+//!
+//! Layer: tests; private. Its tests are run by `rt test`.
 use crate::made::{lit, one, packet};
 use fdd_nodes::{Assignments, Cell, Fdd, Leaf, Node, Path, parting};
 use nk_values::Field;

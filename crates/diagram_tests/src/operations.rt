@@ -1,4 +1,6 @@
-// Choices, what is left at a port, and differences.
+//! Choices, what is left at a port, and differences.
+//!
+//! Layer: tests; private. Its tests are run by `rt test`.
 use crate::made::{count, goes_to, lit, moves, packet, sends};
 use fdd_differ::difference;
 use fdd_nodes::{Fdd, Node, are_few, are_few_behind};

@@ -1,4 +1,6 @@
 //! Diagrams that give no packet twice.
+//!
+//! Layer: tests; private. Its tests are run by `rt test`.
 use crate::made::{goes_to, lit, packet};
 use fdd_nodes::{Fdd, are_few};
 use fdd_ops::{assign, sequence, split, union};

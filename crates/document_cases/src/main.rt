@@ -3,6 +3,8 @@
 //!
 //! The lines of a document are joined by LF, so the last one has none. `\r` stands for CR. What is printed of a document that
 //! comes byte by byte, and of one that is cut in two, at each place, has to be the same.
+//!
+//! Layer: tests; nothing calls it.
 #![tactic(auto)]
 
 use document_text::{DocReader, Document, DocumentError, PacketLine, read_document};

@@ -6,7 +6,7 @@ use Rattle.std.specs.Result.{OnErr}
 use Rattle.std.proofs.lemmas.Bool.{cases_lt}
 use Rattle.std.proofs.lemmas.List.{append-nil, length-take-le, take_all}
 use Rattle.std.proofs.lemmas.List.Sums.{sum_by-append}
-use Rattle.nk_values.specs.declared.fault.TextFault.{TextFault}
+use Rattle.nk_values.specs.declared.text_fault.TextFault.{TextFault}
 use Rattle.nk_syntax.specs.Terms.{Term}
 use Rattle.netkat_parser.specs.declared.fault.ParseFault.{ParseFault}
 use Rattle.netkat_parser.specs.Cuts.{EndsAt}

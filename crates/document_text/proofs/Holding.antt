@@ -6,8 +6,8 @@ use Rattle.std.specs.Option.{option_map, option_and_then}
 use Rattle.event_words.specs.declared.word.EventWord.{EventWord}
 use Rattle.event_words.specs.declared.word.EventWord.TheVariants as word
 use Rattle.event_words.specs.Words.{word_of}
-use Rattle.nk_values.specs.declared.fault.TextFault.{TextFault}
-use Rattle.nk_values.specs.declared.fault.TextFault.TheVariants.{BadLine, Limit, NoEdge, NoPolicy, UnknownName, UnknownSwitch, ValueRange}
+use Rattle.nk_values.specs.declared.text_fault.TextFault.{TextFault}
+use Rattle.nk_values.specs.declared.text_fault.TextFault.TheVariants.{BadLine, Limit, NoEdge, NoPolicy, UnknownName, UnknownSwitch, ValueRange}
 use Rattle.nk_values.specs.Members.{IsIn}
 use Rattle.nk_values.proofs.MemberLaws.{in-either}
 use Rattle.nk_values.specs.declared.field.Field.TheVariants.{Sw}

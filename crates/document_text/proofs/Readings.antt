@@ -1,7 +1,7 @@
 -- From lines to whole texts.
 use Rattle.std.proofs.Common.{◌≡◌, ℕ, ◌+◌, ◌<◌, ◌≤◌, Bool, true, false, cond, nat_le, nat_lt, List, length, take, Result, Ok, Err, refl, sym, ◌∙◌, subst, arith}
 use Rattle.std.proofs.lemmas.Bool.Decides.{nat_tests}
-use Rattle.nk_values.specs.declared.fault.TextFault.TheVariants.{Limit}
+use Rattle.nk_values.specs.declared.text_fault.TextFault.TheVariants.{Limit}
 use Rattle.document_text.specs.declared.document.Document.{Document}
 use Rattle.document_text.specs.declared.fault.DocFault.{DocFault}
 use Rattle.document_text.specs.declared.fault.DocumentError.{DocumentError}

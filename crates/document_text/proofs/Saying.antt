@@ -4,8 +4,8 @@ use Rattle.std.specs.List.{flat_map, list_all}
 use Rattle.std.proofs.lemmas.Bool.Decides.{nat_tests}
 use Rattle.std.proofs.lemmas.Grind.{flat_map-append}
 use Rattle.std.proofs.lemmas.List.{append-nil, map-append}
-use Rattle.nk_values.specs.declared.fault.TextFault.{TextFault}
-use Rattle.nk_values.specs.declared.fault.TextFault.TheVariants.{BadLine, Limit, NoEdge, StampRange, TooFewStamps, UnknownName, ValueRange}
+use Rattle.nk_values.specs.declared.text_fault.TextFault.{TextFault}
+use Rattle.nk_values.specs.declared.text_fault.TextFault.TheVariants.{BadLine, Limit, NoEdge, StampRange, TooFewStamps, UnknownName, ValueRange}
 use Rattle.nk_values.specs.declared.field.Field.TheVariants.{Sw, Pt}
 use Rattle.nk_syntax.specs.Terms.{Term}
 use Rattle.netkat_parser.specs.Grammar.{IsText}

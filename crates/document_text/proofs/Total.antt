@@ -13,7 +13,7 @@ use Rattle.netkat_parser.specs.Grammar.{IsText}
 use Rattle.netkat_parser.specs.Places.{HasFault, place_behind}
 use Rattle.netkat_parser.proofs.Outcomes.{no-both, fault-one}
 use Rattle.netkat_parser.proofs.Total.{value-or-not, read-or-fault}
-use Rattle.nk_values.specs.declared.fault.TextFault.TheVariants.{BadLine}
+use Rattle.nk_values.specs.declared.text_fault.TextFault.TheVariants.{BadLine}
 use Rattle.document_text.specs.Documents.{Outcome}
 use Rattle.document_text.specs.States.{State, initial_state, with_policy}
 use Rattle.document_text.specs.Steps.{Step, Next, Enters, Opens, Stops, step}

@@ -1,8 +1,8 @@
 -- What the answers of the reader stand for.
 use Rattle.std.specs.Prelude.{◌≡◌, ⊤, ℕ, Bool, true, false, nat_lt, if◌then◌else◌, List, map, Option, Some, None, Result, Ok, Err}
 use Rattle.std.specs.Borrow.{Bor}
-use Rattle.nk_values.specs.declared.fault.TextFault.{TextFault}
-use Rattle.nk_values.specs.declared.fault.TextFault.TheVariants.{BadLine, Limit, NoEdge, ValueRange}
+use Rattle.nk_values.specs.declared.text_fault.TextFault.{TextFault}
+use Rattle.nk_values.specs.declared.text_fault.TextFault.TheVariants.{BadLine, Limit, NoEdge, ValueRange}
 use Rattle.nk_values.specs.Packets.{IsWellShaped}
 use Rattle.nk_syntax.specs.Views.{term_of}
 use Rattle.topology_model.specs.Layouts.{Layout}

@@ -2,8 +2,8 @@
 use Rattle.std.specs.Prelude.{ℕ, Bool, true, not, ◌==◌, ◌&&◌, ◌||◌, nat_le, List, [], ◌∷◌, codes, Option, None, Some, is_some, if◌then◌else◌, Result, Ok, Err, option_map, option_and_then}
 use Rattle.std.specs.List.{list_all}
 use Rattle.std.specs.Str.{bytes_eq}
-use Rattle.nk_values.specs.declared.fault.TextFault.{TextFault}
-use Rattle.nk_values.specs.declared.fault.TextFault.TheVariants.{BadLine, NoEdge, NoPolicy, NotEdge, StampRange, TooFewStamps, UnknownName, UnknownPort, UnknownSwitch, ValueRange}
+use Rattle.nk_values.specs.declared.text_fault.TextFault.{TextFault}
+use Rattle.nk_values.specs.declared.text_fault.TextFault.TheVariants.{BadLine, NoEdge, NoPolicy, NotEdge, StampRange, TooFewStamps, UnknownName, UnknownPort, UnknownSwitch, ValueRange}
 use Rattle.nk_values.specs.declared.field.Field.TheVariants.{Sw, Pt}
 use Rattle.topology_model.specs.Layouts.{place_of, has_switch, has_port, is_linked}
 use Rattle.topology_model.specs.Lines.{with_line, line_fault}

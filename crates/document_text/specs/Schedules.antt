@@ -3,8 +3,8 @@ use Rattle.std.specs.Prelude.{ℕ, Bool, not, ◌&&◌, nat_le, List, [], ◌∷
 use Rattle.event_words.specs.declared.word.EventWord.{EventWord}
 use Rattle.event_words.specs.declared.word.EventWord.TheVariants as word
 use Rattle.event_words.specs.Words.{word_of}
-use Rattle.nk_values.specs.declared.fault.TextFault.{TextFault}
-use Rattle.nk_values.specs.declared.fault.TextFault.TheVariants.{BadLine, UnknownSwitch, ValueRange}
+use Rattle.nk_values.specs.declared.text_fault.TextFault.{TextFault}
+use Rattle.nk_values.specs.declared.text_fault.TextFault.TheVariants.{BadLine, UnknownSwitch, ValueRange}
 use Rattle.nk_values.specs.declared.field.Field.TheVariants.{Sw}
 use Rattle.topology_model.specs.Layouts.{has_switch}
 use Rattle.document_text.specs.declared.document.ScheduleStep.{ScheduleStep}

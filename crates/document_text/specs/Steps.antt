@@ -1,8 +1,8 @@
 -- One line after others.
 use Rattle.std.specs.Prelude.{ℕ, Bool, false, not, ◌&&◌, ◌||◌, nat_le, List, [], ◌∷◌, ◌++◌, length, codes, if◌then◌else◌, Result, Ok, Err}
 use Rattle.std.specs.Str.{bytes_eq}
-use Rattle.nk_values.specs.declared.fault.TextFault.{TextFault}
-use Rattle.nk_values.specs.declared.fault.TextFault.TheVariants.{BadLine, Limit}
+use Rattle.nk_values.specs.declared.text_fault.TextFault.{TextFault}
+use Rattle.nk_values.specs.declared.text_fault.TextFault.TheVariants.{BadLine, Limit}
 use Rattle.document_text.specs.declared.document.ScheduleStep.{ScheduleStep}
 use Rattle.document_text.specs.declared.document.PacketLine.{PacketLine}
 use Rattle.document_text.specs.declared.declaration.LineKind.TheVariants.{Packet}

@@ -1,4 +1,6 @@
-// What lines tell beside the topology.
+//! What lines tell beside the topology.
+//!
+//! Layer: texts that are read; private. Called by many modules.
 ghost use Rattle.std.specs.Prelude.{◌≡◌};
 ghost use Rattle.document_text.specs.States.{place_of_kind};
 

@@ -1,4 +1,7 @@
-// What a reader of documents keeps.
+//! What a reader of documents keeps.
+//!
+//! Layer: texts that are read; public. Called by many modules here, and by document_cases, program_answer and
+//! text_tests.
 ghost use Rattle.std.specs.Prelude.{◌≤◌, ◌+◌, length};
 
 use crate::fault::DocFault;

@@ -1,4 +1,7 @@
-// What a document says.
+//! What a document says.
+//!
+//! Layer: texts that are read; public. Called by many modules here, and by many crates. Clauses of audit_command and
+//! report_laws name it.
 use nk_syntax::Pol;
 use nk_values::{Packet, Tag};
 use topology_model::Topology;

@@ -1,4 +1,6 @@
-// What comes of a text that was read to its end.
+//! What comes of a text that was read to its end.
+//!
+//! Layer: texts that are read; private. Adds calls to `DocReader`.
 ghost use Rattle.std.specs.Prelude.{◌≡◌, ℕ, List, [], MatchBool};
 ghost use Rattle.netkat_parser.specs.Places.{place_behind};
 ghost use Rattle.netkat_parser.specs.Readers.{StandsFor};

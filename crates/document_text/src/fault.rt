@@ -1,4 +1,6 @@
-// Why a text is no document.
+//! Why a text is no document.
+//!
+//! Layer: texts that are read; public. Called by many modules here, and by many crates.
 use nk_values::TextFault;
 use std::alloc::{AllocError, AllocFailed};
 

@@ -1,4 +1,6 @@
-// A document that comes in pieces.
+//! A document that comes in pieces.
+//!
+//! Layer: texts that are read; private. Adds calls to `DocReader`.
 ghost use Rattle.std.specs.Prelude.{◌≡◌, ◌++◌, ◌+◌, ◌≤◌, ℕ, List, [], length, take, OnOk, OnErr};
 ghost use Rattle.document_text.specs.Grammar.{IsReading, line_behind};
 ghost use Rattle.document_text.specs.Documents.{Outcome};

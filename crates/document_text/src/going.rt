@@ -1,4 +1,6 @@
-// Reading goes on over what is pending.
+//! Reading goes on over what is pending.
+//!
+//! Layer: texts that are read; private. Called by `ending`.
 ghost use Rattle.std.specs.Prelude.{◌≡◌, ◌≤◌, ◌<◌, true, false, ℕ, Bool, [], ◌∷◌, ◌++◌, length, take, OnOk, OnErr, IfOk, IfSome, IfNone, vec_len, vec_capacity};
 ghost use Rattle.document_text.specs.declared.doc_reader.Spot.TheVariants as spot;
 ghost use Rattle.document_text.specs.Answers.{state_of, TakesLine};

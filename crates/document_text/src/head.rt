@@ -1,4 +1,6 @@
-// The first word of a line.
+//! The first word of a line.
+//!
+//! Layer: texts that are read; private. Called by many modules. Clauses of report_laws name it.
 ghost use Rattle.std.specs.Prelude.{◌≡◌};
 ghost use Rattle.std.specs.Str.{bytes_eq};
 ghost use Rattle.document_text.specs.Steps.{head_of};

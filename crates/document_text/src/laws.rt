@@ -1,4 +1,6 @@
-// Laws of the grammar, as contracts.
+//! Laws of the grammar, as contracts.
+//!
+//! Layer: texts that are read; public. No crate here calls it.
 ghost use Rattle.document_text.specs.Laws.{OneOutcome, SomeOutcome, Within};
 ghost use Rattle.document_text.specs.Parts.{SaysItsParts};
 

@@ -1,4 +1,6 @@
 //! Documents from their text: a topology, settings, policies, packets and a schedule.
+//!
+//! Layer: texts that are read. The root of the crate, which many crates call.
 #![tactic(auto)]
 
 mod declaration;

@@ -1,4 +1,6 @@
-// Packet lines.
+//! Packet lines.
+//!
+//! Layer: texts that are read; private. Called by `take`.
 ghost use Rattle.std.specs.Prelude.{◌≡◌, true, map, IfOk};
 ghost use Rattle.std.specs.List.{find, list_all};
 ghost use Rattle.std.specs.Char.{is_ascii_alphanumeric};

@@ -1,4 +1,6 @@
-// From a text to its document, or to its first fault and where that is.
+//! From a text to its document, or to its first fault and where that is.
+//!
+//! Layer: texts that are read; public. Called by many crates.
 ghost use Rattle.document_text.specs.Documents.{Outcome};
 ghost use Rattle.document_text.specs.Grammar.{IsReading};
 ghost use Rattle.document_text.specs.Answers.{AnswersDocument, IsAnswer};

@@ -1,4 +1,6 @@
-// What the lines so far have declared.
+//! What the lines so far have declared.
+//!
+//! Layer: texts that are read; private. Called by many modules.
 ghost use Rattle.std.specs.Prelude.{◌≡◌, true, nat_le};
 ghost use Rattle.document_text.specs.States.{place_of_kind, has_edge};
 

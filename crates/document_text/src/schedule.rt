@@ -1,4 +1,6 @@
-// The schedule: its first line, and its events.
+//! The schedule: its first line, and its events.
+//!
+//! Layer: texts that are read; private. Called by `take`.
 ghost use Rattle.std.specs.Prelude.{◌≡◌};
 ghost use Rattle.nk_values.specs.declared.field.Field.TheVariants.{Sw};
 ghost use Rattle.event_words.specs.Words.{word_of};

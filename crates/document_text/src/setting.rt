@@ -1,4 +1,6 @@
 //! The settings, and the line that begins a policy.
+//!
+//! Layer: texts that are read; private. Called by `take`.
 ghost use Rattle.std.specs.Prelude.{◌≡◌, ◌≤◌, true, IfOk, OnOk};
 ghost use Rattle.document_text.specs.States.{State, has_edge};
 ghost use Rattle.document_text.specs.Lines.{unset, one_numeral, two_numerals, new_number, hops_line, capacity_line, stamps_line, rejoins_line, overlap_line, policy_line};

@@ -1,4 +1,6 @@
-// Reading goes on from line to line.
+//! Reading goes on from line to line.
+//!
+//! Layer: texts that are read; private. Called by `ending` and `feed`.
 ghost use Rattle.std.specs.Prelude.{◌≡◌, true};
 ghost use Rattle.document_text.specs.States.{has_edge};
 ghost use Rattle.document_text.specs.Steps.{scheduled, enters};

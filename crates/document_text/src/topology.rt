@@ -1,4 +1,6 @@
-// The lines of the topology.
+//! The lines of the topology.
+//!
+//! Layer: texts that are read; private. Called by `packet`, `schedule` and `take`.
 ghost use Rattle.std.specs.Prelude.{◌≡◌, false, nat_le};
 ghost use Rattle.std.specs.List.{list_all};
 ghost use Rattle.nk_values.specs.declared.field.Field.TheVariants.{Sw, Pt};

@@ -1,4 +1,6 @@
-// From bytes to lines, words and numbers.
+//! From bytes to lines, words and numbers.
+//!
+//! Layer: texts that are read; private. Called by many modules.
 ghost use Rattle.std.specs.Prelude.{◌≡◌, ◌≢◌, ◌≤◌, ◌<◌, ℕ, false, List, [], ◌∷◌, ◌++◌, length, filter, IfOk, IfSome, IfNone};
 ghost use Rattle.std.specs.Bool.{OnTrue};
 ghost use Rattle.document_text.specs.Texts.{first_len, is_over, content, is_blank, is_filled, words_of, is_end, numeral, numerals, end_of};

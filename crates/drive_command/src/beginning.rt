@@ -1,4 +1,6 @@
 //! The coordinator of a document's policies, before anything has happened.
+//!
+//! Layer: the program; private. Called by `drive`.
 ghost use Rattle.std.specs.Prelude.{◌≡◌, IfOk, None, map};
 ghost use Rattle.update_coordinator.specs.Starts.{initial_control};
 ghost use Rattle.update_laws.specs.Settings.{AreVersions};

@@ -1,4 +1,6 @@
 //! The answer of `nkctl drive`.
+//!
+//! Layer: the program; public. Called by controller_program.
 ghost use Rattle.std.specs.Prelude.{◌≡◌, IfOk, IfErr};
 ghost use Rattle.document_text.specs.Answers.{doc_of};
 ghost use Rattle.drive_journal.specs.Journals.{AreWritable};

@@ -1,4 +1,6 @@
 //! What the worker of an outside switch asks of a drive: each answer is decided by the state found.
+//!
+//! Layer: switches outside; private. Adds calls to `Drive`.
 ghost use Rattle.std.specs.Prelude.{◌≡◌, ◌≢◌, ◌<◌, ◌↔◌, None, IfOk, OnErr, IsTrue, length};
 ghost use Rattle.worker_desk.specs.Answers.{CanBeWritten, GivesBack, OnNewEnd, OnShutNewEnd};
 ghost use Rattle.worker_desk.specs.Streams.{TellsWhereKnown};

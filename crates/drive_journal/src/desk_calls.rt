@@ -1,4 +1,6 @@
 //! What a worker of a drive asks and tells under the one lock.
+//!
+//! Layer: switches outside; private. Adds calls to `DriveDesk`.
 ghost use Rattle.std.specs.Prelude.{◌<◌, None, length};
 
 use crate::drive_desk::DriveDesk;

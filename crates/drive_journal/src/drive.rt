@@ -1,4 +1,6 @@
 //! What lies under the one lock of a drive.
+//!
+//! Layer: switches outside; public. Called by many modules here, and by drive_workers.
 ghost use Rattle.std.specs.Prelude.{◌≡◌, None, IfOk, replicate};
 
 use crate::name::DriveName;

@@ -1,4 +1,6 @@
 //! The one lock of a drive.
+//!
+//! Layer: switches outside; public. Called by `desk_calls` here, and by drive_workers.
 ghost use Rattle.std.specs.Prelude.{IfSome};
 ghost use Rattle.drive_journal.specs.Drives.{IsOver};
 

@@ -1,4 +1,6 @@
 //! What the bytes of a stream are that come next in it.
+//!
+//! Layer: switches outside; public. Called by `calls`.
 ghost use Rattle.std.specs.Prelude.{ℕ, List, Option};
 ghost use Rattle.openflow_wire.specs.Writing.{Fits};
 ghost use Rattle.worker_desk.specs.Streams.{TellsWhereKnown};

@@ -1,4 +1,6 @@
 //! What comes from a switch.
+//!
+//! Layer: switches outside; private. Called by `steered`.
 ghost use Rattle.std.specs.Prelude.{◌≡◌, ◌≢◌, ◌++◌, ◌∷◌, [], None, length, MatchBool};
 ghost use Rattle.drive_journal.specs.Cuts.{IsAmong};
 ghost use Rattle.drive_journal.specs.Journals.{AreCounts};

@@ -1,4 +1,6 @@
 //! Laws of a drive, each the contract of a call that does nothing.
+//!
+//! Layer: switches outside; public. Called by drive_command and drive_workers.
 ghost use Rattle.drive_journal.specs.Greetings.{GreetingsAreNoted};
 ghost use Rattle.drive_journal.specs.Lasting.{LostIsLast};
 ghost use Rattle.drive_journal.specs.Losses.{StartsHaltAtLoss};

@@ -1,5 +1,7 @@
 //! The controller beside the journal of what it did and heard, and the one lock over which the workers of outside
 //! switches share both (SIGCOMM 2012, section 5).
+//!
+//! Layer: switches outside. The root of the crate, which drive_command, drive_text and drive_workers call.
 #![tactic(auto)]
 
 mod calls;

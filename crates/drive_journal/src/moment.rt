@@ -1,4 +1,6 @@
 //! What all workers of a drive wait for.
+//!
+//! Layer: switches outside; private. Called by `desk_calls` and `drive_desk`.
 ghost use Rattle.std.specs.Prelude.{◌≡◌, true};
 ghost use Rattle.drive_journal.specs.Drives.{IsDone};
 

@@ -1,4 +1,6 @@
 //! What a drive is named after.
+//!
+//! Layer: switches outside; public. Called by many modules here, and by drive_workers.
 ghost use Rattle.std.specs.Prelude.{[], None};
 ghost use Rattle.update_coordinator.specs.Controls.{Control};
 ghost use Rattle.update_coordinator.specs.Starts.{initial_control};

@@ -1,4 +1,6 @@
 //! What a journal with its coordinator is made of.
+//!
+//! Layer: switches outside; private. Adds calls to `Steered`.
 use crate::name::DriveName;
 use crate::steered::Steered;
 use crate::steering::Steering;

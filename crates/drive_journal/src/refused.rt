@@ -1,4 +1,6 @@
 //! Events that did not happen.
+//!
+//! Layer: switches outside; public. Called by many modules.
 
 /// Why an event did not happen. What was handed in comes back.
 #[derive(Drop)]

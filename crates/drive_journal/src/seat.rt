@@ -1,4 +1,6 @@
 //! Where a worker of a drive sits.
+//!
+//! Layer: switches outside; public. Called by `desk_calls` here, and by drive_workers.
 ghost use Rattle.std.specs.Prelude.{◌≡◌};
 
 /// The worker of the switch at a place, from 0.

@@ -1,4 +1,6 @@
 //! A coordinator beside the journal of its events.
+//!
+//! Layer: switches outside; public. Called by `drive`, `drive_desk` and `parts` here, and by drive_workers.
 use crate::intake::{count_told, take_in};
 use crate::name::DriveName;
 use crate::refused::Refused;

@@ -1,4 +1,7 @@
 //! Events of the controller alone.
+//!
+//! Layer: switches outside; public. Called by many modules here, and by drive_command, drive_text and drive_workers.
+//! Clauses of drive_laws name it.
 use openflow_wire::{Message, WireFault};
 
 /// One event of the controller, with what it sent or heard. Switches go by their places, from 0.

@@ -1,4 +1,6 @@
 //! What the caller of a drive does: it begins updates and waits for the reports of drains.
+//!
+//! Layer: switches outside; public. Called by `drive` and `drive_desk` here, and by drive_workers.
 ghost use Rattle.std.specs.Prelude.{◌↔◌, IsTrue};
 ghost use Rattle.drive_journal.specs.Calls.{IsAwaitedBy};
 ghost use Rattle.drive_journal.specs.Drives.{IsLast};

@@ -1,4 +1,6 @@
 //! Laws of the controller's part of the world, each the contract of a call that does nothing.
+//!
+//! Layer: laws alone; public. No crate here calls it.
 ghost use Rattle.drive_laws.specs.Laws.{RunsAreDriven, SteeringIsEnabled};
 
 use world_core::switches_follow;

@@ -1,4 +1,6 @@
 //! What the controller does with switches of its own is what it does with those outside, as laws over values.
+//!
+//! Layer: laws alone. The root of the crate, which no code calls.
 #![tactic(auto)]
 
 mod laws;

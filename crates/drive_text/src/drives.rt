@@ -1,4 +1,6 @@
 //! The texts of drives.
+//!
+//! Layer: switches outside; public. Called by drive_command.
 ghost use Rattle.std.specs.Prelude.{◌≡◌, ◌++◌, OnOk, IfOk, option_map, string_bytes, codes};
 ghost use Rattle.openflow_wire.specs.Writing.{Fits};
 ghost use Rattle.drive_journal.specs.Journals.{AreWritable, IsWritable};

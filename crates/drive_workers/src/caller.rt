@@ -1,4 +1,6 @@
 //! The caller's own part of a drive.
+//!
+//! Layer: switches outside; public. Called by `crew`.
 ghost use Rattle.drive_workers.specs.Faults.{AskCause};
 
 use crate::fault::DriveFault;

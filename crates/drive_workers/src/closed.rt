@@ -1,4 +1,6 @@
 //! A drive that names itself.
+//!
+//! Layer: switches outside; public. Called by `over`.
 ghost use Rattle.std.specs.Prelude.{◌≡◌, vec_len, length, IfOk, None};
 ghost use Rattle.drive_journal.specs.Drives.{IsOver};
 ghost use Rattle.drive_journal.specs.Journals.{AreWritable, IsSteered};

@@ -1,4 +1,6 @@
 //! A drive from its start to its end.
+//!
+//! Layer: switches outside; public. Called by `closed` and `lookout`.
 ghost use Rattle.std.specs.Prelude.{◌≡◌, ◌<◌, vec_len, length, IfOk, IfErr};
 ghost use Rattle.drive_journal.specs.Drives.{IsOver};
 ghost use Rattle.drive_workers.specs.Ends.{AreEnds, IsEndOf};

@@ -1,4 +1,6 @@
 //! The ends of a drive.
+//!
+//! Layer: switches outside; public. Called by `over`.
 ghost use Rattle.std.specs.Prelude.{◌≡◌, ◌+◌, vec_len, IfOk, min};
 ghost use Rattle.outside_net.specs.Causes.{NetCause};
 ghost use Rattle.drive_workers.specs.Ends.{AreEnds};

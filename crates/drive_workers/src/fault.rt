@@ -1,4 +1,6 @@
 //! Drives that have no journal.
+//!
+//! Layer: switches outside; public. Called by many modules here, and by drive_command.
 
 /// Why a drive has no journal.
 #[derive(Clone, Copy, Debug, PartialEq, Eq)]

@@ -1,4 +1,6 @@
 //! Ends that a drive gives back.
+//!
+//! Layer: switches outside; public. Called by `over`.
 ghost use Rattle.std.specs.Prelude.{◌≡◌, ◌<◌, ◌≤◌};
 ghost use Rattle.nk_values.specs.Members.{IsIn};
 ghost use Rattle.outside_io.specs.Causes.{Rose};

@@ -1,4 +1,6 @@
 //! The workers of outside switches, and a drive of all of them (SIGCOMM 2012, section 5).
+//!
+//! Layer: switches outside. The root of the crate, which drive_command calls.
 #![tactic(auto)]
 
 mod caller;

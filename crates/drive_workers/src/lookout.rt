@@ -1,4 +1,6 @@
 //! The board of a drive, and who reads it.
+//!
+//! Layer: switches outside; private. Called by `closed`.
 ghost use Rattle.std.specs.Prelude.{◌≡◌};
 ghost use Rattle.drive_workers.specs.Faults.{StartsAs};
 

@@ -1,4 +1,6 @@
 //! A drive over a net.
+//!
+//! Layer: switches outside; public. Called by drive_command.
 ghost use Rattle.std.specs.Prelude.{◌≡◌, ◌<◌, ◌^◌, length, IfOk, None};
 ghost use Rattle.drive_journal.specs.Losses.{HaltsAtLoss};
 ghost use Rattle.drive_workers.specs.Driven.{IsDriven};

@@ -1,4 +1,6 @@
 //! The worker of an outside switch, as a job.
+//!
+//! Layer: switches outside; public. Called by `crew`.
 ghost use Rattle.std.specs.Prelude.{◌≡◌, ◌<◌, length, true};
 ghost use Rattle.drive_workers.specs.Ends.{IsEndOf};
 

@@ -1,4 +1,6 @@
-// The messages that add rows to the table of a switch.
+//! The messages that add rows to the table of a switch.
+//!
+//! Layer: tests; private. Called by the root of the crate.
 ghost use Rattle.std.specs.Prelude.{◌≡◌, IfOk, true};
 ghost use Rattle.nk_values.specs.declared.row.Row.{Row};
 ghost use Rattle.nk_values.specs.Fitting.{IsWritable};

@@ -1,5 +1,7 @@
 //! How a controller of one's own calls the libraries. It reads a document from standard input, compiles each policy and
 //! prints, for each of its rows, the port that it is for and the OpenFlow message that adds it to the switch.
+//!
+//! Layer: tests; nothing calls it.
 #![tactic(auto)]
 
 mod adding;

@@ -1,4 +1,6 @@
-// A policy compiled to rows.
+//! A policy compiled to rows.
+//!
+//! Layer: tests; private. Called by the root of the crate.
 ghost use Rattle.std.specs.Prelude.{IfOk, IfErr};
 ghost use Rattle.nk_syntax.specs.Views.{term_of};
 ghost use Rattle.policy_rows.specs.Limits.{AreWritable};

@@ -1,4 +1,6 @@
-// `nkctl equiv`: whether the two policies of a document mean the same (POPL 2014, section 4).
+//! `nkctl equiv`: whether the two policies of a document mean the same (POPL 2014, section 4).
+//!
+//! Layer: the program; public. Called by controller_program.
 ghost use Rattle.std.specs.Prelude.{◌≡◌, IfOk, IfErr};
 ghost use Rattle.nk_syntax.specs.Views.{term_of};
 ghost use Rattle.document_text.specs.Answers.{doc_of};

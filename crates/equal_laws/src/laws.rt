@@ -1,4 +1,6 @@
 //! Histories of policies that answer well-shaped packets alike, each law the contract of a call that does nothing.
+//!
+//! Layer: laws alone; public. No crate here calls it.
 ghost use Rattle.equal_laws.specs.Equals.{AlikeCompleteAlike, AlikeOpenAlike};
 
 /// Plain policies that answer well-shaped packets alike give them the same complete histories in each topology

@@ -1,4 +1,6 @@
 //! Laws of policies that answer packets alike.
+//!
+//! Layer: laws alone. The root of the crate, which no code calls.
 #![tactic(auto)]
 
 mod laws;

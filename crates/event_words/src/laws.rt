@@ -1,4 +1,6 @@
-// The law of the words, the contract of a call that does nothing.
+//! The law of the words, the contract of a call that does nothing.
+//!
+//! Layer: texts that are read; public. No crate here calls it.
 ghost use Rattle.event_words.specs.Words.{AreReadAgain};
 
 /// Exactly the words as they are written are read, each as the one that it is.

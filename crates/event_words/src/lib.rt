@@ -1,4 +1,6 @@
 //! The words of events, which schedules and reports share.
+//!
+//! Layer: texts that are read. The root of the crate, which document_text, drive_text and report_text call.
 #![tactic(auto)]
 
 mod laws;

@@ -1,4 +1,7 @@
-// The table of words.
+//! The table of words.
+//!
+//! Layer: texts that are read; public. Called by document_text, drive_text and report_text. Clauses of report_laws name
+//! it.
 ghost use Rattle.std.specs.Prelude.{◌≡◌};
 ghost use Rattle.event_words.specs.Words.{text_of, word_of};
 

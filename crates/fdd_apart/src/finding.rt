@@ -1,4 +1,6 @@
 //! Where two diagrams answer a well-shaped packet apart.
+//!
+//! Layer: diagrams; public. Called by policy_equality. Clauses of equal_command name it.
 ghost use Rattle.std.specs.Prelude.{IfOk, MatchOption};
 ghost use Rattle.nk_values.specs.Members.{Within};
 ghost use Rattle.fdd_differ.specs.Unnamed.{AreFewNames};

@@ -1,4 +1,6 @@
 //! Diagrams on the well-shaped packets of one kind of frame.
+//!
+//! Layer: diagrams; private. Called by `finding`.
 ghost use Rattle.std.specs.Prelude.{[], IfOk, IfSome, OnOk};
 ghost use Rattle.fdd_differ.specs.declared.frame.Frame.{Frame};
 ghost use Rattle.fdd_differ.specs.Frames.{frame_cell};

@@ -1,4 +1,6 @@
 //! Well-shaped packets that tell two diagrams of a store apart (ICFP 2015, section 3).
+//!
+//! Layer: diagrams. The root of the crate, which policy_equality calls.
 #![tactic(auto)]
 
 mod finding;

@@ -1,4 +1,6 @@
 //! Outputs of one packet.
+//!
+//! Layer: diagrams; private. Called by `finding`.
 ghost use Rattle.std.specs.Prelude.{◌≡◌, ◌↔◌, IsTrue, MatchOption};
 ghost use Rattle.nk_values.specs.Members.{IsIn, Within};
 ghost use Rattle.fdd_nodes.specs.Makes.{Makes, MakesAll};

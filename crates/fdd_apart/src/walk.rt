@@ -1,4 +1,6 @@
 //! A cell in which two diagrams of a store differ, found without a step back.
+//!
+//! Layer: diagrams; private. Called by `finding`.
 ghost use Rattle.std.specs.Prelude.{◌≡◌, ◌≢◌, ◌↔◌, IfOk, IsTrue, MatchOption};
 ghost use Rattle.fdd_nodes.specs.Roots.{IsLeaf, HasRoot, IsFirst, IsFrom};
 ghost use Rattle.fdd_store.specs.Made.{IsMade};

@@ -1,4 +1,6 @@
-// Sums of the diagrams of summands.
+//! Sums of the diagrams of summands.
+//!
+//! Layer: diagrams; private. Called by `sums`.
 ghost use Rattle.std.specs.Prelude.{◌≡◌, ◌⊎◌, [], ◌∷◌, ◌++◌, IfOk, OnOk, map};
 ghost use Rattle.nk_values.specs.Members.{IsIn};
 ghost use Rattle.fdd_store.specs.Stores.{Grows, Gives};

@@ -1,4 +1,6 @@
 //! Policies compiled to split diagrams.
+//!
+//! Layer: diagrams; public. Called by many crates.
 ghost use Rattle.std.specs.Prelude.{◌≡◌, MatchResult, None, OnOk};
 ghost use Rattle.nk_syntax.specs.Views.{term_of};
 ghost use Rattle.fdd_compile.specs.Compiles.{CompiledOf, IsFaultless, Refuses};

@@ -1,4 +1,6 @@
-// The tests at the front of sequences.
+//! The tests at the front of sequences.
+//!
+//! Layer: diagrams; private. Called by `build` and `filters`.
 ghost use Rattle.std.specs.Prelude.{◌≡◌, ◌≤◌, [], IfOk, IfSome, length, map, take};
 ghost use Rattle.nk_values.specs.Lits.{lit_field, lit_value};
 ghost use Rattle.nk_syntax.specs.Terms.{Filter, Test};

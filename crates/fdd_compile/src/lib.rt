@@ -1,4 +1,6 @@
 //! Policies compiled to diagrams (ICFP 2015, section 3), and which policies have none that a switch can follow.
+//!
+//! Layer: diagrams. The root of the crate, which many crates call.
 #![tactic(auto)]
 
 mod bare;

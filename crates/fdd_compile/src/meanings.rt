@@ -1,4 +1,6 @@
-// Policies as diagrams, whatever switches can do.
+//! Policies as diagrams, whatever switches can do.
+//!
+//! Layer: diagrams; public. Called by policy_equality.
 ghost use Rattle.std.specs.Prelude.{MatchResult};
 ghost use Rattle.nk_syntax.specs.Views.{term_of};
 ghost use Rattle.fdd_compile.specs.Meanings.{MeaningOf, RefusesMeaning};

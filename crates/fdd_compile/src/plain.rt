@@ -1,4 +1,6 @@
-// Sums of diagrams that do not begin with a test in common.
+//! Sums of diagrams that do not begin with a test in common.
+//!
+//! Layer: diagrams; private. Called by `bare`.
 ghost use Rattle.std.specs.Prelude.{IfOk, IsTrue, map};
 ghost use Rattle.fdd_store.specs.Looks.{AreLeaves};
 ghost use Rattle.fdd_store.specs.Stores.{Grows, Gives, tree_at};

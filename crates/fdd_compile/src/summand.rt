@@ -1,4 +1,6 @@
-// Diagrams behind tests.
+//! Diagrams behind tests.
+//!
+//! Layer: diagrams; private. Called by many modules.
 ghost use Rattle.std.specs.Prelude.{◌≡◌, ◌+◌, [], ◌∷◌, IfSome, IsSome, IfOk, OnOk, IsTrue, slice_get};
 ghost use Rattle.fdd_store.specs.Operations.{ZeroOf};
 ghost use Rattle.fdd_store.specs.Stores.{Has, Gives, tree_at};

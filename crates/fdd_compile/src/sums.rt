@@ -1,4 +1,6 @@
-// Sums of summands, made test by test from the last to the first: a test takes one fork.
+//! Sums of summands, made test by test from the last to the first: a test takes one fork.
+//!
+//! Layer: diagrams; private. Called by `build` and `filters`.
 ghost use Rattle.std.specs.Prelude.{◌≡◌, ◌<◌, ◌≤◌, ◌-◌, ◌∷◌, IfOk, IsTrue, length, map, take, drop};
 ghost use Rattle.fdd_nodes.specs.Normals.{IsNormal};
 ghost use Rattle.fdd_store.specs.Stores.{Has, Grows, Gives, tree_at};

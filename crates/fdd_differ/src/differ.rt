@@ -1,4 +1,6 @@
-// Where two diagrams answer apart.
+//! Where two diagrams answer apart.
+//!
+//! Layer: diagrams; public. Called by diagram_tests.
 ghost use Rattle.std.specs.Prelude.{MatchOption};
 ghost use Rattle.fdd_nodes.specs.Fdds.{tree_of};
 ghost use Rattle.fdd_nodes.specs.Names.{AreFew};

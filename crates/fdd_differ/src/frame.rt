@@ -1,4 +1,6 @@
-// The kinds of well-shaped packets.
+//! The kinds of well-shaped packets.
+//!
+//! Layer: diagrams; public. Called by `witness` here, and by fdd_apart and fdd_compile.
 ghost use Rattle.std.specs.Prelude.{◌≡◌, ◌↔◌, IsTrue};
 ghost use Rattle.nk_values.specs.Packets.{with_value};
 ghost use Rattle.nk_values.specs.Ranges.{IsLiteralOf};

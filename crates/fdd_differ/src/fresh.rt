@@ -1,4 +1,6 @@
-// Packets of unnamed values.
+//! Packets of unnamed values.
+//!
+//! Layer: diagrams; public. Called by `differ` and `witness` here, and by fdd_apart, fdd_compile and fdd_star.
 ghost use Rattle.std.specs.Prelude.{◌≡◌};
 ghost use Rattle.fdd_differ.specs.Unnamed.{AreFewNames, IsFreshOf, IsUnnamed, first_tried};
 

@@ -1,4 +1,6 @@
 //! Packets that tell two diagrams apart (ICFP 2015, section 3), and packets of paths.
+//!
+//! Layer: diagrams. The root of the crate, which many crates call.
 #![tactic(auto)]
 
 mod differ;

@@ -1,4 +1,6 @@
-// What names values: diagrams and paths.
+//! What names values: diagrams and paths.
+//!
+//! Layer: diagrams; public. Called by `differ` and `fresh` here, and by fdd_apart, fdd_compile and fdd_star.
 ghost use Rattle.std.specs.Prelude.{◌↔◌, ◌++◌, IsTrue, List};
 ghost use Rattle.nk_values.specs.declared.lit.Lit.{Lit};
 ghost use Rattle.fdd_nodes.specs.Names.{literals};

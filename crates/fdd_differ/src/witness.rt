@@ -1,4 +1,6 @@
-// Well-shaped packets of paths.
+//! Well-shaped packets of paths.
+//!
+//! Layer: diagrams; public. Called by policy_cases.
 ghost use Rattle.std.specs.Prelude.{◌≡◌, ◌↔◌, IsTrue, MatchOption};
 ghost use Rattle.nk_values.specs.declared.packet.Packet.{Packet};
 ghost use Rattle.fdd_nodes.specs.Paths.{IsFewOn};

@@ -1,4 +1,6 @@
-// Where two diagrams answer apart.
+//! Where two diagrams answer apart.
+//!
+//! Layer: diagrams; public. Called by `normal` here, and by diagram_tests and fdd_differ.
 ghost use Rattle.std.specs.Prelude.{◌≡◌, MatchOption};
 ghost use Rattle.fdd_nodes.specs.Cells.{Alike, Parts};
 ghost use Rattle.fdd_nodes.specs.Roots.{IsLeaf};

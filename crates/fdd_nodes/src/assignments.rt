@@ -1,4 +1,6 @@
-// Copies: what one copy of a packet is assigned.
+//! Copies: what one copy of a packet is assigned.
+//!
+//! Layer: diagrams; public. Called by `cell`, `leaf` and `names` here, and by many crates.
 ghost use Rattle.std.specs.Prelude.{◌≡◌, ◌↔◌, ◌++◌, IsTrue, IfOk, OnOk};
 ghost use Rattle.nk_values.specs.declared.lit.Lit.{Lit};
 ghost use Rattle.fdd_nodes.specs.Copies.{IsCopy, strip, after, assigned};

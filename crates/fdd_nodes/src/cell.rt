@@ -1,4 +1,6 @@
-// Cells: what a path of a diagram fixes.
+//! Cells: what a path of a diagram fixes.
+//!
+//! Layer: diagrams; public. Called by many modules here, and by many crates.
 ghost use Rattle.std.specs.Prelude.{◌≡◌};
 ghost use Rattle.fdd_nodes.specs.Cells.{pick as the_pick};
 

@@ -1,4 +1,6 @@
-// Assignments of which later ones leave nothing.
+//! Assignments of which later ones leave nothing.
+//!
+//! Layer: diagrams; private. Called by `assignments`.
 ghost use Rattle.std.specs.Prelude.{◌≡◌, IsTrue};
 ghost use Rattle.fdd_nodes.specs.Copies.{IsCopy, after};
 

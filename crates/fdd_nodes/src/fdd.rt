@@ -1,4 +1,6 @@
-// Diagrams as callers see them.
+//! Diagrams as callers see them.
+//!
+//! Layer: diagrams; public. Called by `names` here, and by many crates.
 ghost use Rattle.std.specs.Prelude.{◌≤◌};
 ghost use Rattle.fdd_nodes.specs.Trees.{tree, IsOrdered, IsOrderedFrom};
 ghost use Rattle.fdd_nodes.specs.Names.{IsFew};

@@ -1,4 +1,6 @@
-// Leaves: sets of copies.
+//! Leaves: sets of copies.
+//!
+//! Layer: diagrams; public. Called by `fdd`, `node` and `normal` here, and by many crates.
 ghost use Rattle.std.specs.Prelude.{◌≡◌, ◌↔◌, [], IsTrue, IfOk, OnOk, MatchOption};
 ghost use Rattle.std.specs.List.Sorted.{IsStrictlySortedBy};
 ghost use Rattle.nk_values.specs.Members.{IsIn, SameMembers};

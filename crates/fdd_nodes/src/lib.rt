@@ -1,4 +1,6 @@
 //! Forwarding decision diagrams (ICFP 2015, section 3): their types, what they answer, and whether they are normal.
+//!
+//! Layer: diagrams. The root of the crate, which many crates call.
 #![tactic(auto)]
 
 mod apart;

@@ -1,4 +1,6 @@
-// How many literals diagrams name.
+//! How many literals diagrams name.
+//!
+//! Layer: diagrams; public. Called by diagram_tests and policy_cases.
 ghost use Rattle.std.specs.Prelude.{◌≡◌, ◌↔◌, [], ◌∷◌, IsTrue, IfOk, OnOk};
 ghost use Rattle.nk_values.specs.Members.{IsIn};
 ghost use Rattle.fdd_nodes.specs.Fdds.{tree_of};

@@ -1,4 +1,6 @@
 //! Diagrams as trees: tests, and leaves at their ends.
+//!
+//! Layer: diagrams; public. Called by many modules here, and by many crates.
 ghost use Rattle.std.specs.Prelude.{◌≡◌};
 
 use crate::leaf::Leaf;

@@ -1,4 +1,6 @@
-// Whether a diagram is normal.
+//! Whether a diagram is normal.
+//!
+//! Layer: diagrams; private. Called by `fdd`.
 ghost use Rattle.std.specs.Prelude.{◌≡◌, ◌↔◌, IsTrue};
 ghost use Rattle.fdd_nodes.specs.Cells.{Respects};
 ghost use Rattle.fdd_nodes.specs.Names.{IsFew};

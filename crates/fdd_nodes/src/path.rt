@@ -1,4 +1,6 @@
-// Paths of diagrams.
+//! Paths of diagrams.
+//!
+//! Layer: diagrams; public. Called by `names` here, and by many crates.
 ghost use Rattle.std.specs.Prelude.{◌≡◌, ◌↔◌, IsTrue};
 ghost use Rattle.fdd_nodes.specs.Cells.{open_cell};
 ghost use Rattle.fdd_nodes.specs.Makes.{made};

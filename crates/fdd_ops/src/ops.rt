@@ -1,6 +1,8 @@
 //! The operations on diagrams. Each result names only literals that its arguments name. It is normal, except that of
 //! `split`.
 //! Each is done in a store of its own, into which the arguments are brought path by path.
+//!
+//! Layer: diagrams; public. Called by diagram_tests and fdd_compile.
 ghost use Rattle.std.specs.Prelude.{IfOk};
 ghost use Rattle.fdd_nodes.specs.Fdds.{tree_of};
 ghost use Rattle.fdd_nodes.specs.Names.{IsFew, AreFew};

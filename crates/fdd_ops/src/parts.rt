@@ -1,4 +1,6 @@
 //! Whether the tests of a literal's field stand first.
+//!
+//! Layer: diagrams; private. Called by `ops`.
 ghost use Rattle.std.specs.Prelude.{◌↔◌, IsTrue};
 ghost use Rattle.fdd_nodes.specs.Trees.{tree};
 ghost use Rattle.fdd_store.specs.Operations.{IsFieldFrom};

@@ -1,4 +1,6 @@
 //! Operations on diagrams, done in a store into which they are brought.
+//!
+//! Layer: diagrams; private. Called by the root of the crate.
 ghost use Rattle.std.specs.Prelude.{IfOk};
 ghost use Rattle.fdd_nodes.specs.Fdds.{tree_of};
 ghost use Rattle.fdd_nodes.specs.Names.{IsFew, AreFew};

@@ -1,4 +1,6 @@
 //! Which literals are barred, and lists that get one bar more.
+//!
+//! Layer: diagrams; private. Called by `branches`, `leaves` and `pairs`.
 ghost use Rattle.std.specs.Prelude.{◌↔◌, IfOk, IsTrue, List};
 ghost use Rattle.nk_values.specs.declared.lit.Lit.{Lit};
 ghost use Rattle.nk_values.specs.Members.{IsIn};

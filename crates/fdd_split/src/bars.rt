@@ -1,4 +1,6 @@
 //! What the tests of a path bar of the literals that are assigned below it.
+//!
+//! Layer: diagrams; public. Called by many modules.
 ghost use Rattle.std.specs.Prelude.{◌≡◌, ◌↔◌, IfOk, IsTrue};
 
 use nk_values::Lit;

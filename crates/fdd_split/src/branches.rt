@@ -1,4 +1,6 @@
 //! What is barred in the branches of a test.
+//!
+//! Layer: diagrams; private. Called by `splits` and `threats`.
 ghost use Rattle.std.specs.Prelude.{◌≡◌, IfOk};
 ghost use Rattle.nk_values.specs.declared.lit.Lit.{Lit};
 ghost use Rattle.nk_values.specs.Lits.{lit_field};

@@ -1,4 +1,6 @@
 //! Laws of divided diagrams.
+//!
+//! Layer: diagrams; public. No crate here calls it.
 ghost use Rattle.fdd_split.specs.Laws.{DividedAnswerAlike, DividedAreOrdered, DividedAreSplit};
 
 /// A divided diagram answers as the diagram that was divided, by its literals.

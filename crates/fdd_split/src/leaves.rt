@@ -1,4 +1,6 @@
 //! The first literal by which two copies of a leaf could give one packet.
+//!
+//! Layer: diagrams; private. Called by `plain` and `threats`.
 ghost use Rattle.std.specs.Prelude.{◌≡◌, ◌↔◌, IfOk, IfSome, IfNone, IsTrue, IsFalse, List};
 ghost use Rattle.nk_values.specs.declared.lit.Lit.{Lit};
 ghost use Rattle.nk_values.specs.Lits.{lit_field};

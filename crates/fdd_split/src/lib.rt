@@ -1,4 +1,6 @@
 //! Split diagrams: no two copies of a leaf give one packet (ICFP 2015, section 3, with histories that come once).
+//!
+//! Layer: diagrams. The root of the crate, which fdd_compile calls.
 #![tactic(auto)]
 
 mod barring;

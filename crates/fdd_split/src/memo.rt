@@ -1,4 +1,6 @@
 //! What is found of a store's diagrams is kept, so shared parts are walked once.
+//!
+//! Layer: diagrams; private. Called by `plain`, `splits` and `threats`.
 ghost use Rattle.std.specs.Prelude.{◌≡◌, IfOk};
 
 use crate::bars::{Bar, same_bars};

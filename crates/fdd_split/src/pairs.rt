@@ -1,4 +1,6 @@
 //! Where two copies of a leaf give one packet.
+//!
+//! Layer: diagrams; private. Called by `leaves` and `threats`.
 ghost use Rattle.std.specs.Prelude.{IsTrue, IsFalse, List};
 ghost use Rattle.nk_values.specs.declared.lit.Lit.{Lit};
 ghost use Rattle.nk_values.specs.Lits.{lit_field};

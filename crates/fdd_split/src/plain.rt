@@ -1,4 +1,6 @@
 //! Diagrams in which no two copies of a leaf give one packet.
+//!
+//! Layer: diagrams; private. Called by `threats`.
 ghost use Rattle.std.specs.Prelude.{IfOk, OnOk, IsTrue};
 ghost use Rattle.fdd_nodes.specs.Roots.{IsLeaf};
 ghost use Rattle.fdd_store.specs.Made.{IsMade};

@@ -1,4 +1,6 @@
 //! Split diagrams of a store's diagrams.
+//!
+//! Layer: diagrams; public. Called by fdd_compile.
 ghost use Rattle.std.specs.Prelude.{IfOk, OnOk};
 ghost use Rattle.fdd_nodes.specs.Fdds.{tree_of};
 ghost use Rattle.fdd_nodes.specs.Names.{IsFew};

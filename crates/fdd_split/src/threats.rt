@@ -1,4 +1,6 @@
 //! The first literal by which two copies of a leaf of a diagram could give one packet.
+//!
+//! Layer: diagrams; private. Called by `splits`.
 ghost use Rattle.std.specs.Prelude.{IfOk, OnOk};
 ghost use Rattle.fdd_store.specs.Stores.{Has, tree_at};
 ghost use Rattle.fdd_split.specs.Memos.{AreKept};

@@ -1,4 +1,6 @@
-// The cells that the turns of a diagram lead to.
+//! The cells that the turns of a diagram lead to.
+//!
+//! Layer: diagrams; private. Called by `narrow`.
 ghost use Rattle.std.specs.Prelude.{IsTrue, IfOk, OnOk};
 ghost use Rattle.fdd_nodes.specs.Trees.{Leaf};
 ghost use Rattle.fdd_star.specs.Cells.{AllLead, AllLeadOn, IsClosed, LeadsOn};

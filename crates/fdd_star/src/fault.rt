@@ -1,4 +1,6 @@
-// Why a star can't be made.
+//! Why a star can't be made.
+//!
+//! Layer: diagrams; public. Called by `parts`, `reach` and `repetition` here, and by fdd_compile.
 use nk_values::Packet;
 use std::alloc::AllocError;
 

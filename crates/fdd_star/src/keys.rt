@@ -1,4 +1,6 @@
-// By what visits are kept.
+//! By what visits are kept.
+//!
+//! Layer: diagrams; private. Called by `visits`.
 use fdd_nodes::Cell;
 use fdd_store::Id;
 

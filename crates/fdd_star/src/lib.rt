@@ -1,4 +1,6 @@
 //! Stars: the finite repetition of a diagram (ICFP 2015, section 3).
+//!
+//! Layer: diagrams. The root of the crate, which fdd_compile calls.
 #![tactic(auto)]
 
 mod cells;

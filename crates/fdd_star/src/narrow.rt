@@ -1,4 +1,6 @@
-// Diagrams that are narrowed to what the turns from a cell can meet.
+//! Diagrams that are narrowed to what the turns from a cell can meet.
+//!
+//! Layer: diagrams; private. Called by `parts`.
 ghost use Rattle.std.specs.Prelude.{IfOk};
 ghost use Rattle.fdd_nodes.specs.Names.{IsFew};
 ghost use Rattle.fdd_nodes.specs.declared.cell.Known.TheVariants.{No, Yes};

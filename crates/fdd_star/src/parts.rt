@@ -1,4 +1,6 @@
-// The parts of a cell.
+//! The parts of a cell.
+//!
+//! Layer: diagrams; private. Called by `repetition`.
 ghost use Rattle.std.specs.Prelude.{IfOk};
 ghost use Rattle.fdd_star.specs.Shared.{IsLeft};
 

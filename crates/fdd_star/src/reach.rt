@@ -1,4 +1,6 @@
-// What the repetition of a diagram reaches from the packet of a cell.
+//! What the repetition of a diagram reaches from the packet of a cell.
+//!
+//! Layer: diagrams; private. Called by `parts`.
 use crate::fault::{StarError, StarFault};
 use crate::visits::{Visit, Visits, visit_of};
 use fdd_nodes::{Assignments, Cell};

@@ -1,4 +1,6 @@
-// The star of a diagram, cell by cell.
+//! The star of a diagram, cell by cell.
+//!
+//! Layer: diagrams; public. Called by `parts` here, and by fdd_compile.
 ghost use Rattle.std.specs.Prelude.{◌≡◌, MatchResult, OnOk};
 ghost use Rattle.nk_values.specs.Held.{put};
 ghost use Rattle.nk_values.specs.Lits.{lit_field};

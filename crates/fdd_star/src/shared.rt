@@ -1,4 +1,6 @@
-// Parts of a cell that literals share.
+//! Parts of a cell that literals share.
+//!
+//! Layer: diagrams; private. Called by `narrow`, `parts` and `repetition`.
 ghost use Rattle.std.specs.Prelude.{IsTrue};
 ghost use Rattle.fdd_nodes.specs.Trees.{Assigns};
 ghost use Rattle.fdd_star.specs.Named.{Covers};

@@ -1,4 +1,6 @@
-// Assignments.
+//! Assignments.
+//!
+//! Layer: diagrams; private. Adds calls to `Store`.
 ghost use Rattle.std.specs.Prelude.{◌≡◌, [], ◌∷◌, IfOk, IfSome, IsTrue, OnErr};
 ghost use Rattle.fdd_nodes.specs.Trees as trees;
 ghost use Rattle.fdd_store.specs.Made.{IsMade};

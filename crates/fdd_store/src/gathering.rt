@@ -1,4 +1,6 @@
-// Unions of several leaves.
+//! Unions of several leaves.
+//!
+//! Layer: diagrams; private. Adds calls to `Store`.
 ghost use Rattle.std.specs.Prelude.{◌≡◌, ◌++◌, IfOk, OnErr, OnOk, map};
 ghost use Rattle.fdd_store.specs.Looks.{AreLeaves, AreCopiesOf};
 ghost use Rattle.fdd_store.specs.Operations.{LeavesOf};

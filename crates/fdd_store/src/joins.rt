@@ -1,4 +1,6 @@
-// Diagrams beside others behind a test.
+//! Diagrams beside others behind a test.
+//!
+//! Layer: diagrams; private. Adds calls to `Store`.
 ghost use Rattle.std.specs.Prelude.{IfOk};
 ghost use Rattle.fdd_store.specs.Made.{IsNotBefore};
 ghost use Rattle.fdd_store.specs.Results.{Joins};

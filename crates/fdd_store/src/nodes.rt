@@ -1,4 +1,6 @@
 //! Diagrams of a store as nodes.
+//!
+//! Layer: diagrams; public. Called by fdd_split.
 ghost use Rattle.std.specs.Prelude.{◌≡◌, IfOk, IfSome, OnOk};
 ghost use Rattle.fdd_nodes.specs.Fdds.{tree_of};
 ghost use Rattle.fdd_nodes.specs.Names.{IsFew};

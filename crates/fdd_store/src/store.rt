@@ -1,4 +1,6 @@
-// The diagrams of a store.
+//! The diagrams of a store.
+//!
+//! Layer: diagrams; public. Called by many modules here, and by many crates.
 ghost use Rattle.std.specs.Prelude.{◌≡◌, ◌<◌, [], ℕ, List, IfSome, IfOk, OnErr, IsTrue, ◌↔◌, take, length, true};
 ghost use Rattle.nk_values.specs.declared.lit.Lit.{Lit};
 ghost use Rattle.nk_values.specs.Lits.{lit_field};

@@ -1,4 +1,6 @@
-// The board of a run, and who reads it.
+//! The board of a run, and who reads it.
+//!
+//! Layer: runs; public. Called by `closed` here, and by thread_commands.
 ghost use Rattle.std.specs.Prelude.{◌≡◌, ◌≢◌, ◌≤◌, [], IfOk, Err};
 ghost use Rattle.outside_io.specs.Causes.{Rose};
 ghost use Rattle.board_readers.specs.Sights.{AreSeen};

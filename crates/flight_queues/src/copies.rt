@@ -1,4 +1,6 @@
-// The copies in flight, one after another.
+//! The copies in flight, one after another.
+//!
+//! Layer: rows and packets; public. Called by `flights`.
 use crate::flights::Flights;
 use packet_tracer::Flight;
 

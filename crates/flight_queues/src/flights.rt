@@ -1,4 +1,6 @@
-// Copies between switches.
+//! Copies between switches.
+//!
+//! Layer: rows and packets; public. Called by `copies` here, and by many crates. Clauses of world_journal name it.
 ghost use Rattle.std.specs.Prelude.{◌≡◌, ℕ, ◌≤◌, ◌<◌, ◌^◌, nat_eq, length, IfOk, IfSome, IfNone, Some, None, List, slice_get};
 ghost use Rattle.std.specs.HashMap.{get};
 ghost use Rattle.packet_tracer.specs.declared.flight.Flight.{Flight as FlightValue};

@@ -1,4 +1,6 @@
 //! Copies in flight, in queues by the switches that they came to, and in the order in which they were sent.
+//!
+//! Layer: rows and packets. The root of the crate, which many crates call.
 #![tactic(auto)]
 
 mod copies;

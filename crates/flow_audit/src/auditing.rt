@@ -1,4 +1,6 @@
-// Audits of tables.
+//! Audits of tables.
+//!
+//! Layer: updates; public. Called by audit_cases and table_audit.
 ghost use Rattle.std.specs.Prelude.{IfOk, IfErr, OnOk};
 ghost use Rattle.nk_values.specs.Tables.{Distinct};
 ghost use Rattle.flow_audit.specs.Reports.{all_rows};

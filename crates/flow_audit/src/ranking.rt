@@ -1,4 +1,6 @@
-// Keys that come again in rows in the order of their keys.
+//! Keys that come again in rows in the order of their keys.
+//!
+//! Layer: updates; private. Called by `auditing`.
 ghost use Rattle.std.specs.Prelude.{◌≡◌, ◌<◌, ◌↔◌, length, slice_index_or, IsTrue, MatchOption};
 ghost use Rattle.std.specs.declared.cmp.Ordering.TheVariants.{Equal};
 ghost use Rattle.nk_values.specs.declared.row.Row.{Row as RowValue};

@@ -1,4 +1,6 @@
-// Modifications and deletions, on a table of two rows.
+//! Modifications and deletions, on a table of two rows.
+//!
+//! Layer: tests; private. Its tests are run by `rt test`.
 use flow_table::{ChangeError, ChangeFault, Table};
 use nk_values::{ANY_PORT, Action, Actions, FlowCommand, FlowMod, Pattern};
 use std::alloc::Global;

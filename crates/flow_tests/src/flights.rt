@@ -1,4 +1,6 @@
-// Copies in flight at three switches: which is the k-th, and new numbers for all.
+//! Copies in flight at three switches: which is the k-th, and new numbers for all.
+//!
+//! Layer: tests; private. Its tests are run by `rt test`.
 use flight_queues::Flights;
 use nk_values::{Header, History, Packet, Tag};
 use packet_tracer::Flight;

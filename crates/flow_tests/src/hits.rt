@@ -1,4 +1,6 @@
-// Which packets hit a pattern, field by field, and which patterns are more specific.
+//! Which packets hit a pattern, field by field, and which patterns are more specific.
+//!
+//! Layer: tests; private. Its tests are run by `rt test`.
 use flow_table::{hits, narrows};
 use nk_values::{Header, Pattern, Prefix, Tag, UNTAGGED};
 

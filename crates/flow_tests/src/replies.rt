@@ -1,4 +1,6 @@
-// Barrier replies of two switches.
+//! Barrier replies of two switches.
+//!
+//! Layer: tests; private. Its tests are run by `rt test`.
 use barrier_tracker::{Heard, Tracker};
 use std::test::Fail;
 

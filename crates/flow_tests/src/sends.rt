@@ -1,4 +1,6 @@
-// What actions send.
+//! What actions send.
+//!
+//! Layer: tests; private. Its tests are run by `rt test`.
 use flow_table::act;
 use nk_values::{Action, Header, IN_PORT, Sent, Tag};
 use std::alloc::{AllocError, Global};

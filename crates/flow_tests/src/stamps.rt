@@ -1,4 +1,6 @@
-// Stamps of a range of three.
+//! Stamps of a range of three.
+//!
+//! Layer: tests; private. Its tests are run by `rt test`.
 use stamp_planner::{NoStamp, Planner};
 
 #[test]

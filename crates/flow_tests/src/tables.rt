@@ -1,4 +1,6 @@
-// Look-ups in tables to which rows are added.
+//! Look-ups in tables to which rows are added.
+//!
+//! Layer: tests; private. Its tests are run by `rt test`.
 use flow_index::{ChangeError, ChangeFault, Table};
 use nk_values::{
     ANY_PORT, Action, Actions, FlowCommand, FlowMod, Header, Pattern, Prefix, Tag, UNTAGGED,

@@ -1,4 +1,6 @@
 //! Laws of the meaning, each the contract of a call that does nothing.
+//!
+//! Layer: values and policies; public. No crate here calls it.
 ghost use Rattle.history_meaning.specs.Laws.{FlatRenewsTheNewest, FuturesGoOn, MoreTurnsMoreHistories};
 
 /// One more turn of each star gives no fewer histories, so a result under some number of turns is one

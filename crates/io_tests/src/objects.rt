@@ -1,4 +1,6 @@
-// Reading and writing through the traits, in memory and over a reader and a writer.
+//! Reading and writing through the traits, in memory and over a reader and a writer.
+//!
+//! Layer: tests; private. Its tests are run by `rt test`.
 use outside_io::{
     Failed, MemorySink, MemorySource, ReadError, Sink, Source, StdSink, StdSource, read_up_to,
     write_all,

@@ -1,4 +1,6 @@
-// The actions of a leaf with one copy.
+//! The actions of a leaf with one copy.
+//!
+//! Layer: rows and packets; private. Called by `made`.
 ghost use Rattle.std.specs.Prelude.{◌≡◌, ◌++◌, IfOk, OnOk, [], ◌∷◌};
 ghost use Rattle.fdd_nodes.specs.Cells.{IsValid};
 ghost use Rattle.fdd_nodes.specs.Trees.{apply};

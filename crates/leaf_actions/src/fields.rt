@@ -1,4 +1,6 @@
-// The header fields that copies set and their path does not fix.
+//! The header fields that copies set and their path does not fix.
+//!
+//! Layer: rows and packets; private. Called by `order` and `pairs`.
 ghost use Rattle.std.specs.Prelude.{◌≡◌, ◌<◌, ◌^◌, length};
 ghost use Rattle.leaf_actions.specs.Changes.{changes, fixes, count_of, change_count, goes_beyond, first_of_fields, first_beyond};
 

@@ -1,4 +1,6 @@
-// Laws of lists of copies, each the contract of a call that does nothing.
+//! Laws of lists of copies, each the contract of a call that does nothing.
+//!
+//! Layer: rows and packets; public. No crate here calls it.
 ghost use Rattle.leaf_actions.specs.Laws.{ChainsHaveNoFirstPair, ListsExcludeFaults, ListsAreOne};
 
 /// The copies of a leaf form a chain exactly if no first pair of them stands apart.

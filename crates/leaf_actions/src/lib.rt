@@ -1,4 +1,6 @@
 //! The actions of a leaf of a diagram (OpenFlow 1.0.0, 5.2.4), at a port of a switch.
+//!
+//! Layer: rows and packets. The root of the crate, which table_emitter and table_tests call.
 #![tactic(auto)]
 
 mod alone;

@@ -1,4 +1,7 @@
-// The actions of a leaf.
+//! The actions of a leaf.
+//!
+//! Layer: rows and packets; public. Called by many modules here, and by table_emitter and table_tests. Clauses of
+//! workload_laws name it.
 ghost use Rattle.std.specs.List.{AllByRecursion};
 ghost use Rattle.std.specs.Prelude.{◌≡◌, ◌≢◌, OnOk, IfOk, IfErr, true, [], ◌∷◌, ◌++◌};
 ghost use Rattle.nk_values.specs.Fitting.{FitsAction};

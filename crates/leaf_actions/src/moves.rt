@@ -1,4 +1,6 @@
-// Copies that set no header field.
+//! Copies that set no header field.
+//!
+//! Layer: rows and packets; private. Called by `alone`, `fields` and `made`.
 ghost use Rattle.std.specs.Prelude.{◌≡◌, ◌↔◌, IsTrue, IfOk};
 ghost use Rattle.leaf_actions.specs.Moves.{Moves, AllMove, moved};
 

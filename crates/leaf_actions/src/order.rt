@@ -1,4 +1,6 @@
-// Copies in the order in which they are listed, and whether they can be.
+//! Copies in the order in which they are listed, and whether they can be.
+//!
+//! Layer: rows and packets; private. Called by `alone`, `made` and `staying`.
 ghost use Rattle.std.specs.Prelude.{◌≡◌, ◌↔◌, IsTrue, IfOk};
 ghost use Rattle.leaf_actions.specs.Routes.{out_of, routes_of, IsListing};
 ghost use Rattle.leaf_actions.specs.Chains.{loses, keeps_fields, keeps, Climbs};

@@ -1,4 +1,6 @@
-// Copies that bar a listing.
+//! Copies that bar a listing.
+//!
+//! Layer: rows and packets; private. Called by `made`.
 ghost use Rattle.std.specs.Prelude.{◌≡◌, IfOk};
 ghost use Rattle.leaf_actions.specs.Listing.{apart, first_from, first_apart};
 

@@ -1,4 +1,6 @@
-// Copies by the ports at which they leave.
+//! Copies by the ports at which they leave.
+//!
+//! Layer: rows and packets; public. Called by many modules. Clauses of workload_laws name it.
 ghost use Rattle.std.specs.Prelude.{◌≡◌, IfOk};
 
 use fdd_nodes::Assignments;

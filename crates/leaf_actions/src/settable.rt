@@ -1,4 +1,6 @@
-// Whether actions can make the copies of a leaf.
+//! Whether actions can make the copies of a leaf.
+//!
+//! Layer: rows and packets; public. Called by table_tests.
 ghost use Rattle.std.specs.Prelude.{◌↔◌, IsTrue};
 ghost use Rattle.nk_values.specs.Acts.{IsSettable};
 ghost use Rattle.leaf_actions.specs.Settable.{AreSettable, CopyCanBeSet, CopiesCanBeSet};

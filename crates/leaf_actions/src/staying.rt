@@ -1,4 +1,6 @@
-// Copies that leave by one port and set no header field that their path leaves open.
+//! Copies that leave by one port and set no header field that their path leaves open.
+//!
+//! Layer: rows and packets; private. Called by `made`.
 ghost use Rattle.std.specs.Prelude.{◌≡◌, ◌↔◌, IsTrue, IfOk, IfSome};
 ghost use Rattle.fdd_nodes.specs.Cells.{IsValid};
 ghost use Rattle.leaf_actions.specs.Staying.{AllClimb, AllStay, StayAt, Stays, stayed};

@@ -1,4 +1,7 @@
-// A port of a switch, and the other ports beside it.
+//! A port of a switch, and the other ports beside it.
+//!
+//! Layer: rows and packets; public. Called by many modules here, and by table_emitter and table_tests. Clauses of
+//! workload_laws name it.
 ghost use Rattle.std.specs.Prelude.{◌≡◌};
 ghost use Rattle.leaf_actions.specs.Views.{port_in};
 

@@ -1,4 +1,6 @@
 //! Lines tell histories apart: laws, each the contract of a call that does nothing.
+//!
+//! Layer: laws alone. The root of the crate, which no code calls.
 #![tactic(auto)]
 
 ghost use Rattle.line_laws.specs.Laws.{NoneIsDropped, TextsTell, WalksHaveOwnLines};

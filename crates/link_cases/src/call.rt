@@ -1,4 +1,6 @@
 //! Calls of the program.
+//!
+//! Layer: tests; private. Called by `loopback`, `memory` and `tcp`.
 use crate::outcome::{Outcome, outcome_of};
 use controller_program::nkctl;
 use outside_io::{MemorySink, MemorySource};

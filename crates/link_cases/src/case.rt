@@ -1,4 +1,6 @@
 //! One case: what is odd about its switches and its reporter, and the document.
+//!
+//! Layer: tests; private. Called by `memory`, `tcp` and `telling`.
 use crate::fake::Twist;
 use std::alloc::{AllocError, Global};
 

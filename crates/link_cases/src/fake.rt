@@ -1,4 +1,6 @@
 //! A switch at the other end of a wire.
+//!
+//! Layer: tests; private. Called by `case`, `memory` and `tcp`.
 ghost use Rattle.std.specs.Prelude.{IfSome};
 ghost use Rattle.openflow_wire.specs.Writing.{Fits};
 

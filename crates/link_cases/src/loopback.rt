@@ -1,4 +1,6 @@
 //! Runs over TCP of this machine.
+//!
+//! Layer: tests; private. Called by the root of the crate.
 use crate::call::{call, words};
 use crate::outcome::Outcome;
 use outside_net::{LineReporter, TcpNet};

@@ -14,6 +14,8 @@
 //! - `over tcp`: the drive is over TCP of this machine. `late S`: switch S comes after the others. `absent S`: it never
 //!   comes. `runs`: no drive but a run over TCP, of which the phase is printed, and how many packets came in.
 //! - `reporter says LINE`: a line that the reporter writes as soon as it is in. `reporter leaves`: it is gone after that.
+//!
+//! Layer: tests; nothing calls it.
 #![tactic(auto)]
 
 mod call;

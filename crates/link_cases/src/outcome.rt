@@ -1,4 +1,6 @@
 //! How a call of the program ended.
+//!
+//! Layer: tests; private. Called by many modules.
 use controller_program::Status;
 use outside_io::MemorySink;
 use std::alloc::{AllocError, Global};

@@ -1,4 +1,6 @@
 //! Whoever reports over a wire.
+//!
+//! Layer: tests; private. Called by `tcp`.
 use crate::wire::Wire;
 use outside_net::Job;
 

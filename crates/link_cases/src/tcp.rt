@@ -1,4 +1,6 @@
 //! Drives over TCP of this machine.
+//!
+//! Layer: tests; private. Called by the root of the crate.
 use crate::call::{call, drive_words};
 use crate::case::Case;
 use crate::fake::Fake;

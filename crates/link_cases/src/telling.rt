@@ -1,4 +1,6 @@
 //! What of a text is printed.
+//!
+//! Layer: tests; private. Called by the root of the crate.
 use crate::case::Case;
 use std::alloc::{AllocError, Global};
 

@@ -1,4 +1,6 @@
 //! What a switch talks over.
+//!
+//! Layer: tests; private. Called by many modules.
 ghost use Rattle.std.specs.Prelude.{◌≤◌, ◌<◌, length, IfSome};
 
 use outside_net::Link;

@@ -5,8 +5,8 @@ use Rattle.std.proofs.lemmas.Bool.{le-leb}
 use Rattle.std.proofs.lemmas.Bool.Decides.{nat_tests}
 use Rattle.std.proofs.lemmas.List.{reverse-append}
 use Rattle.nk_values.specs.declared.field.Field.{Field}
-use Rattle.nk_values.specs.declared.fault.TextFault.{TextFault}
-use Rattle.nk_values.specs.declared.fault.TextFault.TheVariants as fault
+use Rattle.nk_values.specs.declared.text_fault.TextFault.{TextFault}
+use Rattle.nk_values.specs.declared.text_fault.TextFault.TheVariants as fault
 use Rattle.nk_syntax.specs.Terms.{Guard, Term, Filter, One, Zero, Dup}
 use Rattle.nk_syntax.specs.Terms as to
 use Rattle.nk_syntax.specs.Views.{term_of}

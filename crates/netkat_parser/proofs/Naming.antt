@@ -6,7 +6,7 @@ use Rattle.nk_values.specs.declared.field.Field.TheVariants.{IpProto}
 use Rattle.nk_values.specs.Ranges.{place}
 use Rattle.nk_syntax.specs.Terms.{Test, Term, Terms, Filter, Assign, Sum, Seq, Star, Dup, no_terms, term}
 use Rattle.nk_syntax.specs.Views.{term_row}
-use Rattle.nk_values.specs.declared.fault.TextFault.TheVariants as fault
+use Rattle.nk_values.specs.declared.text_fault.TextFault.TheVariants as fault
 use Rattle.netkat_parser.specs.declared.sign.Sign.{Sign}
 use Rattle.netkat_parser.specs.declared.sign.Sign.TheVariants as sign
 use Rattle.netkat_parser.specs.Signs.{past, run, past_run}

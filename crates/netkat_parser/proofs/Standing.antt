@@ -1,7 +1,7 @@
 -- What readers stand for.
 use Rattle.std.proofs.Common.{◌≡◌, ℕ, ◌+◌, ◌<◌, ◌≤◌, Bool, true, false, cond, ◌==◌, List, [], ◌∷◌, ◌++◌, length, take, drop, ◌⊎◌, inl, inr, Option, Some, None, Result, Ok, Err, refl, sym, ap, ◌∙◌, subst, append_assoc, length-append, arith}
 use Rattle.std.proofs.lemmas.List.{append-nil, take-append-drop}
-use Rattle.nk_values.specs.declared.fault.TextFault.{TextFault}
+use Rattle.nk_values.specs.declared.text_fault.TextFault.{TextFault}
 use Rattle.std.specs.Result.{IfOk, IsErrAnd, MatchResult}
 use Rattle.nk_syntax.specs.Terms.{Term}
 use Rattle.nk_syntax.specs.Views.{term_of}

@@ -3,7 +3,7 @@ use Rattle.std.proofs.Common.{◌≡◌, ℕ, ◌+◌, ◌-◌, ◌≤◌, inl, 
 use Rattle.std.proofs.lemmas.List.{take-append-drop, take_at}
 use Rattle.nk_values.specs.declared.field.Field.{Field}
 use Rattle.nk_syntax.specs.Terms.{Term, Filter, Test, Assign}
-use Rattle.nk_values.specs.declared.fault.TextFault as fault_type
+use Rattle.nk_values.specs.declared.text_fault.TextFault as fault_type
 use Rattle.netkat_parser.specs.declared.sign.Sign.{Sign}
 use Rattle.netkat_parser.specs.declared.sign.Sign.TheVariants as to_sign
 use Rattle.netkat_parser.specs.declared.sign.Sign.TheVariants.{Dup, Name, Equals, Becomes, Close, Star, End}

@@ -7,7 +7,7 @@ use Rattle.std.proofs.lemmas.Bool.{cases_lt}
 use Rattle.std.proofs.lemmas.Bool.Decides.{Decides-eqb}
 use Rattle.nk_values.specs.declared.field.Field.{Field}
 use Rattle.nk_values.specs.declared.field.Field.TheVariants.{EthTyp}
-use Rattle.nk_values.specs.declared.fault.TextFault.TheVariants as fault
+use Rattle.nk_values.specs.declared.text_fault.TextFault.TheVariants as fault
 use Rattle.nk_values.specs.Ranges.{IsValue, IsLiteralOf, least_value, least_literal, greatest}
 use Rattle.nk_syntax.specs.Terms.{Term, Filter, Test, Assign, One, Zero, Dup}
 use Rattle.netkat_parser.specs.declared.fault.Position.{Position}

@@ -4,7 +4,7 @@ use Rattle.std.proofs.lemmas.Bool.Decides.{nat_tests}
 use Rattle.nk_values.specs.declared.field.Field.{Field}
 use Rattle.nk_values.specs.Ranges.{IsLiteralOf}
 use Rattle.nk_syntax.specs.Terms.{Term, Filter, Test, Assign}
-use Rattle.nk_values.specs.declared.fault.TextFault.TheVariants as fault
+use Rattle.nk_values.specs.declared.text_fault.TextFault.TheVariants as fault
 use Rattle.netkat_parser.specs.Numbers.{number}
 use Rattle.netkat_parser.specs.Signs.{sign, past, run, past_run}
 use Rattle.netkat_parser.specs.Grammar.{Spot, Got, Read, Bad, literal, is_too_many, with_pair, IsRun, IsPair}

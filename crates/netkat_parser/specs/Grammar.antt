@@ -12,8 +12,8 @@ use Rattle.nk_values.specs.Ranges.{place, IsLiteralOf}
 use Rattle.nk_syntax.specs.Terms.{Guard, Guards, One, Zero, Test, Or, And, no_guards, guard, Term, Terms, Filter, Assign, Sum, Seq, Dup, no_terms, term}
 use Rattle.nk_syntax.specs.Terms as to
 use Rattle.nk_syntax.specs.Views.{term_row}
-use Rattle.nk_values.specs.declared.fault.TextFault.{TextFault}
-use Rattle.nk_values.specs.declared.fault.TextFault.TheVariants as fault
+use Rattle.nk_values.specs.declared.text_fault.TextFault.{TextFault}
+use Rattle.nk_values.specs.declared.text_fault.TextFault.TheVariants as fault
 use Rattle.netkat_parser.specs.declared.sign.Sign.{Sign}
 use Rattle.netkat_parser.specs.declared.sign.Sign.TheVariants as to_sign
 use Rattle.netkat_parser.specs.declared.sign.Sign.TheVariants.{Name, Equals, Becomes, Plus, Semicolon, Star, Open, Close, End}

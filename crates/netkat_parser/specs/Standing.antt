@@ -1,6 +1,6 @@
 -- What a reader of a policy's text stands for.
 use Rattle.std.specs.Prelude.{◌≡◌, ◌≤◌, ◌<◌, ℕ, Bool, true, false, List, [], ◌++◌, length, drop, Result, Ok, Err}
-use Rattle.nk_values.specs.declared.fault.TextFault.{TextFault}
+use Rattle.nk_values.specs.declared.text_fault.TextFault.{TextFault}
 use Rattle.nk_syntax.specs.Terms.{Term}
 use Rattle.netkat_parser.specs.declared.sign.Sign.TheVariants.{End}
 use Rattle.netkat_parser.specs.declared.reading.Halt.TheVariants as halt

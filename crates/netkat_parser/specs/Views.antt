@@ -1,7 +1,7 @@
 -- A reader's state and the moves that it makes, sign by sign.
 use Rattle.std.specs.Prelude.{◌≡◌, ◌≢◌, ℕ, ◌+◌, length, Bool, true, false, List, [], ◌∷◌, reverse, Some, Result, Ok, Err}
 use Rattle.nk_values.specs.declared.field.Field.{Field}
-use Rattle.nk_values.specs.declared.fault.TextFault.{TextFault}
+use Rattle.nk_values.specs.declared.text_fault.TextFault.{TextFault}
 use Rattle.nk_values.specs.declared.lit.Lit.{Lit}
 use Rattle.nk_values.specs.Lits.{lit_field, lit_value}
 use Rattle.nk_syntax.specs.Terms.{Term}

@@ -1,4 +1,6 @@
-// Reading goes on over a text that may go on.
+//! Reading goes on over a text that may go on.
+//!
+//! Layer: texts that are read; private. Called by `reader`.
 ghost use Rattle.std.specs.Prelude.{◌≡◌, ◌≤◌, ◌++◌, ℕ, List, length, IfSome, IfNone};
 ghost use Rattle.netkat_parser.specs.declared.stage.Stage.TheVariants as stage;
 ghost use Rattle.netkat_parser.specs.Cuts.{EndsAt};

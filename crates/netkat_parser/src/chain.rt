@@ -1,4 +1,6 @@
-// Operands in a row, as far as they were read.
+//! Operands in a row, as far as they were read.
+//!
+//! Layer: texts that are read; private. Called by `reading`.
 ghost use Rattle.std.specs.Prelude.{◌≡◌, ◌<◌, ◌++◌, ℕ, Bool, List, [], ◌∷◌, map, IsTrue, OnOk, vec_len, vec_capacity};
 ghost use Rattle.nk_syntax.specs.Terms.{Guard, Term, Filter};
 ghost use Rattle.nk_syntax.specs.Views.{term_of, guard_of};

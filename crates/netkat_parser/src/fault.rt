@@ -1,4 +1,7 @@
-// Why a text is no policy.
+//! Why a text is no policy.
+//!
+//! Layer: texts that are read; public. Called by `feeding`, `parse` and `reader` here, and by document_text,
+//! policy_cases and text_tests.
 use nk_values::TextFault;
 use std::alloc::AllocError;
 

@@ -1,4 +1,6 @@
-// What a reader of a policy's text keeps.
+//! What a reader of a policy's text keeps.
+//!
+//! Layer: texts that are read; public. Called by `parse` and `reader` here, and by document_text and policy_cases.
 ghost use Rattle.std.specs.Prelude.{◌<◌, ◌+◌, ◌^◌, length};
 
 use crate::fault::{ParseFault, Position};

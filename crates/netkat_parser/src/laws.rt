@@ -1,4 +1,6 @@
-// Laws of the grammar, as contracts.
+//! Laws of the grammar, as contracts.
+//!
+//! Layer: texts that are read; public. No crate here calls it.
 ghost use Rattle.netkat_parser.specs.Laws.{NamesFew, OneOutcome, OneReading, SomeOutcome, ReadBack, ReadBackPol};
 
 /// A text has exactly one outcome: it is read as one policy, or has one first fault at one place.

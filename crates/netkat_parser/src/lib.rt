@@ -1,4 +1,6 @@
 //! Policies from their text.
+//!
+//! Layer: texts that are read. The root of the crate, which many crates call.
 #![tactic(auto)]
 
 mod advance;

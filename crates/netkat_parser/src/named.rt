@@ -1,4 +1,6 @@
-// The values that a policy names.
+//! The values that a policy names.
+//!
+//! Layer: texts that are read; private. Called by `reading`.
 ghost use Rattle.std.specs.Prelude.{◌≡◌, [], ◌==◌, ◌||◌, ◌&&◌, not, nat_le, length, false, ◌++◌, ◌∷◌, IfOk, OnOk, OnErr, if◌then◌else◌};
 ghost use Rattle.nk_values.specs.Lits.{lit_field, lit_value};
 ghost use Rattle.nk_values.specs.Ranges.{place};

@@ -1,4 +1,6 @@
-// The values of fields, as they are written.
+//! The values of fields, as they are written.
+//!
+//! Layer: texts that are read; public. Called by `pair` and `reading` here, and by command_line and document_text.
 ghost use Rattle.std.specs.Prelude.{◌≡◌, ◌≤◌, ◌<◌, ◌==◌, false, length, drop, codes, nat_eq, is_some, IfSome, IfNone};
 ghost use Rattle.std.specs.Char.{is_digit, digit_value, is_ascii_digit};
 ghost use Rattle.std.specs.List.{before_first, after_first, position_or_len, starts_with, list_all};

@@ -1,4 +1,6 @@
-// Reading goes on by a pair and the sign after it.
+//! Reading goes on by a pair and the sign after it.
+//!
+//! Layer: texts that are read; private. Adds calls to `Reading`.
 ghost use Rattle.std.specs.Prelude.{◌≡◌, ◌≢◌, ◌≤◌, Bool, true, false, Ok, length, drop, reverse, IsTrue, IfSome, IfNone};
 ghost use Rattle.netkat_parser.specs.declared.sign.Sign.{Sign as Token};
 ghost use Rattle.netkat_parser.specs.declared.sign.Sign.TheVariants.{End, Close};

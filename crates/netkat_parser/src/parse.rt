@@ -1,4 +1,6 @@
-// From a text to its policy, or to its first fault and where that is.
+//! From a text to its policy, or to its first fault and where that is.
+//!
+//! Layer: texts that are read; public. Called by `reader` here, and by many crates.
 ghost use Rattle.std.specs.Prelude.{◌≡◌, ◌⊎◌, ◌+◌, ◌-◌, ◌<◌, ◌^◌, length, IfOk, IfErr, IsErrAnd, MatchResult};
 ghost use Rattle.nk_syntax.specs.Terms.{Term};
 ghost use Rattle.nk_syntax.specs.Views.{term_of};

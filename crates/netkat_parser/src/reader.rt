@@ -1,4 +1,6 @@
-// A policy's text that comes in pieces.
+//! A policy's text that comes in pieces.
+//!
+//! Layer: texts that are read; private. Adds calls to `PolicyReader`.
 ghost use Rattle.std.specs.Prelude.{◌≡◌, ◌++◌, ℕ, false, List, [], OnOk, OnErr};
 ghost use Rattle.netkat_parser.specs.Places.{text_start};
 ghost use Rattle.netkat_parser.specs.Readers.{IsOpen, StandsFor, EndsFor, AnswersFor, Settles};

@@ -1,4 +1,6 @@
-// Reading goes on from sign to sign.
+//! Reading goes on from sign to sign.
+//!
+//! Layer: texts that are read; private. Called by many modules.
 ghost use Rattle.std.specs.Prelude.{◌≡◌, ◌<◌, ◌≢◌, Bool, true, false, [], ◌∷◌, length, reverse, OnOk, vec_len, vec_capacity};
 ghost use Rattle.netkat_parser.specs.declared.sign.Sign.TheVariants as to_sign;
 ghost use Rattle.netkat_parser.specs.declared.stage.Stage.TheVariants as stage;

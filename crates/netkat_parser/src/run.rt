@@ -1,4 +1,6 @@
-// How many bytes at the front of a text satisfy a test.
+//! How many bytes at the front of a text satisfy a test.
+//!
+//! Layer: texts that are read; public. Called by `sign` and `token` here, and by document_text.
 ghost use Rattle.std.specs.Prelude.{◌≤◌, ◌≡◌, ℕ, Bool, length};
 ghost use Rattle.std.specs.List.{prefix_len};
 ghost use Rattle.netkat_parser.specs.Signs.{DecidesAs};

@@ -1,4 +1,6 @@
-// Signs: the tokens of a policy's text, but for values.
+//! Signs: the tokens of a policy's text, but for values.
+//!
+//! Layer: texts that are read; public. Called by many modules here, and by document_text.
 ghost use Rattle.std.specs.Prelude.{◌≡◌, ◌≤◌, length};
 ghost use Rattle.std.specs.List.{prefix_len, find};
 ghost use Rattle.std.specs.Str.{bytes_eq};

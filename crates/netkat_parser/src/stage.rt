@@ -1,4 +1,6 @@
-// Where a reader stands between two signs.
+//! Where a reader stands between two signs.
+//!
+//! Layer: texts that are read; private. Called by many modules.
 use nk_syntax::Pol;
 use nk_values::Field;
 

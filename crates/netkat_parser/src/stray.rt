@@ -1,4 +1,6 @@
-// A sign that has no place.
+//! A sign that has no place.
+//!
+//! Layer: texts that are read; private. Called by `reading`.
 ghost use Rattle.std.specs.Prelude.{◌≡◌};
 ghost use Rattle.netkat_parser.specs.Grammar.{stray};
 

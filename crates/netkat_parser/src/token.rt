@@ -1,4 +1,6 @@
-// Signs and runs at the front of a text that may go on.
+//! Signs and runs at the front of a text that may go on.
+//!
+//! Layer: texts that are read; private. Called by many modules.
 ghost use Rattle.std.specs.Prelude.{◌≡◌, ◌≤◌, false, length, drop, IfSome, IfNone};
 ghost use Rattle.std.specs.Bool.{OnTrue};
 ghost use Rattle.netkat_parser.specs.Signs.{ahead, sign_len};

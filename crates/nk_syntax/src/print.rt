@@ -1,4 +1,6 @@
-// The printed forms of predicates and policies.
+//! The printed forms of predicates and policies.
+//!
+//! Layer: values and policies; private. Adds calls to `Pol` and `Pred`.
 ghost use Rattle.std.specs.Prelude.{◌≡◌, ◌++◌, OnOk, IfOk, map, string_bytes, decimal};
 ghost use Rattle.nk_syntax.specs.Views.{guard_of, guard_row, term_of, term_row};
 ghost use Rattle.nk_values.specs.Lits.{lit_field, lit_value};

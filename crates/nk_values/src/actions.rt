@@ -1,4 +1,6 @@
 //! The actions of a row.
+//!
+//! Layer: values and policies; public. Called by `row` here, and by many crates.
 ghost use Rattle.std.specs.Prelude.{◌≡◌, ◌↔◌, [], ◌∷◌, length, IsTrue, IfOk};
 ghost use Rattle.std.specs.Slice.Iter.{iter_rest};
 

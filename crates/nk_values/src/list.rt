@@ -1,4 +1,6 @@
-// Lists, as clauses see them.
+//! Lists, as clauses see them.
+//!
+//! Layer: values and policies; public. Called by many modules here, and by many crates.
 ghost use Rattle.std.specs.Prelude.{◌≡◌, ◌↔◌, [], ◌∷◌, ◌++◌, length, IsTrue, OnOk, OnErr, IfOk};
 ghost use Rattle.std.specs.Slice.Iter.{iter_rest};
 

@@ -1,4 +1,6 @@
 //! The packets of a history before its newest one. Histories that go on from one packet share them.
+//!
+//! Layer: values and policies; private. Called by `history`. Clauses of update_coordinator name it.
 ghost use Rattle.std.specs.Prelude.{◌≡◌};
 
 use crate::packet::Packet;

@@ -1,4 +1,6 @@
 //! What is shown on standard error while a run or a drive goes on.
+//!
+//! Layer: the program; private. Called by the root of the crate.
 use controller_program::{Onlooker, Seen};
 use report_text::put_phase;
 use std::alloc::{AllocError, Global};

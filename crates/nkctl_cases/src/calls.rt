@@ -1,4 +1,6 @@
-// Calls of the program over sources, sinks and links in memory.
+//! Calls of the program over sources, sinks and links in memory.
+//!
+//! Layer: tests; private. Called by many modules.
 use crate::holding::Holding;
 use controller_program::{Status, nkctl, nkctl_plain};
 use outside_io::{MemorySink, MemorySource};

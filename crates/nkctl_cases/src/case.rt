@@ -1,4 +1,6 @@
-// One case: the words, the document, and what is to fail.
+//! One case: the words, the document, and what is to fail.
+//!
+//! Layer: tests; private. Called by the root of the crate.
 use crate::calls::{Failing, Outcome, call, call_plain};
 use crate::expanding::push_expanded;
 use crate::holding::Holding;

@@ -1,4 +1,6 @@
-// Lines that stand for many.
+//! Lines that stand for many.
+//!
+//! Layer: tests; private. Called by `case`.
 use std::alloc::{AllocError, Global};
 
 /// Puts a line at the end: as it is, or what it stands for.

@@ -1,4 +1,6 @@
-// A gate that holds one worker until another has gone on.
+//! A gate that holds one worker until another has gone on.
+//!
+//! Layer: tests; private. Called by `calls`, `case` and `holds`.
 use controller_program::Onlooker;
 use std::sync::{Mutex, Wait};
 use std::thread;

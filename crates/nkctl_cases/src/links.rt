@@ -1,4 +1,6 @@
-// Runs of one document in which calls of the outside fail.
+//! Runs of one document in which calls of the outside fail.
+//!
+//! Layer: tests; private. Called by `holds` and `returns`.
 use crate::calls::{Failing, Outcome, run};
 use crate::meaning::{Wiring, meanings};
 use crate::report::{have_one_policy, line_of, tells_of_loss};

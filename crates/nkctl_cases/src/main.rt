@@ -30,6 +30,8 @@
 //!
 //! If a run or an update of a table was cut off, each packet that came in, and is on its way no more, has to have the
 //! histories of one policy of its entry. The definition of NetKAT gives them.
+//!
+//! Layer: tests; nothing calls it.
 #![tactic(auto)]
 
 mod calls;

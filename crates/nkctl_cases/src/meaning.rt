@@ -1,4 +1,6 @@
-// The histories of a packet through a network, by the definition.
+//! The histories of a packet through a network, by the definition.
+//!
+//! Layer: tests; private. Called by `links` and `plain`.
 use document_text::{PacketLine, read_document};
 use history_meaning::some_results;
 use netkat_parser::parse_policy;

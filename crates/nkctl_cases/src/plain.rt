@@ -1,4 +1,6 @@
-// Commands without threads whose reads or writes fail, and an update that is cut off.
+//! Commands without threads whose reads or writes fail, and an update that is cut off.
+//!
+//! Layer: tests; private. Called by the root of the crate.
 use crate::calls::{Failing, Outcome, call_plain, plain, words};
 use crate::meaning::{Wiring, meanings};
 use crate::report::{have_one_policy, line_of, tells_of_loss};

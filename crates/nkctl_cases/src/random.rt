@@ -1,4 +1,6 @@
-// Runs over links that fail at random.
+//! Runs over links that fail at random.
+//!
+//! Layer: tests; private. Called by the root of the crate.
 use crate::calls::{Failing, plain, run};
 use crate::returns::{document, is_done};
 use outside_net::Trouble;

@@ -1,4 +1,6 @@
-// Reports, as far as cases ask them.
+//! Reports, as far as cases ask them.
+//!
+//! Layer: tests; private. Called by many modules.
 use report_text::Text;
 use std::alloc::{AllocError, Global};
 

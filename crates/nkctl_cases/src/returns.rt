@@ -1,4 +1,6 @@
-// Runs in which lost switches return.
+//! Runs in which lost switches return.
+//!
+//! Layer: tests; private. Called by `random`.
 use crate::calls::{Failing, Outcome, run};
 use crate::links::line_has_one_policy;
 use crate::report::{count_of, line_of};

@@ -1,4 +1,6 @@
-// What is printed of a call.
+//! What is printed of a call.
+//!
+//! Layer: tests; private. Called by `case`.
 use crate::calls::Outcome;
 use crate::report::count_of;
 use controller_program::Status;

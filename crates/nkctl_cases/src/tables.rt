@@ -1,4 +1,6 @@
-// The tables by their names.
+//! The tables by their names.
+//!
+//! Layer: tests; private. Called by the root of the crate.
 use crate::{holds, links, plain, random, returns};
 use std::alloc::{AllocError, Global};
 use std::sync::Wait;

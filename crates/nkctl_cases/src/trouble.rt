@@ -1,4 +1,6 @@
-// What becomes of a message on a link, as words.
+//! What becomes of a message on a link, as words.
+//!
+//! Layer: tests; private. Called by `case`.
 use outside_net::{Effect, End, Trouble};
 use std::alloc::{AllocError, Global};
 

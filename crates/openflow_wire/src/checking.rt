@@ -1,4 +1,6 @@
-// What is wrong with bytes, found with no memory taken.
+//! What is wrong with bytes, found with no memory taken.
+//!
+//! Layer: messages; public. Called by of_framing.
 ghost use Rattle.std.specs.Prelude.{ℕ, OnOk, IfErr};
 ghost use Rattle.openflow_wire.specs.declared.message.Message.{Message};
 ghost use Rattle.openflow_wire.specs.Spelling.{Spells};

@@ -1,4 +1,6 @@
-// Flow mods and their actions written as bytes (OpenFlow 1.0.0, 5.2.4 and 5.3.3).
+//! Flow mods and their actions written as bytes (OpenFlow 1.0.0, 5.2.4 and 5.3.3).
+//!
+//! Layer: messages; private. Called by `encoding`, `spelling` and `stats_writing`.
 ghost use Rattle.std.specs.Prelude.{◌≡◌, ◌+◌, ◌<◌, ◌≤◌, ◌^◌, ◌++◌};
 ghost use Rattle.std.specs.List.{AllByRecursion};
 ghost use Rattle.nk_values.specs.Fitting.{action_len, actions_len, FitsAction, FitsChange};

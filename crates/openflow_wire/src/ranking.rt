@@ -1,4 +1,6 @@
-// Rows put into the order of their keys.
+//! Rows put into the order of their keys.
+//!
+//! Layer: messages; public. Called by flow_audit and switch_model.
 ghost use Rattle.std.specs.Prelude.{OnOk};
 ghost use Rattle.std.specs.List.Sorted.{IsPermutation};
 ghost use Rattle.nk_values.specs.Tables.{Distinct};

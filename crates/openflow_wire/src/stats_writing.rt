@@ -1,4 +1,6 @@
-// Flow statistics written as bytes (OpenFlow 1.0.0, 5.3.5), into room that is there.
+//! Flow statistics written as bytes (OpenFlow 1.0.0, 5.3.5), into room that is there.
+//!
+//! Layer: messages; public. Called by `encoding` and `stats_spelling` here, and by switch_model.
 ghost use Rattle.std.specs.Prelude.{◌≡◌, ◌+◌, ◌<◌, ◌≤◌, ◌^◌};
 ghost use Rattle.std.specs.List.{AllByRecursion};
 ghost use Rattle.nk_values.specs.Fitting.{FitsPattern};

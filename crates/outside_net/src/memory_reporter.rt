@@ -1,4 +1,6 @@
-// Reports in memory, at calls that are known before.
+//! Reports in memory, at calls that are known before.
+//!
+//! Layer: runs; public. Called by link_cases and nkctl_cases.
 ghost use Rattle.outside_net.specs.Causes.{ReportCause};
 
 use crate::reporter::{Receipt, ReportFailed, Reporter};

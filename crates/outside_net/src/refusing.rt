@@ -1,4 +1,6 @@
-// A spawner that refuses some starts.
+//! A spawner that refuses some starts.
+//!
+//! Layer: runs; public. Called by nkctl_cases.
 use crate::spawner::{Spawner, StartFault};
 use std::thread::JoinHandle;
 

@@ -1,4 +1,6 @@
 //! Laws of hops, each the contract of a call that does nothing.
+//!
+//! Layer: rows and packets; public. No crate here calls it.
 ghost use Rattle.packet_tracer.specs.Laws.{HopsKeepFutures, HopsPart, WalksAreWays};
 
 /// If the rows of its port answer a copy as the policy does, a hop leaves the copy's futures as they are:

@@ -1,4 +1,6 @@
 //! What flow tables do with packets: one hop, and the whole way by the rows of a policy.
+//!
+//! Layer: rows and packets. The root of the crate, which many crates call.
 #![tactic(auto)]
 
 mod flight;

@@ -1,4 +1,6 @@
 //! The order of a port's rows by a destination: where a search for the first row that hits may begin. `ordered` asks it.
+//!
+//! Layer: rows and packets; private. Called by `ordered`.
 ghost use Rattle.std.specs.Prelude.{◌≡◌, List, IfOk, length};
 ghost use Rattle.nk_values.specs.declared.row.Row.{Row as RowValue};
 ghost use Rattle.packet_tracer.specs.Orders.{fixed, whole, number_in, AreLeading, IsOrder, IsStart};

@@ -1,4 +1,6 @@
 //! The rows of a policy as a walk looks them up: with the order of each port's. Who follows packets makes it once.
+//!
+//! Layer: rows and packets; public. Called by `walking` here, and by plain_commands.
 ghost use Rattle.std.specs.Prelude.{◌≡◌, ◌<◌, length, slice_get, IfOk, IsSomeAnd, option_map};
 ghost use Rattle.nk_values.specs.Tables.{first};
 ghost use Rattle.packet_tracer.specs.Orders.{AreOrders};

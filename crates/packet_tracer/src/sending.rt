@@ -1,4 +1,6 @@
-// What is sent of a packet at a port.
+//! What is sent of a packet at a port.
+//!
+//! Layer: rows and packets; private. Called by `ordered` and `walking`.
 ghost use Rattle.std.specs.Prelude.{◌≡◌, false, IfOk, option_map};
 ghost use Rattle.nk_values.specs.Patterns.{Incoming, hits};
 ghost use Rattle.nk_values.specs.Tables.{first};

@@ -1,4 +1,6 @@
 //! `nkctl generate`: the line of a number's workload.
+//!
+//! Layer: the program; public. Called by controller_program.
 ghost use Rattle.std.specs.Prelude.{◌≡◌, IfOk, IfErr};
 ghost use Rattle.program_answer.specs.declared.answer.AnswerError.TheVariants as error;
 ghost use Rattle.plain_commands.specs.Generate.{IsGenerateAnswer};

@@ -1,4 +1,6 @@
-// Laws of simulations, each the contract of a call that does nothing.
+//! Laws of simulations, each the contract of a call that does nothing.
+//!
+//! Layer: the program; public. Called by controller_program.
 ghost use Rattle.plain_commands.specs.Simulate.{NotBoth, OneReport, OneStop};
 
 /// What a schedule comes to is decided by the document and the rows of its policies: it has one report and one way

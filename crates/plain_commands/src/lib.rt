@@ -1,5 +1,7 @@
 //! The commands that need no threads, each a module and a file of definitions: `rules`, `trace`, `simulate` and
 //! `generate`.
+//!
+//! Layer: the program. The root of the crate, which audit_command and controller_program call.
 #![tactic(auto)]
 
 mod generate;

@@ -1,4 +1,6 @@
 //! What a schedule comes to in the world of a document's policies.
+//!
+//! Layer: the program; public. Called by `simulate` here, and by audit_command.
 ghost use Rattle.std.specs.Prelude.{IfOk, IfErr};
 ghost use Rattle.document_text.specs.Answers.{doc_of};
 ghost use Rattle.program_answer.specs.Input.{policies_of};

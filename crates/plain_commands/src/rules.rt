@@ -1,4 +1,6 @@
 //! `nkctl rules`: the rows of each policy.
+//!
+//! Layer: the program; public. Called by controller_program.
 ghost use Rattle.std.specs.Prelude.{IfOk, IfErr};
 ghost use Rattle.outside_io.specs.Lists.{TakesAtMost};
 ghost use Rattle.program_answer.specs.Answers.{Stops};

@@ -1,4 +1,6 @@
 //! Schedules, carried out in a world.
+//!
+//! Layer: the program; private. Called by `outcome`.
 ghost use Rattle.std.specs.Prelude.{◌≡◌, ◌++◌, ◌-◌, [], List, Err, IfOk, IfErr, OnOk, option_map, slice_get};
 ghost use Rattle.world_core.specs.declared.event.Event.{Event as EventValue};
 ghost use Rattle.world_core.specs.declared.fault.StepFault.TheVariants as faults;

@@ -1,5 +1,7 @@
 //! `nkctl simulate`: the report of a schedule, in which the switches are taken from one policy to the next while packets
 //! cross the network (SIGCOMM 2012, section 5).
+//!
+//! Layer: the program; public. Called by controller_program.
 ghost use Rattle.std.specs.Prelude.{IfOk, IfErr};
 ghost use Rattle.document_text.specs.Answers.{doc_of};
 ghost use Rattle.outside_io.specs.Lists.{TakesAtMost};

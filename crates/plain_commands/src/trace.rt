@@ -1,4 +1,6 @@
 //! `nkctl trace`: the complete hop histories that each policy gives each packet (POPL 2014, sections 2 and 3).
+//!
+//! Layer: the program; public. Called by controller_program.
 ghost use Rattle.std.specs.Prelude.{◌<◌, IfOk, IfErr, OnOk, string_bytes};
 ghost use Rattle.document_text.specs.Terms.{Term};
 ghost use Rattle.document_text.specs.Answers.{doc_of};

@@ -13,6 +13,8 @@
 //! The diagrams of rectangles share their parts: their tests are not counted, since each path has its own. What is made of a
 //! packet is told as a policy: the assignments that make each of its packets, `skip` for the packet itself and `drop` for
 //! none. If they are more than nine, the line says how many. A packet that is made twice is told twice.
+//!
+//! Layer: tests; private. Called by the root of the crate.
 use crate::policies::{packet_of, rectangle, rectangle_tests, star_of_rectangle, steps};
 use crate::told::{Tests, answer};
 use fdd_compile::Compiler;

@@ -2,6 +2,8 @@
 //!
 //! A line that begins with `===` begins a part: policies that are read, paths of diagrams, or diagrams of policies. Each
 //! part's file says what its lines are. A line that begins with `==` is a heading.
+//!
+//! Layer: tests; nothing calls it.
 #![tactic(auto)]
 
 mod diagrams;

@@ -1,6 +1,8 @@
 //! Paths of diagrams, and whether a well-shaped packet is on each.
 //!
 //! A path is a sequence of tests: `f=n` for a test that holds, and `not f=n` for one that does not.
+//!
+//! Layer: tests; private. Called by the root of the crate.
 use fdd_differ::path_packet;
 use fdd_nodes::{Path, is_few_on};
 use netkat_parser::{ParseError, parse_policy};

@@ -1,4 +1,6 @@
 //! Packets and policies that lines stand for.
+//!
+//! Layer: tests; private. Called by `diagrams`.
 use netkat_parser::{ParseError, parse_policy};
 use nk_syntax::Pol;
 use nk_values::{Header, Packet};

@@ -2,6 +2,8 @@
 //!
 //! In a policy `\n`, `\r` and `\t` stand for LF, CR and a tab. What is printed is read and printed once more, and has to be
 //! the same. So has what is printed of a policy that comes byte by byte, and of one that is cut in two, at each place.
+//!
+//! Layer: tests; private. Called by the root of the crate.
 use netkat_parser::{ParseError, PolicyReader, parse_policy};
 use nk_syntax::Pol;
 use std::alloc::{AllocError, Global};

@@ -1,4 +1,6 @@
 //! Answers of diagrams, and faults, as they are printed.
+//!
+//! Layer: tests; private. Called by `diagrams`.
 use fdd_compile::{CompileError, CompileFault, Compiled, Compiler, names_few};
 use fdd_nodes::Node;
 use netkat_parser::{ParseError, parse_policy};

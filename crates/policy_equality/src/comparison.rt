@@ -1,4 +1,6 @@
 //! Two policies compared.
+//!
+//! Layer: diagrams; public. Called by equal_command.
 ghost use Rattle.std.specs.Prelude.{◌≡◌, ◌↔◌, None, IfOk, IfErr, IfSome, OnOk, MatchResult};
 ghost use Rattle.nk_syntax.specs.Views.{term_of};
 ghost use Rattle.history_meaning.specs.Plain.{IsPlain};

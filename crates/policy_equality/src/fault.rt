@@ -1,4 +1,6 @@
-// Why two policies are not compared.
+//! Why two policies are not compared.
+//!
+//! Layer: diagrams; public. Called by `comparison` here, and by equal_command.
 use fdd_apart::Side;
 use nk_values::CompileFault;
 use std::alloc::AllocError;

@@ -1,4 +1,6 @@
-// The literals that two policies name.
+//! The literals that two policies name.
+//!
+//! Layer: diagrams; private. Called by `comparison`.
 ghost use Rattle.std.specs.Prelude.{IfOk};
 ghost use Rattle.nk_syntax.specs.Views.{term_of};
 ghost use Rattle.fdd_compile.specs.Named.{AreFewNamed, TermNames};

@@ -6,7 +6,7 @@ use Rattle.std.proofs.KnownBytes.{Consumes-trans}
 use Rattle.std.proofs.Math.Seq.{take-append_seam, drop-append_seam}
 use Rattle.std.proofs.lemmas.Bool.{cases_lt, lt-leb, leb-true, cases_Bool}
 use Rattle.std.proofs.lemmas.List.{append-nil, take_all, drop_all, take-take, length-take-le}
-use Rattle.nk_values.specs.declared.fault.TextFault.TheVariants.{Limit}
+use Rattle.nk_values.specs.declared.text_fault.TextFault.TheVariants.{Limit}
 use Rattle.outside_io.specs.Lists.{TakesFirst}
 use Rattle.document_text.specs.declared.doc_reader.DocReader.{DocReader}
 use Rattle.document_text.specs.Documents.{Doc, Outcome, Accepted, Refused}

@@ -1,4 +1,6 @@
 //! What a command comes to, before anything is written.
+//!
+//! Layer: the program; public. Called by many modules here, and by many crates.
 use crate::status::Status;
 use report_text::{Fault, Text};
 use std::alloc::{AllocError, AllocFailed};

@@ -1,4 +1,6 @@
 //! A document, and its policies put into rows.
+//!
+//! Layer: the program; public. Called by many crates.
 ghost use Rattle.std.specs.Prelude.{IfOk, IfErr, OnOk};
 ghost use Rattle.document_text.specs.Answers.{doc_of};
 ghost use Rattle.outside_io.specs.Lists.{TakesAtMost, TakesFirst};

@@ -1,5 +1,7 @@
 //! What the commands of the program share: the status of a call, an answer or why there is none, the reading of a
 //! document with a version for each of its policies, and the one writing of a call.
+//!
+//! Layer: the program. The root of the crate, which many crates call.
 #![tactic(auto)]
 
 mod answer;

@@ -1,4 +1,6 @@
-// The lines of a text that comes in pieces.
+//! The lines of a text that comes in pieces.
+//!
+//! Layer: the program; private. Called by `reading`.
 ghost use Rattle.std.specs.Prelude.{◌≡◌, ◌+◌, ◌<◌, ◌≤◌, ◌^◌, ℕ, List, [], ◌∷◌, ◌++◌, length};
 ghost use Rattle.program_answer.specs.Lines.{Counts, line_after};
 

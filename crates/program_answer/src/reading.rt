@@ -1,4 +1,6 @@
 //! The document that a source holds.
+//!
+//! Layer: the program; public. Called by `input` here, and by equal_command.
 ghost use Rattle.std.specs.Prelude.{◌≡◌, [], IfOk, IfErr, OnOk};
 ghost use Rattle.document_text.specs.Answers.{doc_of};
 ghost use Rattle.document_text.specs.Feeding.{StandsFor};

@@ -1,5 +1,7 @@
 //! A document of which the policies were taken, in the layer of what commands share. `read_input` makes it, and commands
 //! read it.
+//!
+//! Layer: the program; public. Called by `input` here, and by many crates.
 ghost use Rattle.std.specs.Prelude.{◌≡◌, IfOk};
 ghost use Rattle.document_text.specs.Answers.{doc_of};
 

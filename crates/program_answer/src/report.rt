@@ -1,4 +1,6 @@
 //! The report of a world as an answer.
+//!
+//! Layer: the program; public. Called by audit_command, plain_commands and thread_commands.
 ghost use Rattle.std.specs.Prelude.{IfOk};
 ghost use Rattle.program_answer.specs.Worlds.{IsWorldAnswer};
 

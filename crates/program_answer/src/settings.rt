@@ -1,4 +1,6 @@
 //! What a document's settings say of its world.
+//!
+//! Layer: the program; public. Called by plain_commands and thread_commands.
 ghost use Rattle.std.specs.Prelude.{◌≡◌};
 ghost use Rattle.program_answer.specs.Sound.{AreStamps};
 ghost use Rattle.program_answer.specs.Worlds.{round_of, world_settings};

@@ -1,4 +1,7 @@
 //! How a call ends.
+//!
+//! Layer: the program; public. Called by `answer`, `report` and `writing` here, and by many crates. Clauses of
+//! audit_command and thread_commands name it.
 ghost use Rattle.std.specs.Prelude.{◌≡◌};
 
 use report_text::Fault;

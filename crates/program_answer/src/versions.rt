@@ -1,4 +1,6 @@
 //! The policies of a document, compiled and put into rows.
+//!
+//! Layer: the program; private. Called by `input`.
 ghost use Rattle.std.specs.Prelude.{◌<◌, ◌-◌, ◌^◌, map, IfOk, IfErr};
 ghost use Rattle.nk_syntax.specs.Views.{term_of};
 ghost use Rattle.fdd_compile.specs.Named.{AreFewNamed, TermNames};

@@ -1,4 +1,6 @@
 //! The one writing of a call.
+//!
+//! Layer: the program; public. Called by controller_program.
 ghost use Rattle.std.specs.Prelude.{◌≡◌, ◌⊎◌};
 ghost use Rattle.std.specs.Result.{ForOk};
 ghost use Rattle.report_text.specs.Faults.{HasValues, fault_text};

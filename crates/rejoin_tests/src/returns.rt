@@ -1,4 +1,6 @@
 //! A loss and a return after each event of three updates.
+//!
+//! Layer: tests; private. Its tests are run by `rt test`.
 use crate::worlds::{End, does, does_at, end_of, run, world_of};
 use std::alloc::{AllocError, Global};
 use std::test::Fail;

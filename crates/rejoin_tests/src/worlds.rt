@@ -1,4 +1,6 @@
 //! The world of a small workload, and its updates by one event after another.
+//!
+//! Layer: tests; private. Called by `returns`.
 ghost use Rattle.std.specs.Prelude.{◌≤◌};
 
 use document_text::Document;

@@ -7,8 +7,8 @@ use Rattle.event_words.specs.declared.word.EventWord.{EventWord}
 use Rattle.event_words.specs.declared.word.EventWord.TheVariants as word
 use Rattle.event_words.specs.Words.{text_of}
 use Rattle.event_words.proofs.Reading.{read-again}
-use Rattle.nk_values.specs.declared.fault.TextFault.{TextFault}
-use Rattle.nk_values.specs.declared.fault.TextFault.TheVariants.{Limit, UnknownSwitch, ValueRange}
+use Rattle.nk_values.specs.declared.text_fault.TextFault.{TextFault}
+use Rattle.nk_values.specs.declared.text_fault.TextFault.TheVariants.{Limit, UnknownSwitch, ValueRange}
 use Rattle.nk_values.specs.declared.field.Field.TheVariants.{Sw}
 use Rattle.nk_values.specs.Members.{IsIn}
 use Rattle.nk_values.specs.Ranges.{IsValue}

@@ -1,4 +1,6 @@
 //! Laws of the lines of events, each the contract of a call that does nothing.
+//!
+//! Layer: laws alone; public. No crate here calls it.
 ghost use Rattle.report_laws.specs.Laws.{LinesTell, PrintedIsRead, ReportsTell};
 
 /// The lines of events give back the list of events, but for foreign bytes, which they do not show. So does a report

@@ -1,4 +1,6 @@
-// The lines of faults that no document has. (Those of documents and policies are cases of the program.)
+//! The lines of faults that no document has. (Those of documents and policies are cases of the program.)
+//!
+//! Layer: tests; private. Its tests are run by `rt test`.
 use report_text::{Fault, fault_text};
 use std::alloc::{AllocError, Global};
 use std::test::Fail;

@@ -1,4 +1,6 @@
-// Texts of histories.
+//! Texts of histories.
+//!
+//! Layer: tests; private. Called by `reports` and `traces`.
 use nk_values::{Header, History, Packet};
 use report_text::history_text;
 use std::alloc::{AllocError, Global};

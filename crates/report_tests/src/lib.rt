@@ -1,4 +1,6 @@
 //! Tests of printed texts, whole.
+//!
+//! Layer: tests. The root of the crate, which no code calls.
 #![tactic(auto)]
 
 #[cfg(test)]

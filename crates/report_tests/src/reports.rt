@@ -1,4 +1,6 @@
-// The text of reports.
+//! The text of reports.
+//!
+//! Layer: tests; private. Its tests are run by `rt test`.
 use crate::histories::{history, packet};
 use flight_queues::Flights;
 use nk_values::Tag;

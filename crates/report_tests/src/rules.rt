@@ -1,4 +1,6 @@
-// The text of rows.
+//! The text of rows.
+//!
+//! Layer: tests; private. Called by `worlds`.
 use nk_syntax::{Pol, Pred};
 use nk_values::{
     Action, Actions, Band, List, Pattern, PortKind, PortLists, PortRows, Row, RowList, Rows,

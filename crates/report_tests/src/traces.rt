@@ -1,4 +1,6 @@
-// The text of a trace.
+//! The text of a trace.
+//!
+//! Layer: tests; private. Its tests are run by `rt test`.
 use crate::histories::{history, packet};
 use nk_values::{History, Packet};
 use packet_tracer::Walk;

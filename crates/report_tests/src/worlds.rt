@@ -1,4 +1,6 @@
 //! The reports of worlds: one that bytes came to from outside, and one whose switch returned.
+//!
+//! Layer: tests; private. Its tests are run by `rt test`.
 ghost use Rattle.std.specs.Prelude.{◌≤◌};
 
 use crate::rules::topology;

@@ -1,4 +1,6 @@
 //! The line of a generated workload.
+//!
+//! Layer: the program; public. Called by plain_commands and workload_cases.
 ghost use Rattle.std.specs.Prelude.{◌≡◌, ◌++◌, OnOk, IfOk, string_bytes};
 ghost use Rattle.report_text.specs.Generated.{finished_count, IsGeneratedText, counts_text};
 

@@ -1,4 +1,6 @@
-// The texts of reports.
+//! The texts of reports.
+//!
+//! Layer: the program; public. Called by program_answer and report_tests.
 ghost use Rattle.std.specs.Prelude.{◌≡◌, ◌++◌, OnOk, IfOk, map, option_map, string_bytes};
 ghost use Rattle.report_text.specs.Causes.{state_text};
 ghost use Rattle.value_text.specs.Values.{line};

@@ -1,4 +1,6 @@
 //! Laws of runs of the world, each the contract of a call that does nothing.
+//!
+//! Layer: laws alone; public. No crate here calls it.
 ghost use Rattle.run_laws.specs.Laws.{CopiesCarry, HaltsExactly, HaltsTell, OnlyRefused};
 
 use world_core::{halts_stay, has_room, losses_count};

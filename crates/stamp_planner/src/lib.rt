@@ -1,4 +1,6 @@
 //! Which stamp the next policy gets.
+//!
+//! Layer: updates. The root of the crate, which flow_tests calls.
 #![tactic(auto)]
 
 mod planner;

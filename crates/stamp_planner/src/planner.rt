@@ -1,4 +1,6 @@
-// Stamps: the VLAN ids that tell the packets of one policy from those of another.
+//! Stamps: the VLAN ids that tell the packets of one policy from those of another.
+//!
+//! Layer: updates; public. Called by flow_tests.
 ghost use Rattle.std.specs.Prelude.{◌≡◌, ◌≤◌, ◌<◌, ◌↔◌, IsErr, IfOk, MatchOption, OnErr, ◌+◌, ◌-◌};
 ghost use Rattle.stamp_planner.specs.Stamps.{Planning, IsLive, AllLive, IsFirstFree, turned, none_live, given, released};
 

@@ -1,4 +1,6 @@
-// A board, and the pen and the eyes that are made of it.
+//! A board, and the pen and the eyes that are made of it.
+//!
+//! Layer: runs; public. Called by many crates.
 ghost use Rattle.std.specs.Prelude.{◌≡◌, ◌<◌, ◌^◌, [], IfOk, All, vec_len};
 
 use crate::eye::Eye;

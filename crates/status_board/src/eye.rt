@@ -1,4 +1,6 @@
-// The one that reads.
+//! The one that reads.
+//!
+//! Layer: runs; public. Called by `board` and `pen` here, and by many crates.
 ghost use Rattle.std.specs.Prelude.{◌≡◌, ◌≤◌, ◌⊎◌, false};
 ghost use mathlib.Core.List.{IsPrefix};
 ghost use Rattle.status_board.specs.Posts.{IsHistory, newest};

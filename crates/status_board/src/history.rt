@@ -1,5 +1,7 @@
-// The one history of a board, which only grows. It stands in proofs alone: a token without bytes says that the history
-// has come to a list, and one word holds how long it is.
+//! The one history of a board, which only grows. It stands in proofs alone: a token without bytes says that the history
+//! has come to a list, and one word holds how long it is.
+//!
+//! Layer: runs; public. Called by many modules here, and by many crates.
 ghost use Rattle.std.specs.Prelude.{◌≡◌};
 ghost use Rattle.status_board.specs.Rules.{head_of};
 

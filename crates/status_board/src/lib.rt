@@ -1,4 +1,6 @@
 //! A board on which one pen posts where a run stands, and which eyes read without a lock.
+//!
+//! Layer: runs. The root of the crate, which many crates call.
 #![tactic(auto)]
 
 mod board;

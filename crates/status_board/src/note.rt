@@ -1,4 +1,6 @@
-// A post with a token of the history up to it.
+//! A post with a token of the history up to it.
+//!
+//! Layer: runs; public. Called by `board`, `eye` and `pen` here, and by board_readers and fleet_workers.
 ghost use Rattle.std.specs.Prelude.{◌≡◌, ◌≤◌, ◌⊎◌, ◌∷◌, ◌++◌, [], length, true, false, IfSome};
 ghost use mathlib.Core.List.{IsPrefix};
 ghost use Rattle.status_board.specs.Posts.{IsHistory, IsLonger, MayFollow, newest};

@@ -1,4 +1,6 @@
-// The one that posts.
+//! The one that posts.
+//!
+//! Layer: runs; public. Called by `board` here, and by many crates.
 ghost use Rattle.std.specs.Prelude.{◌≡◌, ◌∷◌, ◌++◌, [], IfOk, OnOk, OnErr};
 ghost use Rattle.status_board.specs.Posts.{MayFollow, newest, post_at};
 

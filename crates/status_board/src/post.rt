@@ -1,4 +1,6 @@
-// What stands on a board.
+//! What stands on a board.
+//!
+//! Layer: runs; public. Called by many modules here, and by many crates. Clauses of watch_laws name it.
 
 use update_coordinator::Phase;
 

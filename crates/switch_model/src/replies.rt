@@ -1,4 +1,6 @@
-// Replies to requests for rows, filled entry by entry.
+//! Replies to requests for rows, filled entry by entry.
+//!
+//! Layer: updates; private. Called by `stats`.
 ghost use Rattle.std.specs.Prelude.{◌≡◌, ◌≤◌, ◌++◌, ◌∷◌, [], IfOk, OnOk, false};
 ghost use Rattle.nk_values.specs.declared.row.Row.{Row as RowValue};
 ghost use Rattle.nk_values.specs.Fitting.{actions_len};

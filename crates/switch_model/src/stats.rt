@@ -1,4 +1,6 @@
-// Flow statistics (OpenFlow 1.0.0, 5.3.5): the rows that a switch tells.
+//! Flow statistics (OpenFlow 1.0.0, 5.3.5): the rows that a switch tells.
+//!
+//! Layer: updates; private. Adds calls to `Switch`.
 ghost use Rattle.std.specs.Prelude.{◌≡◌, ◌≤◌, ◌↔◌, ℕ, IsTrue, IfOk};
 ghost use Rattle.std.specs.List.{AllByRecursion};
 ghost use Rattle.nk_values.specs.declared.row.Row.{Row as RowValue};

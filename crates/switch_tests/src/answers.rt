@@ -1,4 +1,6 @@
-// What a switch answers at once.
+//! What a switch answers at once.
+//!
+//! Layer: tests; private. Its tests are run by `rt test`.
 ghost use Rattle.std.specs.Prelude.{IfOk};
 ghost use Rattle.openflow_wire.specs.Writing.{Fits};
 

@@ -1,4 +1,6 @@
-// A barrier after two flow mods.
+//! A barrier after two flow mods.
+//!
+//! Layer: tests; private. Its tests are run by `rt test`.
 use crate::messages::waiting;
 use openflow_wire::Message;
 use std::test::Fail;

@@ -1,4 +1,6 @@
-// Two additions, and a table with room for one.
+//! Two additions, and a table with room for one.
+//!
+//! Layer: tests; private. Its tests are run by `rt test`.
 use crate::messages::{is_written, waiting};
 use std::alloc::{AllocError, Global};
 use std::test::Fail;

@@ -1,4 +1,6 @@
-// Messages for switches, and how their answers are written.
+//! Messages for switches, and how their answers are written.
+//!
+//! Layer: tests; private. Called by `answers`, `barriers` and `changes`.
 ghost use Rattle.std.specs.Prelude.{IfOk};
 ghost use Rattle.openflow_wire.specs.Writing.{Fits};
 

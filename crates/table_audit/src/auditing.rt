@@ -1,4 +1,6 @@
-// The audit of a switch.
+//! The audit of a switch.
+//!
+//! Layer: the world; public. Called by audit_command.
 ghost use Rattle.std.specs.Prelude.{◌<◌, IfOk, length};
 ghost use Rattle.nk_values.specs.Tables.{Distinct};
 ghost use Rattle.flow_audit.specs.Reports.{all_rows};

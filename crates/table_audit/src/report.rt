@@ -1,4 +1,6 @@
-// What a switch reports, by messages that go as bytes.
+//! What a switch reports, by messages that go as bytes.
+//!
+//! Layer: the world; private. Called by `auditing`.
 ghost use Rattle.std.specs.Prelude.{◌≡◌, IfOk};
 ghost use Rattle.std.specs.List.{AllByRecursion};
 ghost use Rattle.nk_values.specs.declared.row.Row.{Row as RowValue};

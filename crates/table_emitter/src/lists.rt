@@ -1,4 +1,6 @@
-// The rows of a port.
+//! The rows of a port.
+//!
+//! Layer: rows and packets; private. Called by `emitting`.
 ghost use Rattle.std.specs.Prelude.{◌≡◌, ◌+◌, ◌-◌, ◌<◌, ◌≤◌, [], ◌∷◌, ◌++◌, length, OnOk, IfOk, IfErr};
 ghost use Rattle.nk_values.specs.Tags.{IsVlanId};
 ghost use Rattle.fdd_nodes.specs.Cells.{IsValid};

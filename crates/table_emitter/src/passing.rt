@@ -1,4 +1,6 @@
-// Tests that no packet passes.
+//! Tests that no packet passes.
+//!
+//! Layer: rows and packets; private. Called by `lists`.
 ghost use Rattle.std.specs.Prelude.{◌≡◌};
 ghost use Rattle.fdd_nodes.specs.Trees.{tree};
 ghost use Rattle.table_emitter.specs.Kinds.{is_port};

@@ -1,4 +1,6 @@
-// Lists of actions at a port of a switch.
+//! Lists of actions at a port of a switch.
+//!
+//! Layer: tests; private. Its tests are run by `rt test`.
 use fdd_nodes::{Assignments, Leaf, Path};
 use leaf_actions::{
     ActionsError, ActionsFault, PortView, SwitchPort, SwitchPorts, actions, are_settable,

@@ -1,4 +1,6 @@
-// Single hops by a table of one row.
+//! Single hops by a table of one row.
+//!
+//! Layer: tests; private. Its tests are run by `rt test`.
 ghost use Rattle.std.specs.Prelude.{◌≡◌, IfOk};
 ghost use Rattle.nk_values.specs.declared.row.Row.{Row};
 ghost use Rattle.nk_values.specs.Members.{IsIn};

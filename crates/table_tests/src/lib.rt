@@ -1,4 +1,6 @@
 //! Tests of lists of actions and of single hops. (Rows, refusals and walks are cases of the program.)
+//!
+//! Layer: tests. The root of the crate, which no code calls.
 #![tactic(auto)]
 
 #[cfg(test)]

@@ -1,4 +1,6 @@
-// Small networks.
+//! Small networks.
+//!
+//! Layer: tests; private. Called by `hops`.
 use std::alloc::Global;
 use std::process::Abort;
 use topology_model::{PortRef, Ports, TopoLine, Topology};

@@ -1,4 +1,6 @@
-// A term with each form, copied.
+//! A term with each form, copied.
+//!
+//! Layer: tests; private. Its tests are run by `rt test`.
 use nk_syntax::{Pol, Pols, Pred, Preds};
 use nk_values::{Field, Lit};
 use std::alloc::{AllocError, Global};

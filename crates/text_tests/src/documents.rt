@@ -1,4 +1,6 @@
-// Documents: the most policies, and the most bytes.
+//! Documents: the most policies, and the most bytes.
+//!
+//! Layer: tests; private. Its tests are run by `rt test`.
 use document_text::{DocReader, Document, DocumentError, read_document};
 use nk_values::{MOST_DOCUMENT_BYTES, TextFault};
 use std::alloc::{AllocError, Global};

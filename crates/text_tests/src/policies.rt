@@ -1,4 +1,6 @@
-// Policies: places inside a larger text, predicates, and the most values.
+//! Policies: places inside a larger text, predicates, and the most values.
+//!
+//! Layer: tests; private. Its tests are run by `rt test`.
 use netkat_parser::{ParseError, Position, parse_policy, parse_policy_at};
 use nk_syntax::Pol;
 use nk_values::TextFault;

@@ -1,4 +1,6 @@
-// The results of a small star, by hand.
+//! The results of a small star, by hand.
+//!
+//! Layer: tests; private. Its tests are run by `rt test`.
 use history_meaning::some_results;
 use nk_syntax::{Pol, Pols, Pred};
 use nk_values::{Field, Header, History, Lit, Packet};

@@ -1,4 +1,6 @@
-// A topology of a few lines.
+//! A topology of a few lines.
+//!
+//! Layer: tests; private. Its tests are run by `rt test`.
 use nk_syntax::{Pol, Pols};
 use std::alloc::{AllocError, Global};
 use std::process::Abort;

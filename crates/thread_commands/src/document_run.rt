@@ -1,4 +1,6 @@
-// A run of a document's policies (SIGCOMM 2012, section 5).
+//! A run of a document's policies (SIGCOMM 2012, section 5).
+//!
+//! Layer: the program; private. Called by `run` and `watch`.
 ghost use Rattle.std.specs.Prelude.{◌≡◌, IfOk, IfErr, map};
 ghost use Rattle.document_text.specs.Answers.{doc_of};
 ghost use Rattle.fleet_workers.specs.Watching.{IsWatched};

@@ -1,4 +1,6 @@
 //! What comes back of a run.
+//!
+//! Layer: the program; private. Called by `document_run`.
 ghost use Rattle.std.specs.Prelude.{◌≡◌, ◌<◌, ◌≤◌, IfOk};
 ghost use Rattle.nk_values.specs.Members.{IsIn};
 ghost use Rattle.outside_io.specs.Causes.{Rose};

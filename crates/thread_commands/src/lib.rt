@@ -1,4 +1,6 @@
 //! The commands that need links and threads, each a module and a file of definitions: `run` and `watch`.
+//!
+//! Layer: the program. The root of the crate, which controller_program calls.
 #![tactic(auto)]
 
 mod document_run;

@@ -1,5 +1,7 @@
 //! `nkctl run`: the switches are taken from one policy to the next by threads that talk over links, while packets cross
 //! the network (SIGCOMM 2012, section 5).
+//!
+//! Layer: the program; public. Called by controller_program.
 ghost use Rattle.std.specs.Prelude.{IfOk, IfErr};
 ghost use Rattle.outside_io.specs.Lists.{TakesAtMost};
 ghost use Rattle.program_answer.specs.Called.{change, net_of, source_of};

@@ -1,4 +1,6 @@
 //! `nkctl watch`: a run, and what one reader saw of it meanwhile.
+//!
+//! Layer: the program; public. Called by controller_program.
 ghost use Rattle.std.specs.Prelude.{IfOk, IfErr};
 ghost use Rattle.outside_io.specs.Lists.{TakesAtMost};
 ghost use Rattle.program_answer.specs.Called.{change, net_of, source_of};

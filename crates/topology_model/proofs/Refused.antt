@@ -4,7 +4,7 @@ use Rattle.std.proofs.lemmas.Bool.Decides.{nat_tests}
 use Rattle.topology_model.specs.Layouts.{Layout, place_of, has_switch, has_port, same_place, far_end}
 use Rattle.topology_model.specs.Lines.{line_fault, has_repeat}
 use Rattle.topology_model.specs.declared.line.TopoLine.TheVariants.{Switch, Link}
-use Rattle.nk_values.specs.declared.fault.TextFault.{TextFault}
+use Rattle.nk_values.specs.declared.text_fault.TextFault.{TextFault}
 
 passed : (b : Bool) (f : TextFault) (o : Option TextFault) → cond b (Some f) o ≡ None → (b ≡ false) × (o ≡ None)
 passed true f o e = absurd (cc)

@@ -8,8 +8,8 @@ use Rattle.topology_model.specs.Layouts.{Layout, place_of, both_ways, has_switch
 use Rattle.topology_model.specs.declared.line.DeclaredSwitch.{DeclaredSwitch}
 use Rattle.topology_model.specs.declared.line.TopoLine.{TopoLine}
 use Rattle.topology_model.specs.declared.line.TopoLine.TheVariants.{Switch, Link}
-use Rattle.nk_values.specs.declared.fault.TextFault.{TextFault}
-use Rattle.nk_values.specs.declared.fault.TextFault.TheVariants.{DupSwitch, UnknownSwitch, UnknownPort, PortUsedTwice, TooMany, NoEdge}
+use Rattle.nk_values.specs.declared.text_fault.TextFault.{TextFault}
+use Rattle.nk_values.specs.declared.text_fault.TextFault.TheVariants.{DupSwitch, UnknownSwitch, UnknownPort, PortUsedTwice, TooMany, NoEdge}
 
 -- the numbers of an end are a packet's
 abbrev pub IsEnd : ℕ × ℕ → Type 0

@@ -1,4 +1,6 @@
-// A topology that grows line by line.
+//! A topology that grows line by line.
+//!
+//! Layer: values and policies; public. Called by `topology` here, and by document_text.
 ghost use Rattle.std.specs.Prelude.{◌≡◌, ◌&&◌, ◌||◌, ◌++◌, ◌∷◌, [], IsTrue, IfOk, IfErr, OnOk, OnErr, Option, Some, None, option_map, not, map, filter};
 ghost use Rattle.std.specs.List.{flat_map};
 ghost use Rattle.topology_model.specs.Layouts.{place_of, place_in, has_switch, has_port, far_end, is_linked, is_edge, places_at, edges_of};

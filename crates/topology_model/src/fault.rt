@@ -1,4 +1,6 @@
-// Why lines make no topology.
+//! Why lines make no topology.
+//!
+//! Layer: values and policies; public. Called by `draft` and `topology` here, and by many crates.
 ghost use Rattle.std.specs.Prelude.{◌≡◌};
 
 use nk_values::TextFault;

@@ -1,4 +1,6 @@
 //! Topologies: switches with their ports, links and edge ports.
+//!
+//! Layer: values and policies. The root of the crate, which many crates call.
 #![tactic(auto)]
 
 mod draft;

@@ -1,4 +1,7 @@
-// The lines of a topology.
+//! The lines of a topology.
+//!
+//! Layer: values and policies; public. Called by `draft`, `terms` and `topology` here, and by many crates. Clauses of
+//! many crates name it.
 use nk_values::{Field, List};
 
 /// A port of a switch: the switch's number, 1 to 65535, and the port's, 1 to 65279.

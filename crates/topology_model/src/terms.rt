@@ -1,4 +1,6 @@
-// The policies from which the terms of a topology are made.
+//! The policies from which the terms of a topology are made.
+//!
+//! Layer: values and policies; private. Called by `topology`.
 ghost use Rattle.std.specs.Prelude.{◌≡◌, IfOk};
 ghost use Rattle.nk_values.specs.Ranges.{IsLiteralOf};
 ghost use Rattle.nk_values.specs.Lits.{lit_field, lit_value};

@@ -1,4 +1,6 @@
-// Topologies.
+//! Topologies.
+//!
+//! Layer: values and policies; public. Called by many crates.
 ghost use Rattle.std.specs.Prelude.{All, ◌≡◌, ◌<◌, ◌↔◌, [], ◌∷◌, length, IsTrue, IsSome, IfOk, IfErr, IfSome, IsSomeAnd, OnOk, Some, None, option_map, slice_get, map, take, ℕ};
 ghost use Rattle.std.specs.List.{flat_map};
 ghost use Rattle.nk_values.specs.Members.{IsIn};

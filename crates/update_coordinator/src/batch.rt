@@ -1,4 +1,6 @@
 //! The batch of a phase, read off the rows of the policies.
+//!
+//! Layer: updates; private. Called by `inbound`, `outbound` and `planned`.
 ghost use Rattle.std.specs.Prelude.{◌≡◌, ◌<◌, [], ◌∷◌, ◌+◌, ℕ, Some, drop, length, slice_get, IfOk, IfNone, IfSome, option_map};
 ghost use Rattle.update_plan.specs.declared.cursor.Cursor.{Cursor as CursorValue};
 ghost use Rattle.update_plan.specs.Reading.{cursor_at, left_by};

@@ -1,4 +1,6 @@
 //! The coordinator, and the phases that it goes through.
+//!
+//! Layer: updates; public. Called by many modules here, and by many crates.
 ghost use Rattle.std.specs.Prelude.{IsTrue, ◌↔◌, IfOk, ◌≡◌, None, OnOk, OnErr, length, option_map};
 
 use crate::cause::Cause;

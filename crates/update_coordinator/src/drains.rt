@@ -1,4 +1,6 @@
 //! The policies that drain, and those of which the report is waited for.
+//!
+//! Layer: updates; private. Called by `planned`.
 ghost use Rattle.std.specs.Prelude.{◌≡◌, ◌↔◌, ◌-◌, ℕ, [], IsTrue, None, Some, IfSome, OnOk, OnErr, option_map};
 ghost use Rattle.update_coordinator.specs.Batches.{between, draining_in};
 ghost use Rattle.update_coordinator.specs.Calls.{has_stamp, is_stamp, leaving};

@@ -1,4 +1,6 @@
 //! What the messages of a switch do, and the loss and the return of its session.
+//!
+//! Layer: updates; private. Adds calls to `Coordinator`.
 ghost use Rattle.std.specs.Prelude.{IsTrue, ◌↔◌, ◌≡◌, ◌<◌, ◌≢◌, None, IfErr, IfOk, OnOk, OnErr, length};
 
 use crate::batch::{begin_again, begin_all};

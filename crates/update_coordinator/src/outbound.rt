@@ -1,4 +1,6 @@
 //! What goes to a switch, message by message.
+//!
+//! Layer: updates; private. Adds calls to `Coordinator`.
 ghost use Rattle.std.specs.Prelude.{IsTrue, ◌↔◌, ◌≡◌, ◌<◌, None, Some, IfOk, OnErr, IfNone, IfSome, length, slice_get};
 
 use crate::batch::{Read, read_in};

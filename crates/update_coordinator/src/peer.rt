@@ -1,4 +1,6 @@
 //! One switch, as the coordinator sees it.
+//!
+//! Layer: updates; private. Called by `coordinator`, `peers` and `starting`.
 ghost use Rattle.std.specs.Prelude.{IsTrue, ◌↔◌, ◌≡◌, ◌≢◌, ◌+◌, ◌<◌, ◌^◌, true, false, IfNone, IfSome};
 ghost use Rattle.openflow_wire.specs.Writing.{Fits};
 ghost use Rattle.update_coordinator.specs.Controls.{Change, Fence, message_of, sends_in};

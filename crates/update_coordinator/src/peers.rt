@@ -1,4 +1,6 @@
 //! What happens to one switch among all of them, and to all as a phase begins.
+//!
+//! Layer: updates; private. Called by `inbound` and `outbound`.
 ghost use Rattle.std.specs.Prelude.{◌≡◌, ◌+◌, ◌<◌, ◌^◌, true, false, length, map, IfNone, IfSome, Some, slice_get};
 ghost use Rattle.openflow_wire.specs.Writing.{Fits};
 ghost use Rattle.update_coordinator.specs.Controls as control;

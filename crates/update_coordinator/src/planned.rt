@@ -1,4 +1,6 @@
 //! The rows that a switch holds once the batch of the phase is done.
+//!
+//! Layer: updates; private. Adds calls to `Coordinator`.
 ghost use Rattle.std.specs.Prelude.{◌≡◌, ◌++◌, ◌∷◌, [], ◌-◌, ◌==◌, None, Some, IfOk, OnOk, take};
 ghost use Rattle.std.specs.List.{filter};
 ghost use Rattle.update_plan.specs.Batches.{internal_rows, ports_at};

@@ -1,4 +1,6 @@
 //! How far the batch of a switch is read, and where the rows of the switch stand.
+//!
+//! Layer: updates; public. Called by `places` and `reading` here, and by update_coordinator.
 ghost use Rattle.std.specs.Prelude.{◌≡◌};
 
 use nk_values::PortRows;

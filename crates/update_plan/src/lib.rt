@@ -1,5 +1,7 @@
 //! What takes the switches from the rows of one policy to those of the next, batch by batch (SIGCOMM 2012,
 //! section 5).
+//!
+//! Layer: updates. The root of the crate, which update_coordinator and update_tests call.
 #![tactic(auto)]
 
 mod batch;

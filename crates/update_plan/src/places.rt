@@ -1,4 +1,6 @@
 //! Where the rows of a batch stand among those of a policy.
+//!
+//! Layer: updates; public. Called by `reading` here, and by update_coordinator.
 ghost use Rattle.std.specs.Prelude.{◌≡◌, ◌<◌, ◌+◌, ◌^◌, [], IfNone, IfSome, option_map, slice_get, length};
 ghost use Rattle.update_plan.specs.Batches.{ingress, internal};
 ghost use Rattle.update_plan.specs.Reading.{share_at, from_place, IsSpan};

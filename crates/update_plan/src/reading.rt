@@ -1,4 +1,6 @@
 //! A batch read off the rows of two policies, one flow mod after another.
+//!
+//! Layer: updates; public. Called by update_coordinator.
 ghost use Rattle.std.specs.Prelude.{◌≡◌, [], ◌∷◌, true, false, IfNone, IfSome, option_map};
 ghost use Rattle.openflow_wire.specs.RowChanges.{mod_of};
 ghost use Rattle.update_plan.specs.Reading.{ports_of, side, side_from, left_by, IsSpan};

@@ -1,4 +1,6 @@
-// A coordinator of two policies at two switches, and what the switches answer.
+//! A coordinator of two policies at two switches, and what the switches answer.
+//!
+//! Layer: tests; private. Called by `fleet`, `returns` and `updates`.
 ghost use Rattle.std.specs.Prelude.{◌≡◌, ◌≤◌, ◌∷◌, [], IfOk, IfSome};
 ghost use Rattle.openflow_wire.specs.Writing.{Fits};
 ghost use Rattle.policy_rows.specs.Limits.{AreWithinLimits, AreWritable};

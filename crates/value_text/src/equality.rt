@@ -1,4 +1,6 @@
-// The texts of comparisons of two policies.
+//! The texts of comparisons of two policies.
+//!
+//! Layer: the program; public. Called by equal_command.
 ghost use Rattle.std.specs.Prelude.{◌≡◌, ◌++◌, OnOk, IfOk, string_bytes};
 ghost use Rattle.value_text.specs.Equality.{equal_text, apart_text};
 

@@ -1,4 +1,6 @@
 //! The texts of faults.
+//!
+//! Layer: the program; public. Called by `equality` here, and by report_text.
 ghost use Rattle.std.specs.Prelude.{◌≡◌, ◌++◌, OnOk, IfOk, IfSome, IfNone, string_bytes};
 ghost use Rattle.value_text.specs.Values.{line};
 ghost use Rattle.value_text.specs.Faults.{label_behind, pair_text, shown, compile_text, at_port, place_of, both_text, emit_text, policy_text, fault_text, HasValues};

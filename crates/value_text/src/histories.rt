@@ -1,4 +1,6 @@
-// The texts of histories.
+//! The texts of histories.
+//!
+//! Layer: the program; public. Called by `lines` here, and by report_text.
 ghost use Rattle.std.specs.Prelude.{◌≡◌, ◌++◌, [], true, OnOk, IfOk, string_bytes};
 ghost use Rattle.value_text.specs.Histories.{changed, more_fields, braced, step_text, steps_text, path_text, history_text};
 

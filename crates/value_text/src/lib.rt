@@ -1,4 +1,6 @@
 //! The texts of what policies and packets are: values, patterns, rows, histories, traces, and the lines of faults.
+//!
+//! Layer: the program. The root of the crate, which many crates call.
 #![tactic(auto)]
 
 mod equality;

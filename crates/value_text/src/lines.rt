@@ -1,4 +1,6 @@
-// The lines of histories.
+//! The lines of histories.
+//!
+//! Layer: the program; public. Called by `traces` here, and by report_text.
 ghost use Rattle.std.specs.Prelude.{◌≡◌, ◌++◌, OnOk, IfOk, map, string_bytes};
 ghost use Rattle.std.specs.List.{flat_map};
 ghost use Rattle.nk_values.specs.Members.{SameMembers};

@@ -1,4 +1,6 @@
-// The texts of rows.
+//! The texts of rows.
+//!
+//! Layer: the program; public. Called by audit_command and report_text.
 ghost use Rattle.std.specs.Prelude.{◌≡◌, ◌++◌, OnOk, IfOk, string_bytes};
 ghost use Rattle.value_text.specs.Values.{line};
 ghost use Rattle.value_text.specs.Rules.{in_text, vlan_text, fixed_text, address_of, frame_text, network_text, pattern_text, set_text, set_words, action_text, more_actions, actions_text, row_text, rows_text, port_text, switch_text, band_text, head_text, version_text, versions_text, rules_text};

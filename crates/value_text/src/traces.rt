@@ -1,4 +1,6 @@
-// The texts of traces.
+//! The texts of traces.
+//!
+//! Layer: the program; public. Called by plain_commands and report_text.
 ghost use Rattle.std.specs.Prelude.{◌≡◌, ◌++◌, OnOk, IfOk, map, string_bytes, decimal, codes};
 ghost use Rattle.value_text.specs.Traces.{AddsText, IsPacketText, AreTexts, IsPolicyText, IsTraceText};
 ghost use Rattle.value_text.specs.Values.{line};

@@ -1,4 +1,6 @@
-// The texts of numbers and fields.
+//! The texts of numbers and fields.
+//!
+//! Layer: the program; public. Called by many modules here, and by report_text.
 ghost use Rattle.std.specs.Prelude.{◌≡◌, ◌+◌, ◌/◌, ◌%◌, ◌++◌, ◌<◌, ◌≤◌, ◌∷◌, [], OnOk, string_bytes, decimal};
 ghost use Rattle.value_text.specs.Values.{hex_digit, hex_byte, hex_half, mac_text, dotted_pair, ip_text, value_text, field_text, fields_text, packet_text, place_text};
 

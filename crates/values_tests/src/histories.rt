@@ -1,4 +1,6 @@
-// Histories, on their happy path.
+//! Histories, on their happy path.
+//!
+//! Layer: tests; private. Its tests are run by `rt test`.
 use nk_values::{Header, History, Packet};
 use std::test::Fail;
 

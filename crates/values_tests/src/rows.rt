@@ -1,4 +1,6 @@
-// Rows and flow mods, copied.
+//! Rows and flow mods, copied.
+//!
+//! Layer: tests; private. Its tests are run by `rt test`.
 use nk_values::{
     ANY_PORT, Action, Actions, Band, Duplicate, FlowCommand, FlowMod, Pattern, PortKind, PortLists,
     PortRows, RowList, Rows,

@@ -1,4 +1,6 @@
 //! Laws of what a run posts on a board. No code.
+//!
+//! Layer: laws alone. The root of the crate, which no code calls.
 #![tactic(auto)]
 
 ghost use Rattle.watch_laws.specs.Laws.{PostsStay, StandIsPost};

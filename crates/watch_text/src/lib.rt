@@ -1,4 +1,6 @@
 //! The text of what was seen of a run: a line a post.
+//!
+//! Layer: the program. The root of the crate, which thread_commands calls.
 #![tactic(auto)]
 
 mod reads;

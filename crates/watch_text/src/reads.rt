@@ -1,4 +1,6 @@
 //! The lines of posts that were seen.
+//!
+//! Layer: the program; public. Called by thread_commands.
 ghost use Rattle.std.specs.Prelude.{◌≡◌, ◌++◌, OnOk, IfOk, string_bytes};
 ghost use Rattle.value_text.specs.Values.{line};
 ghost use Rattle.watch_text.specs.Reads.{control_posts, post_text, posts_text};

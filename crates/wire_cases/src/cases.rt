@@ -1,4 +1,6 @@
-// What is printed for a line.
+//! What is printed for a line.
+//!
+//! Layer: tests; private. Called by the root of the crate.
 use crate::short::short;
 use bytes::BytesMut;
 use of_framing::{Framer, take_whole};

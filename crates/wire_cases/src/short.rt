@@ -1,4 +1,6 @@
-// Messages in short.
+//! Messages in short.
+//!
+//! Layer: tests; private. Called by `cases`.
 use nk_values::FlowMod;
 use openflow_wire::{FlowStats, Message};
 use std::alloc::{AllocError, Global};

@@ -1,4 +1,6 @@
-// Sessions, message by message.
+//! Sessions, message by message.
+//!
+//! Layer: tests; private. Its tests are run by `rt test`.
 use openflow_wire::{Message, Octets};
 use session_core::{Move, Session, SessionFault, SessionState, echo_reply};
 use std::alloc::{AllocError, Global};

@@ -1,4 +1,6 @@
-// The five calls of a worker, and their answers.
+//! The five calls of a worker, and their answers.
+//!
+//! Layer: runs; public. Called by drive_journal, worker_post and world_journal.
 ghost use Rattle.std.specs.Prelude.{◌≡◌, ◌<◌, ℕ, List, Option, IfOk, IfSome, [], ◌∷◌};
 ghost use Rattle.openflow_wire.specs.declared.message.Message.{Message};
 ghost use Rattle.worker_desk.specs.Answers.{grown, gave, CanBeWritten, GivesBack, OnKept, OnNewEnd, OnShutNewEnd};

@@ -1,4 +1,6 @@
 //! What a worker of a session or of a switch asks of the run that it works for, and the gate that it passes.
+//!
+//! Layer: runs. The root of the crate, which many crates call.
 #![tactic(auto)]
 
 mod desk;

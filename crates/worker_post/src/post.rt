@@ -1,4 +1,6 @@
-// A session's or a switch's worker: what it sends and tells over its end.
+//! A session's or a switch's worker: what it sends and tells over its end.
+//!
+//! Layer: runs; public. Called by drive_workers and fleet_workers.
 ghost use Rattle.std.specs.Prelude.{◌≡◌, ◌<◌, ℕ, List, Option};
 ghost use Rattle.openflow_wire.specs.declared.message.Message.{Message as MessageValue};
 ghost use Rattle.openflow_wire.specs.Writing.{Fits, written};

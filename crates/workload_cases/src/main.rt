@@ -1,5 +1,7 @@
 //! Reads numbers from standard input, one a line, and prints for each how much there is of its workload: its switches,
 //! policies and packets, the events that were drawn until none could happen, and the finished histories.
+//!
+//! Layer: tests; nothing calls it.
 #![tactic(auto)]
 
 use report_text::{Text, generated_text};

@@ -2,7 +2,7 @@
 use Rattle.std.proofs.Common.{◌≡◌, ℕ, zero, suc, ◌+◌, ◌-◌, ◌<◌, ◌≤◌, ◌⊎◌, inl, inr, Bool, true, false, ◌&&◌, List, [], ◌∷◌, ◌++◌, length, map, take, get_or, refl, sym, ◌∙◌, ap, subst, Option, None, Some, slice_get, append_assoc, arith}
 use Rattle.std.specs.List.{flat_map}
 use Rattle.std.proofs.lemmas.Bool.{and_parts}
-use Rattle.nk_values.specs.declared.fault.TextFault.{TextFault}
+use Rattle.nk_values.specs.declared.text_fault.TextFault.{TextFault}
 use Rattle.nk_values.specs.declared.field.Field.TheVariants.{Sw, Pt}
 use Rattle.nk_values.specs.Members.{IsIn}
 use Rattle.nk_values.specs.Ranges.{IsValue}

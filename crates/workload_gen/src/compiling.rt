@@ -1,4 +1,6 @@
-// The policies of workloads with their rows.
+//! The policies of workloads with their rows.
+//!
+//! Layer: the world; public. Called by `driving` here, and by rejoin_tests.
 ghost use Rattle.std.specs.Prelude.{◌≡◌, ℕ, None, IfOk};
 ghost use Rattle.document_text.specs.Answers.{doc_of};
 ghost use Rattle.update_laws.specs.Settings.{AreVersions};

@@ -1,4 +1,6 @@
-// How many events can happen.
+//! How many events can happen.
+//!
+//! Layer: the world; private. Called by `finding`, `others` and `tally`.
 ghost use Rattle.std.specs.Prelude.{◌≡◌, ◌↔◌, IsTrue, length, slice_get};
 ghost use Rattle.std.specs.Int.{from_bool};
 ghost use Rattle.world_core.specs.declared.event.ControllerEvent.TheVariants as of_controller;

@@ -1,4 +1,6 @@
-// Documents from a number.
+//! Documents from a number.
+//!
+//! Layer: the world; public. Called by `driving` here, and by rejoin_tests.
 ghost use Rattle.std.specs.Prelude.{◌≡◌, ◌≤◌, ◌++◌, ◌*◌, ◌-◌, ◌∷◌, [], IfOk, OnOk, map};
 ghost use Rattle.topology_model.specs.Lines.{layout_of};
 ghost use Rattle.document_text.specs.Answers.{doc_of};

@@ -1,4 +1,6 @@
-// Runs by drawn events.
+//! Runs by drawn events.
+//!
+//! Layer: the world; public. Called by `driving`.
 ghost use Rattle.std.specs.Prelude.{◌≡◌, ◌++◌, ◌∷◌, [], List, IfOk, IfErr, IfNone, IfSome, OnOk, OnErr, length};
 ghost use Rattle.world_core.specs.declared.event.Event.{Event as EventValue};
 ghost use Rattle.world_core.specs.Settling.{NoneIs};

@@ -1,4 +1,6 @@
 //! Workloads driven to their end.
+//!
+//! Layer: the world; public. Called by plain_commands and workload_cases.
 ghost use Rattle.std.specs.Prelude.{IfOk};
 ghost use Rattle.workload_gen.specs.Laws.{IsRunOf};
 

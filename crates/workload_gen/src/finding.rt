@@ -1,4 +1,6 @@
-// The event with a number, from 0, of those that can happen.
+//! The event with a number, from 0, of those that can happen.
+//!
+//! Layer: the world; private. Called by `drawing`.
 ghost use Rattle.std.specs.Prelude.{◌≡◌, ◌<◌, ◌-◌, ◌^◌, ◌∷◌, [], IfOk, length, slice_get};
 ghost use Rattle.world_core.specs.declared.event.ControllerEvent.TheVariants as of_controller;
 ghost use Rattle.world_core.specs.declared.event.Event.TheVariants as event;

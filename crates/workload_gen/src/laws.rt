@@ -1,4 +1,6 @@
-// Laws of workloads, each the contract of a call that does nothing.
+//! Laws of workloads, each the contract of a call that does nothing.
+//!
+//! Layer: the world; public. Called by `driving`.
 ghost use Rattle.workload_gen.specs.Laws.{RunsEnd};
 
 use world_core::{has_room, no_dead_end};

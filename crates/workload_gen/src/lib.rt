@@ -1,4 +1,6 @@
 //! Workloads from a number: documents that a generator of random words draws, and runs by events that it draws.
+//!
+//! Layer: the world. The root of the crate, which plain_commands, rejoin_tests and workload_cases call.
 #![tactic(auto)]
 
 mod compiling;

@@ -1,4 +1,6 @@
 //! How many events can happen that are at no switch, kept from turn to turn.
+//!
+//! Layer: the world; private. Called by `drawing`.
 ghost use Rattle.std.specs.Prelude.{◌≡◌, IsTrue};
 ghost use Rattle.world_core.specs.Steps.{Step};
 ghost use Rattle.world_core.specs.Worlds.{WorldValue};

@@ -1,4 +1,6 @@
-// The policies of workloads.
+//! The policies of workloads.
+//!
+//! Layer: the world; private. Called by `documents`.
 ghost use Rattle.std.specs.Prelude.{◌≡◌, ◌≤◌, ◌++◌, IfOk, OnOk, map};
 ghost use Rattle.nk_values.specs.Lits.{lit_field, lit_value};
 ghost use Rattle.nk_values.specs.Ranges.{IsLiteralOf};

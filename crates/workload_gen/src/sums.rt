@@ -1,4 +1,6 @@
 //! Numbers with their sums, kept from change to change.
+//!
+//! Layer: the world; private. Called by `tally`.
 ghost use Rattle.std.specs.Prelude.{◌≡◌, ◌≢◌, ℕ, ◌+◌, ◌*◌, ◌-◌, ◌^◌, ◌<◌, ◌≤◌, min, IfOk, Some, drop, length, slice_get, slice_set, take};
 ghost use Rattle.workload_gen.specs.Counts.{AreBlocks, sum_of, sum_to_limit};
 

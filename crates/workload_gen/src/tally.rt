@@ -1,4 +1,6 @@
-// How many events can happen at each switch, kept from turn to turn.
+//! How many events can happen at each switch, kept from turn to turn.
+//!
+//! Layer: the world; private. Called by `drawing` and `finding`.
 ghost use Rattle.std.specs.Prelude.{◌≡◌, ◌≢◌, ◌+◌, ◌^◌, ◌-◌, ◌<◌, ◌≤◌, ℕ, IfOk, IsTrue, None, Some, length, slice_get, take, true};
 ghost use Rattle.update_coordinator.specs.Phases.{works};
 ghost use Rattle.world_core.specs.Steps.{Step};

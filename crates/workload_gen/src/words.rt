@@ -1,4 +1,6 @@
-// The words of the generator.
+//! The words of the generator.
+//!
+//! Layer: the world; private. Called by `documents`, `drawing` and `policies`.
 ghost use Rattle.std.specs.Prelude.{◌≡◌, ◌≤◌};
 ghost use Rattle.workload_gen.specs.Documents.{number_by};
 ghost use Rattle.workload_gen.specs.Words.{behind, next_word};

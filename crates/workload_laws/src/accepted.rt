@@ -1,4 +1,6 @@
-// Policies of workloads compiled, which memory alone can hinder.
+//! Policies of workloads compiled, which memory alone can hinder.
+//!
+//! Layer: laws alone; public. Called by workload_gen.
 ghost use Rattle.std.specs.Prelude.{◌≡◌, IfOk};
 ghost use Rattle.nk_values.specs.Tags.{IsVlanId};
 ghost use Rattle.nk_syntax.specs.Views.{term_of};

@@ -1,4 +1,6 @@
-// Laws of policies that forward by one field.
+//! Laws of policies that forward by one field.
+//!
+//! Layer: laws alone. The root of the crate, which workload_gen calls.
 #![tactic(auto)]
 
 mod accepted;

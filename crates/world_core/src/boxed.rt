@@ -1,4 +1,6 @@
-// Packets of events.
+//! Packets of events.
+//!
+//! Layer: the world; public. Called by `event` here, and by report_text.
 ghost use Rattle.std.specs.Prelude.{◌≡◌, IfOk};
 
 use nk_values::Packet;

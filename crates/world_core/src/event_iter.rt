@@ -1,4 +1,6 @@
 //! The events of a list, one after another. `Events::iter` makes it, and reports read it.
+//!
+//! Layer: the world; public. Called by `events`.
 ghost use Rattle.std.specs.Prelude.{◌≡◌, length};
 ghost use Rattle.world_core.specs.Events.{unpacked, whole_count};
 ghost use Rattle.world_core.specs.Lists.{listed};

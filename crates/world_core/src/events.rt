@@ -1,4 +1,6 @@
 //! Lists of events, held in little memory. `settle` and `flow` add to them, and so do schedules and drawn runs.
+//!
+//! Layer: the world; public. Called by `settling` here, and by many crates.
 ghost use Rattle.std.specs.Prelude.{◌≡◌, ◌++◌, ◌∷◌, [], ◌<◌, ◌^◌, length, Some, OnOk, OnErr};
 
 use crate::event::Event;

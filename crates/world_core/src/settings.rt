@@ -1,4 +1,7 @@
 //! What a world is started with beside its policies and its topology.
+//!
+//! Layer: the world; public. Called by `world` here, and by many crates. Clauses of plain_commands, run_laws and
+//! thread_commands name it.
 
 /// How far a copy goes, how many rows a switch holds, how many sessions may be lost, and whether drains overlap.
 #[derive(Clone, Copy, Debug, PartialEq, Eq)]

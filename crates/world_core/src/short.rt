@@ -1,4 +1,6 @@
 //! Events in four bytes, as `Events` and `EventIter` hold them: the lowest layer of lists of events.
+//!
+//! Layer: the world; private. Called by `event_iter` and `events`.
 ghost use Rattle.std.specs.Prelude.{◌≡◌, IfSome, Some};
 ghost use Rattle.world_core.specs.Events.{event_of};
 

@@ -1,4 +1,6 @@
-// One switch with its channels.
+//! One switch with its channels.
+//!
+//! Layer: the world; private. Called by many modules. Clauses of world_journal name it.
 ghost use Rattle.std.specs.Prelude.{◌≡◌, ◌<◌, ◌≢◌, ◌↔◌, All, None, [], length, option_map, IsTrue, OnOk, OnErr, IfOk, IfSome};
 ghost use Rattle.openflow_wire.specs.Writing.{Fits};
 

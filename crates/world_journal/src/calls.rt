@@ -1,4 +1,6 @@
-// What a session's or a switch's worker asks of a run: each answer is decided by the state found.
+//! What a session's or a switch's worker asks of a run: each answer is decided by the state found.
+//!
+//! Layer: runs; private. Adds calls to `Run`.
 ghost use Rattle.std.specs.Prelude.{◌≡◌, ◌<◌, ◌+◌, ◌%◌, ◌≤◌, ◌↔◌, [], IfOk, IfErr, IfSome, OnOk, OnErr, Err, Some, IsTrue};
 ghost use Rattle.openflow_wire.specs.Writing.{Fits};
 ghost use Rattle.worker_desk.specs.Answers.{CanBeWritten, GivesBack, OnNewEnd, OnShutNewEnd};

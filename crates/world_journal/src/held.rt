@@ -1,4 +1,6 @@
-// A world beside the journal of what happened to it.
+//! A world beside the journal of what happened to it.
+//!
+//! Layer: runs; public. Called by many modules here, and by fleet_workers.
 use crate::entry::Entry;
 use crate::name::RunName;
 use crate::seat::{Role, Seat};

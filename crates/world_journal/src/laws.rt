@@ -1,4 +1,6 @@
-// Laws of the answers of a run, each the contract of a call that does nothing.
+//! Laws of the answers of a run, each the contract of a call that does nothing.
+//!
+//! Layer: runs; public. No crate here calls it.
 ghost use Rattle.world_journal.specs.Laws.{HelloWaits, SentIsPut};
 
 use outside_net::Link;

@@ -1,4 +1,6 @@
 //! A world beside the journal of what happened to it, and the one lock over which workers share both.
+//!
+//! Layer: runs. The root of the crate, which fleet_workers and thread_commands call.
 #![tactic(auto)]
 
 mod ahead;

@@ -1,4 +1,6 @@
 //! What a run is named after.
+//!
+//! Layer: runs; public. Called by many modules here, and by fleet_workers.
 ghost use Rattle.std.specs.Prelude.{ℕ, List, [], None};
 ghost use Rattle.topology_model.specs.Layouts.{empty};
 ghost use Rattle.world_core.specs.Worlds.{WorldValue, initial_world};

@@ -1,4 +1,6 @@
 //! What posts the steps of a run.
+//!
+//! Layer: runs; public. Called by many modules here, and by fleet_workers.
 ghost use Rattle.std.specs.Prelude.{◌≡◌, ◌++◌, ◌∷◌, [], List, OnOk, OnErr};
 ghost use Rattle.status_board.specs.declared.post.Post.{Post as PostValue};
 ghost use Rattle.status_board.specs.Posts.{MayFollow, newest, post_at};

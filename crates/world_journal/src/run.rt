@@ -1,4 +1,6 @@
-// What lies under the one lock of a run.
+//! What lies under the one lock of a run.
+//!
+//! Layer: runs; public. Called by many modules here, and by fleet_workers and thread_commands.
 ghost use Rattle.std.specs.Prelude.{◌≡◌, ◌↔◌, IfOk, IsTrue, None, replicate, slice_get, true};
 ghost use Rattle.world_core.specs.Worlds.{WorldValue};
 ghost use Rattle.world_journal.specs.Arriving.{AreSpent, IsLast, IsSettled};

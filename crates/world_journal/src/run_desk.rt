@@ -1,4 +1,6 @@
-// The one lock of a run.
+//! The one lock of a run.
+//!
+//! Layer: runs; public. Called by fleet_workers.
 ghost use Rattle.std.specs.Prelude.{◌≡◌, ◌<◌, ◌%◌, ◌↔◌, None, IfOk, IfErr, IsTrue, length};
 ghost use Rattle.watch_laws.specs.Watching.{ArePosts, IsPosted};
 ghost use Rattle.world_journal.specs.Arriving.{IsOver};

@@ -1,4 +1,6 @@
-// A worker's place in a run.
+//! A worker's place in a run.
+//!
+//! Layer: runs; public. Called by many modules here, and by fleet_workers.
 ghost use Rattle.std.specs.Prelude.{◌≡◌, ◌<◌, ◌+◌, ◌≤◌};
 ghost use Rattle.world_journal.specs.Calls.{IsWorker, place_of, role_of, side_of};
 ghost use Rattle.world_journal.specs.Journals.{switches};

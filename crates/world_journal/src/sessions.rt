@@ -1,4 +1,6 @@
-// The sessions of a run, one after the other: each has a pair of ends of its own.
+//! The sessions of a run, one after the other: each has a pair of ends of its own.
+//!
+//! Layer: runs; private. Adds calls to `Run`.
 ghost use Rattle.std.specs.Prelude.{◌≡◌, ◌<◌, ◌+◌, ◌≤◌, ◌^◌, ◌↔◌, IsTrue, false, IfSome, IfNone, OnOk, OnErr, Err};
 ghost use Rattle.update_coordinator.specs.declared.cause.Side.TheVariants as side;
 ghost use Rattle.world_core.specs.Steps.{IsEnabled};

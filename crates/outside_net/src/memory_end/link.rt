@@ -1,4 +1,6 @@
-// The calls of an end in memory.
+//! The calls of an end in memory.
+//!
+//! Layer: runs; private. Adds calls to `MemoryEnd`.
 ghost use Rattle.std.specs.Prelude.{◌≡◌, ◌≢◌, ◌↔◌, ◌≤◌, IfSome, length};
 
 use super::MemoryEnd;

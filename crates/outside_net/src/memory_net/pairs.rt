@@ -1,4 +1,6 @@
-// Both ends of a pair in memory.
+//! Both ends of a pair in memory.
+//!
+//! Layer: runs; private. Adds calls to `MemoryNet`.
 ghost use Rattle.std.specs.Prelude.{IfOk};
 ghost use Rattle.outside_net.specs.Memory.{IsNewEnd, IsPairEnd, net_listed};
 

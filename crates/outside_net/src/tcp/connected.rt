@@ -1,4 +1,6 @@
-// The calls of an end over TCP.
+//! The calls of an end over TCP.
+//!
+//! Layer: runs; private. Adds calls to `TcpEnd`.
 ghost use Rattle.std.specs.Prelude.{None};
 
 use super::{TcpEnd, is_early};

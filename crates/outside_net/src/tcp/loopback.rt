@@ -1,4 +1,6 @@
-// Ends over TCP, in pairs or for peers that come in.
+//! Ends over TCP, in pairs or for peers that come in.
+//!
+//! Layer: runs; public. Called by `tcp` here, and by link_cases and nkctl.
 ghost use Rattle.std.specs.Prelude.{None};
 
 use super::TcpEnd;

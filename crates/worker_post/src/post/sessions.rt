@@ -1,4 +1,6 @@
-// The sessions of a worker, one after the other.
+//! The sessions of a worker, one after the other.
+//!
+//! Layer: runs; private. Adds calls to `Post`.
 ghost use Rattle.std.specs.Prelude.{◌≡◌, [], Option, IfSome};
 ghost use Rattle.worker_post.specs.Noting.{IsNotedOf, Notes};
 ghost use Rattle.worker_post.specs.Sessions.{HasWorked, IsNew, last_end};

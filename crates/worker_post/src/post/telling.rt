@@ -1,4 +1,6 @@
-// What a worker tells of the bytes that it receives.
+//! What a worker tells of the bytes that it receives.
+//!
+//! Layer: runs; private. Adds calls to `Post`.
 ghost use Rattle.std.specs.Prelude.{◌≡◌, ◌<◌, ◌^◌, ◌-◌, ◌∷◌, [], ℕ, List, Option};
 ghost use Rattle.openflow_wire.specs.declared.message.Message.{Message as MessageValue};
 ghost use Rattle.openflow_wire.specs.declared.fault.WireFault.{WireFault};
