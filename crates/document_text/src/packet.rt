@@ -1,15 +1,10 @@
 //! Packet lines.
 //!
 //! Layer: texts that are read; private. Called by `take`.
-ghost use Rattle.std.specs.Prelude.{◌≡◌, true, map, IfOk};
-ghost use Rattle.std.specs.List.{find, list_all};
-ghost use Rattle.std.specs.Char.{is_ascii_alphanumeric};
-ghost use Rattle.netkat_parser.specs.Signs.{is_run_byte};
-ghost use Rattle.std.specs.Str.{bytes_eq};
-ghost use Rattle.nk_values.specs.Names.{name_of, header_fields};
+ghost use Rattle.std.specs.Prelude.{◌≡◌, true};
 ghost use Rattle.document_text.specs.declared.document.PacketLine.{PacketLine as Line};
-ghost use Rattle.document_text.specs.Packets.{is_name, is_run, pair_of, plain_packet, given_at, with_tag, with_number, with_field, with_named, with_word, with_words};
-ghost use Rattle.document_text.specs.Lines.{packet_form, packet_line, at_edge};
+ghost use Rattle.document_text.specs.Packets.{pair_of, plain_packet, given_at, with_tag, with_number, with_field, with_named, with_word, with_words};
+ghost use Rattle.document_text.specs.Lines.{packet_line, at_edge};
 ghost use Rattle.document_text.specs.Answers.{texts, state_of, given_of, Forms, GivesValues, Lets, Matches};
 
 use crate::declaration::LineKind;
@@ -20,10 +15,14 @@ use crate::reader::Reader;
 use crate::topology::end_in_range;
 use crate::words::{end_of, number};
 use indexmap::IndexSet;
-use netkat_parser::{cut, has_form, is_run_byte, number_of};
+use netkat_parser::{has_form, number_of};
 use nk_values::{Field, GREATEST_VLAN_ID, Header, IPV4_TYPE, Packet, Tag, TextFault};
 use std::alloc::Global;
 use topology_model::PortRef;
+
+mod words;
+
+use words::{header_field, is_name, is_run, pair_of};
 
 /// What the words so far give: their names, the packet and its tag, whether a name is not listed, and
 /// whether a value is out of its range.
@@ -187,52 +186,4 @@ fn plain_packet(end: (u64, u64)) -> Packet
             tcp_dst_port: 0,
         },
     }
-}
-
-// The two parts of `name=value`.
-fn pair_of(word: &[u8]) -> Result<(&[u8], &[u8]), Stop>
-    ensures { Forms (λ p. (p.0.now, p.1.now)) (pair_of word.now) result }
-{
-    let (name, run) = cut(word, b'=');
-    if is_name(name) && is_run(run) {
-        Ok((name, run))
-    } else {
-        Err(Stop::Fault(TextFault::BadLine))
-    }
-}
-
-// A letter, then letters and digits.
-fn is_name(text: &[u8]) -> bool
-    ensures { result ≡ is_name text.now }
-{
-    !text.is_empty() && text[0].is_ascii_alphabetic() && are_alphanumeric(text)
-}
-
-fn are_alphanumeric(text: &[u8]) -> bool
-    ensures { result ≡ list_all is_ascii_alphanumeric text.now }
-{
-    text.iter().all(|byte| byte.is_ascii_alphanumeric())
-}
-
-// Some letters, digits, `.` and `:`.
-fn is_run(text: &[u8]) -> bool
-    ensures { result ≡ is_run text.now }
-{
-    text.len() >= 1 && are_run_bytes(text)
-}
-
-fn are_run_bytes(text: &[u8]) -> bool
-    ensures { result ≡ list_all is_run_byte text.now }
-{
-    text.iter().all(|byte| is_run_byte(*byte))
-}
-
-// The header field of a name.
-fn header_field(name: &[u8]) -> Option<Field>
-    ensures { result ≡ find (λ f. bytes_eq name.now (name_of f)) header_fields }
-{
-    Field::HEADER
-        .iter()
-        .copied()
-        .find(|field| is_text(name, field.name()))
 }

@@ -9,8 +9,8 @@ ghost use Rattle.document_text.specs.Answers.{state_of, texts};
 ghost use Rattle.document_text.specs.declared.fault.DocumentError.TheVariants as to;
 
 use crate::declaration::{Declared, LineKind};
-use crate::document::{Document, ScheduleLine, Settings};
-use crate::fault::{DocFault, DocumentError, Stop};
+use crate::document::ScheduleLine;
+use crate::fault::Stop;
 use crate::head::{Head, head_of};
 use crate::packet::packet_line;
 use crate::reader::{Reader, Taken};
@@ -20,9 +20,13 @@ use crate::setting::{
 };
 use crate::topology::{link_line, switch_line};
 use crate::words::is_end;
-use nk_values::{GREATEST_VLAN_ID, TextFault, well_shaped};
+use nk_values::{TextFault, well_shaped};
 use std::alloc::Global;
-use topology_model::{Draft, LineError, Topology};
+use topology_model::Draft;
+
+mod finishing;
+
+pub use finishing::refused;
 
 // The most policies, packets and events of a document.
 const MOST_POLICIES: usize = 64;
@@ -36,8 +40,7 @@ impl Reader {
     ghost use Rattle.document_text.specs.declared.document.PacketLine.{PacketLine as Packet};
     ghost use Rattle.document_text.specs.States.{State, initial_state, is_late};
     ghost use Rattle.document_text.specs.Steps.{step, is_too_many, declares};
-    ghost use Rattle.document_text.specs.Grammar.{finished};
-    ghost use Rattle.document_text.specs.Answers.{texts, IsAnswer};
+    ghost use Rattle.document_text.specs.Answers.{texts};
     ghost use Rattle.document_text.specs.Lines.{behind_topology, behind_policies};
     ghost use Rattle.document_text.specs.Answers.{state_of, FindsEdge, Lets, TakesLine, Passes};
 
@@ -162,46 +165,4 @@ impl Reader {
         self.declared.reached = LineKind::Packet;
         Ok(())
     }
-
-    /// The document of all lines. The line after the last one has this number.
-    pub fn finish(self, alloc: Global, line: u64) -> Result<Document, DocumentError>
-        ensures { IsAnswer (finished (state_of self) line) result }
-    {
-        if self.declared.inside {
-            return Err(refused(line, TextFault::BadLine));
-        }
-        let Reader { draft, declared } = self;
-        let topology = match Topology::finish(alloc, draft) {
-            Ok(topology) => topology,
-            Err(LineError::Fault(fault)) => return Err(refused(line, fault)),
-            Err(LineError::Memory) => return Err(DocumentError::Memory),
-        };
-        if declared.policies.is_empty() {
-            return Err(refused(line, TextFault::NoPolicy));
-        }
-        Ok(Document {
-            topology,
-            policies: declared.policies,
-            packets: declared.packets,
-            settings: Settings {
-                hops: declared.hops.unwrap_or(64),
-                capacity: declared.capacity.unwrap_or(200_000),
-                stamps: declared.stamps.unwrap_or((1, GREATEST_VLAN_ID)),
-                rejoins: declared.rejoins.unwrap_or(0),
-                overlap: declared.overlap,
-            },
-            schedule: declared.events,
-        })
-    }
-}
-
-/// Refused at a line.
-pub fn refused(line: u64, fault: TextFault) -> DocumentError
-    ensures { result ≡ to.Fault (record { fault = fault; line = line; column = 1 }) }
-{
-    DocumentError::Fault(DocFault {
-        fault,
-        line,
-        column: 1,
-    })
 }

@@ -14,6 +14,10 @@ use std::alloc::{AllocError, Global};
 use std::marker::Model;
 use update_coordinator::Coordinator;
 
+mod echoes;
+
+use echoes::no_echoes;
+
 /// A journal with its coordinator, whether the drive was closed, and the answers that are still to be sent.
 pub struct Drive<L: DriveName, E: Link, Q: Receipt> {
     pub(crate) held: Steered<L, E, Q>,
@@ -44,13 +48,12 @@ impl<L: DriveName, E: Link, Q: Receipt> Model for Drive<L, E, Q> {
 }
 
 impl<L: DriveName, E: Link, Q: Receipt> Drive<L, E, Q> {
-    ghost use Rattle.std.specs.Prelude.{◌≡◌, ◌≢◌, ◌<◌, ◌↔◌, ◌⊎◌, ◌++◌, ◌∷◌, [], None, Some, true, false, IsTrue, IfOk, IfErr, OnOk, OnErr, IfSome, length, replicate};
-    ghost use Rattle.openflow_wire.specs.Writing.{Fits};
+    ghost use Rattle.std.specs.Prelude.{◌≡◌, ◌≢◌, ◌<◌, ◌↔◌, ◌++◌, ◌∷◌, [], None, true, false, IsTrue, IfOk, IfErr, OnOk, OnErr, length, replicate};
     ghost use Rattle.update_coordinator.specs.Calls.{drain_refusal};
     ghost use Rattle.update_coordinator.specs.Sending.{MaySend};
     ghost use Rattle.drive_journal.specs.declared.steering.Steering.TheVariants as steering;
     ghost use Rattle.drive_journal.specs.Cuts.{Halts, HandsBack, IsAmong, KeepsEnd, Refuses, Sends};
-    ghost use Rattle.drive_journal.specs.Drives.{IsBeside, Stops, answering, echo_at};
+    ghost use Rattle.drive_journal.specs.Drives.{IsBeside, Stops};
     ghost use Rattle.drive_journal.specs.Journals.{IsWritable, MetBy, told_before};
     ghost use Rattle.drive_journal.specs.Steering.{Steers};
 
@@ -89,33 +92,6 @@ impl<L: DriveName, E: Link, Q: Receipt> Drive<L, E, Q> {
         ensures start { result ≡ length L.start.peers }
     {
         self.held.switch_count()
-    }
-
-    /// Whether an answer is still to be sent to the switch at a place.
-    pub fn has_echo(&self, place: usize) -> bool
-        requires { place < length L.start.peers }
-        ensures { IsTrue result ↔ (echo_at self.now place ≢ None) }
-    {
-        self.echoes[place].is_some()
-    }
-
-    /// Takes the answer that is still to be sent to the switch at a place.
-    pub fn take_echo(&mut self, place: usize) -> Option<Message>
-        requires { place < length L.start.peers }
-        ensures is { result ≡ echo_at self.old place }
-        ensures fits { IfSome result Fits }
-        ensures taken { self.new ≡ answering self.old place None }
-    {
-        self.echoes[place].take()
-    }
-
-    /// Notes what is to be answered to the last message of the switch at a place.
-    pub fn note_echo(&mut self, place: usize, reply: Option<Message>)
-        requires place { place < length L.start.peers }
-        requires fits { IfSome reply Fits }
-        ensures { self.new ≡ answering self.old place reply }
-    {
-        self.echoes[place] = reply;
     }
 
     /// Sends the next message to the switch at a place. A copy of it is given, unless memory
@@ -195,17 +171,4 @@ impl<L: DriveName, E: Link, Q: Receipt> Drive<L, E, Q> {
         } = self;
         held
     }
-}
-
-// No answer to any of the switches.
-fn no_echoes(alloc: Global, count: usize) -> Result<Vec<Option<Message>>, AllocError>
-    ensures { IfOk result (λ v. v.items ≡ replicate count None) }
-{
-    let mut echoes = Vec::new(alloc);
-    for _ in 0..count {
-        let Ok(()) = echoes.push(None) else {
-            return Err(AllocError);
-        };
-    }
-    Ok(echoes)
 }

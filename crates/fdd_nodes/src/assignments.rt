@@ -1,13 +1,12 @@
 //! Copies: what one copy of a packet is assigned.
 //!
-//! Layer: diagrams; public. Called by `cell`, `leaf` and `names` here, and by many crates.
-ghost use Rattle.std.specs.Prelude.{◌≡◌, ◌↔◌, ◌++◌, IsTrue, IfOk, OnOk};
+//! Layer: diagrams; public. Called by many modules here, and by many crates.
+ghost use Rattle.std.specs.Prelude.{◌≡◌, ◌↔◌, IsTrue, IfOk};
 ghost use Rattle.nk_values.specs.declared.lit.Lit.{Lit};
-ghost use Rattle.fdd_nodes.specs.Copies.{IsCopy, strip, after, assigned};
-ghost use Rattle.fdd_nodes.specs.Makes.{made, IsFreeOf};
+ghost use Rattle.fdd_nodes.specs.Copies.{IsCopy, assigned};
+ghost use Rattle.fdd_nodes.specs.Makes.{IsFreeOf};
 
 use crate::cell::Cell;
-use crate::covering::covers;
 use nk_values::{Field, Lit, Packet};
 use smallvec::SmallVec;
 use std::alloc::{AllocError, Global};
@@ -15,6 +14,12 @@ use std::cmp::Ordering;
 use std::hash::{Hash, Hasher};
 use std::marker::Model;
 use std::rc::Rc;
+
+mod following;
+mod lists;
+
+pub(crate) use lists::applied;
+use lists::{assigned_in, none_fixed};
 
 /// The assignments of one copy, each field at most once, in field order. Clauses see the list of them.
 ///
@@ -100,35 +105,6 @@ impl Assignments {
         assigned_in(self.lits.as_slice(), f)
     }
 
-    /// The assignments without those that a cell fixes. They are shared if it fixes none.
-    pub fn stripped(&self, alloc: Global, cell: &Cell) -> Result<Assignments, AllocError>
-        ensures stripped { IfOk result (λ r. r ≡ strip cell.now self.now) }
-        ensures copy { IsCopy self.now }
-    {
-        if self.is_free_of(cell) {
-            return self.copy();
-        }
-        let kept = unfixed(alloc, cell, self.lits())?;
-        Assignments::new(alloc, kept)
-    }
-
-    /// These assignments, and then others. The others are shared if they assign each field that these do.
-    pub fn followed_by(&self, alloc: Global, later: &Assignments) -> Result<Assignments, AllocError>
-        ensures after { IfOk result (λ r. r ≡ after self.now later.now) }
-        ensures copy { IsCopy self.now }
-    {
-        let (lits, more) = (self.lits(), later.lits());
-        if more.is_empty() {
-            return self.copy();
-        }
-        if covers(more, lits) {
-            return later.copy();
-        }
-        let mut both = SmallVec::new(alloc);
-        push_after(&mut both, lits, more)?;
-        Assignments::new(alloc, both)
-    }
-
     /// Whether a cell fixes none of these.
     pub fn is_free_of(&self, cell: &Cell) -> bool
         ensures free { IsTrue result ↔ IsFreeOf cell.now self.now }
@@ -211,84 +187,4 @@ impl Hash for Assignments {
     fn hash<H: Hasher>(&self, state: &mut H) {
         self.lits.as_slice().hash(state);
     }
-}
-
-pub(crate) fn applied(lits: &[Lit], packet: &Packet) -> Packet
-    ensures { result ≡ made lits.now packet.now }
-{
-    let mut changed = *packet;
-    for l in lits {
-        changed = l.put(&changed);
-    }
-    changed
-}
-
-fn assigned_in(lits: &[Lit], f: Field) -> Option<u64>
-    ensures { result ≡ assigned lits.now f }
-{
-    for l in lits {
-        if l.field().place() == f.place() {
-            return Some(l.value());
-        }
-    }
-    None
-}
-
-fn unfixed(alloc: Global, cell: &Cell, lits: &[Lit]) -> Result<SmallVec<Lit, 4>, AllocError>
-    ensures { IfOk result (λ r. r.items ≡ strip cell.now lits.now) }
-{
-    let mut kept = SmallVec::new(alloc);
-    for l in lits {
-        if !l.holds(cell.generic()) {
-            kept.push(*l)?;
-        }
-    }
-    Ok(kept)
-}
-
-fn none_fixed(lits: &[Lit], cell: &Cell) -> bool
-    ensures { IsTrue result ↔ IsFreeOf cell.now lits.now }
-{
-    for l in lits {
-        if l.holds(cell.generic()) {
-            return false;
-        }
-    }
-    true
-}
-
-// Adds literals and later ones in field order: of a field that both have, the later one.
-#[cycle(after)]
-fn push_after(out: &mut SmallVec<Lit, 4>, lits: &[Lit], later: &[Lit]) -> Result<(), AllocError>
-    requires lits { IsCopy lits.now }
-    requires later { IsCopy later.now }
-    ensures { OnOk result (out.new.items ≡ out.old.items ++ after lits.now later.now) }
-{
-    let Some((l, more)) = later.split_first() else {
-        return push_all(out, lits);
-    };
-    let Some((m, rest)) = lits.split_first() else {
-        return push_all(out, later);
-    };
-    let (place, other) = (l.field().place(), m.field().place());
-    if other < place {
-        out.push(*m)?;
-        push_after(out, rest, later)
-    } else {
-        out.push(*l)?;
-        if other == place {
-            push_after(out, rest, more)
-        } else {
-            push_after(out, lits, more)
-        }
-    }
-}
-
-fn push_all(out: &mut SmallVec<Lit, 4>, lits: &[Lit]) -> Result<(), AllocError>
-    ensures { OnOk result (out.new.items ≡ out.old.items ++ lits.now) }
-{
-    for l in lits {
-        out.push(*l)?;
-    }
-    Ok(())
 }

@@ -1,6 +1,6 @@
 //! Assignments of which later ones leave nothing.
 //!
-//! Layer: diagrams; private. Called by `assignments`.
+//! Layer: diagrams; private. Called by `following`.
 ghost use Rattle.std.specs.Prelude.{◌≡◌, IsTrue};
 ghost use Rattle.fdd_nodes.specs.Copies.{IsCopy, after};
 

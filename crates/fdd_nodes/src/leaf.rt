@@ -1,20 +1,22 @@
 //! Leaves: sets of copies.
 //!
 //! Layer: diagrams; public. Called by `fdd`, `node` and `normal` here, and by many crates.
-ghost use Rattle.std.specs.Prelude.{◌≡◌, ◌↔◌, [], IsTrue, IfOk, OnOk, MatchOption};
+ghost use Rattle.std.specs.Prelude.{◌≡◌, ◌↔◌, [], IsTrue, IfOk, OnOk};
 ghost use Rattle.std.specs.List.Sorted.{IsStrictlySortedBy};
-ghost use Rattle.nk_values.specs.Members.{IsIn, SameMembers};
-ghost use Rattle.fdd_nodes.specs.Copies.{copy_cmp, IsPlace};
-ghost use Rattle.fdd_nodes.specs.Makes.{Makes, MakesAll, AreFreeOf};
+ghost use Rattle.nk_values.specs.Members.{SameMembers};
+ghost use Rattle.fdd_nodes.specs.Copies.{copy_cmp};
 ghost use Rattle.fdd_nodes.specs.Trees.{outcomes};
 
 use crate::assignments::Assignments;
-use crate::cell::Cell;
 use nk_values::Packet;
 use std::alloc::{AllocError, Global};
-use std::cmp::Ordering;
 use std::hash::{Hash, Hasher};
 use std::marker::Model;
+
+mod copies;
+
+pub(crate) use copies::{are_free_of, made_by, makes};
+use copies::{copied, is_rising, makes_all, place_for};
 
 /// The copies of a leaf, each once, in rising order. Clauses see the list of them.
 pub struct Leaf {
@@ -160,30 +162,6 @@ impl Hash for Leaf {
     }
 }
 
-// Whether each copy comes before the next one.
-fn is_rising(copies: &[Assignments]) -> bool
-    ensures { IsTrue result → IsStrictlySortedBy copy_cmp copies.now }
-{
-    for n in 1..copies.len() {
-        if copies[n - 1].cmp(&copies[n]) != Ordering::Less {
-            return false;
-        }
-    }
-    true
-}
-
-// Where a copy is to stand among rising copies, or none if it stands already.
-fn place_for(copies: &[Assignments], copy: &Assignments) -> Option<usize>
-    requires { IsStrictlySortedBy copy_cmp copies.now }
-    ensures { MatchOption result (IsIn copies.now copy.now) (IsPlace copy.now copies.now) }
-{
-    let n = copies.len();
-    if n > 0 && copies[n - 1].cmp(copy) == Ordering::Less {
-        return Some(n);
-    }
-    copies.binary_search(copy).err()
-}
-
 fn put_all(leaf: &mut Leaf, copies: Vec<Assignments>) -> Result<(), AllocError>
     requires { leaf.old ≡ [] }
     ensures { OnOk result (SameMembers leaf.new copies.items) }
@@ -192,65 +170,4 @@ fn put_all(leaf: &mut Leaf, copies: Vec<Assignments>) -> Result<(), AllocError>
         leaf.put(copy)?;
     }
     Ok(())
-}
-
-fn copied(alloc: Global, copies: &[Assignments]) -> Result<Vec<Assignments>, AllocError>
-    ensures { IfOk result (λ r. r.items ≡ copies.now) }
-{
-    let mut all = Vec::with_capacity(alloc, copies.len())?;
-    for c in copies {
-        all.push(c.copy()?)?;
-    }
-    Ok(all)
-}
-
-// What copies make of a packet, one packet for each copy.
-pub(crate) fn made_by(
-    alloc: Global,
-    copies: &[Assignments],
-    packet: &Packet,
-) -> Result<Vec<Packet>, AllocError>
-    ensures { IfOk result (λ r. r.items ≡ outcomes copies.now packet.now) }
-{
-    let mut all = Vec::with_capacity(alloc, copies.len())?;
-    for c in copies {
-        all.push(c.apply(packet))?;
-    }
-    Ok(all)
-}
-
-// Whether some copy makes the second packet of the first.
-pub(crate) fn makes(copies: &[Assignments], packet: &Packet, made: &Packet) -> bool
-    ensures { IsTrue result ↔ Makes copies.now packet.now made.now }
-{
-    for c in copies {
-        if c.apply(packet) == *made {
-            return true;
-        }
-    }
-    false
-}
-
-// Whether the second copies make all that the first make of a packet.
-fn makes_all(xs: &[Assignments], ys: &[Assignments], packet: &Packet) -> bool
-    ensures { IsTrue result ↔ MakesAll xs.now ys.now packet.now }
-{
-    for c in xs {
-        if !makes(ys, packet, &c.apply(packet)) {
-            return false;
-        }
-    }
-    true
-}
-
-// Whether a cell fixes no literal of the copies.
-pub(crate) fn are_free_of(copies: &[Assignments], cell: &Cell) -> bool
-    ensures { IsTrue result ↔ AreFreeOf cell.now copies.now }
-{
-    for c in copies {
-        if !c.is_free_of(cell) {
-            return false;
-        }
-    }
-    true
 }

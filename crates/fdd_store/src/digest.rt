@@ -1,6 +1,6 @@
 //! What a store tells at once of a diagram.
 //!
-//! Layer: diagrams; private. Called by `store`.
+//! Layer: diagrams; private. Called by `looks`, `puts` and `store`.
 ghost use Rattle.std.specs.Prelude.{◌≡◌, ◌⊎◌, true};
 ghost use Rattle.nk_values.specs.declared.field.Field.{Field};
 ghost use Rattle.nk_values.specs.declared.lit.Lit.{Lit};

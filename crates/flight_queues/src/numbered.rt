@@ -1,6 +1,6 @@
 //! Numbers of copies.
 //!
-//! Layer: rows and packets; public. Called by `flights` and `queue`. Clauses of world_journal name it.
+//! Layer: rows and packets; public. Called by `flights`, `numbers` and `queue`. Clauses of world_journal name it.
 use packet_tracer::Flight;
 
 /// A copy with its number: a later one has a greater number.

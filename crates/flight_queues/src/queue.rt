@@ -1,6 +1,6 @@
 //! The copies at one switch.
 //!
-//! Layer: rows and packets; public. Called by `flights`. Clauses of world_journal name it.
+//! Layer: rows and packets; public. Called by `flights` and `numbers`. Clauses of world_journal name it.
 ghost use Rattle.std.specs.Prelude.{◌≡◌, ◌∷◌, ◌++◌, [], length, Some, option_map, slice_get, OnOk, OnErr};
 ghost use Rattle.nk_values.specs.Members.{IsIn};
 ghost use Rattle.flight_queues.specs.Merged.{AreRising, HasNumber, found, numbers_of, renumbered, without};

@@ -1,6 +1,6 @@
 //! Rows as an index keeps them.
 //!
-//! Layer: rows and packets; private. Called by `group` and `index`.
+//! Layer: rows and packets; private. Called by `group`, `groups` and `index`.
 ghost use Rattle.std.specs.Prelude.{◌≡◌};
 ghost use Rattle.flow_index.specs.Entries.{corner_of, entry_of, rank_of};
 

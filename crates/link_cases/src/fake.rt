@@ -1,16 +1,17 @@
 //! A switch at the other end of a wire.
 //!
 //! Layer: tests; private. Called by `case`, `memory` and `tcp`.
-ghost use Rattle.std.specs.Prelude.{IfSome};
 ghost use Rattle.openflow_wire.specs.Writing.{Fits};
 
 use crate::wire::Wire;
 use bytes::BytesMut;
 use of_framing::Framer;
-use openflow_wire::{Message, Octets, encode};
+use openflow_wire::{Message, encode};
 use outside_net::Job;
 use std::alloc::Global;
 use switch_model::Switch;
+
+mod replies;
 
 /// What a switch does otherwise than others.
 #[derive(Clone, Copy, Debug, PartialEq, Eq)]
@@ -79,61 +80,6 @@ impl<W: Wire> Fake<W> {
             _ => 1,
         };
         self.say(&Message::Hello { version: 1, xid: 0 }, version)
-    }
-
-    // Says an answer, if there is one, and whether it went out.
-    fn answer(&mut self, answer: Option<Message>) -> bool
-        requires { IfSome answer Fits }
-    {
-        let Some(message) = answer else {
-            return true;
-        };
-        if self.twist == Twist::Probes && !self.probe() {
-            return false;
-        }
-        let message = self.twisted(message);
-        match self.twist {
-            Twist::Speaks(version) => self.say(&message, version),
-            _ => self.say(&message, 1),
-        }
-    }
-
-    // Asks whether the other side is there.
-    fn probe(&mut self) -> bool {
-        let Ok(payload) = Octets::from_slice(self.alloc, b"there?") else {
-            return false;
-        };
-        self.say(&Message::EchoRequest { xid: 77, payload }, 1)
-    }
-
-    // The message as this switch says it.
-    fn twisted(&self, message: Message) -> Message
-        requires { Fits message }
-        ensures { Fits result }
-    {
-        match (message, self.twist) {
-            (
-                Message::FeaturesReply {
-                    xid,
-                    datapath: _,
-                    buffers,
-                    tables,
-                    capabilities,
-                    actions,
-                    ports,
-                },
-                Twist::Tells(datapath),
-            ) => Message::FeaturesReply {
-                xid,
-                datapath,
-                buffers,
-                tables,
-                capabilities,
-                actions,
-                ports,
-            },
-            (message, _) => message,
-        }
     }
 
     // Takes a message, applies what is pending, and answers the barrier; and says whether it can go on.

@@ -1,15 +1,19 @@
 //! Operands in a row, as far as they were read.
 //!
-//! Layer: texts that are read; private. Called by `reading`.
-ghost use Rattle.std.specs.Prelude.{◌≡◌, ◌<◌, ◌++◌, ℕ, Bool, List, [], ◌∷◌, map, IsTrue, OnOk, vec_len, vec_capacity};
-ghost use Rattle.nk_syntax.specs.Terms.{Guard, Term, Filter};
-ghost use Rattle.nk_syntax.specs.Views.{term_of, guard_of};
+//! Layer: texts that are read; private. Called by `operands`, `operators` and `reading`.
+ghost use Rattle.std.specs.Prelude.{◌≡◌, ◌<◌, ◌++◌, Bool, List, [], ◌∷◌, IsTrue, OnOk, vec_len, vec_capacity};
+ghost use Rattle.nk_syntax.specs.Terms.{Term, Filter};
 ghost use Rattle.netkat_parser.specs.Grammar.{sum_of, seq_of};
-ghost use Rattle.netkat_parser.specs.Showing.{or_of, and_of, AreOperands, IsOperand, HasOperandRoom, AreChain, HaveRoom};
+ghost use Rattle.netkat_parser.specs.Showing.{AreOperands, IsOperand, HasOperandRoom, AreChain, HaveRoom};
 
-use nk_syntax::{Pol, Pols, Pred, Preds};
+use nk_syntax::{Pol, Pred};
 use std::alloc::{AllocError, Global};
 use std::mem;
+
+mod joins;
+
+pub use joins::pred_of;
+use joins::{and, or, seq, sum};
 
 /// Operands of a sum or a sequence: policies, or predicates inside a `not`.
 #[derive(Drop)]
@@ -102,72 +106,6 @@ pub fn put<T: Drop>(out: &mut Vec<T>, item: T)
     match out.push(item) {
         Ok(()) => {}
         Err(_) => prove!(false),
-    }
-}
-
-/// The predicate of a filter.
-pub fn pred_of(pol: Pol) -> Pred
-    ensures { (a : Guard) → term_of pol ≡ Filter a → guard_of result ≡ a }
-{
-    match pol {
-        Pol::Filter(pred) => pred,
-        _ => Pred::Zero,
-    }
-}
-
-// One policy as it is, several as a sum.
-#[tactic(auto, using(crate::proofs::Chains::sum_of_many))]
-fn sum(mut all: Vec<Pol>) -> Pol
-    ensures { term_of result ≡ sum_of (map term_of all.items) }
-{
-    if all.len() != 1 {
-        return Pol::Sum(Pols { items: all });
-    }
-    match all.pop() {
-        Some(pol) => pol,
-        None => unreachable!(),
-    }
-}
-
-// One policy as it is, several as a sequence.
-#[tactic(auto, using(crate::proofs::Chains::seq_of_many))]
-fn seq(mut all: Vec<Pol>) -> Pol
-    ensures { term_of result ≡ seq_of (map term_of all.items) }
-{
-    if all.len() != 1 {
-        return Pol::Seq(Pols { items: all });
-    }
-    match all.pop() {
-        Some(pol) => pol,
-        None => unreachable!(),
-    }
-}
-
-// One predicate as it is, several as an `And`.
-#[tactic(auto, using(crate::proofs::Chains::and_of_many))]
-fn and(mut all: Vec<Pred>) -> Pred
-    ensures { guard_of result ≡ and_of (map guard_of all.items) }
-{
-    if all.len() != 1 {
-        return Pred::And(Preds { items: all });
-    }
-    match all.pop() {
-        Some(pred) => pred,
-        None => unreachable!(),
-    }
-}
-
-// One predicate as it is, several as an `Or`.
-#[tactic(auto, using(crate::proofs::Chains::or_of_many))]
-fn or(mut all: Vec<Pred>) -> Pred
-    ensures { guard_of result ≡ or_of (map guard_of all.items) }
-{
-    if all.len() != 1 {
-        return Pred::Or(Preds { items: all });
-    }
-    match all.pop() {
-        Some(pred) => pred,
-        None => unreachable!(),
     }
 }
 

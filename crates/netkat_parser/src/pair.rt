@@ -1,6 +1,6 @@
 //! Pairs of field and value, which most of a policy's text is.
 //!
-//! Layer: texts that are read; private. Called by `pairing` and `reading`.
+//! Layer: texts that are read; private. Called by `operands` and `pairing`.
 ghost use Rattle.std.specs.Prelude.{◌≡◌, false, IfSome};
 ghost use Rattle.nk_syntax.specs.Views.{term_of};
 ghost use Rattle.nk_values.specs.Lits.{lit_field, lit_value};

@@ -1,6 +1,6 @@
 //! A sign that has no place.
 //!
-//! Layer: texts that are read; private. Called by `reading`.
+//! Layer: texts that are read; private. Called by `operands`, `operators` and `reading`.
 ghost use Rattle.std.specs.Prelude.{◌≡◌};
 ghost use Rattle.netkat_parser.specs.Grammar.{stray};
 

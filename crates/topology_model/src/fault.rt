@@ -1,6 +1,6 @@
 //! Why lines make no topology.
 //!
-//! Layer: values and policies; public. Called by `draft` and `topology` here, and by many crates.
+//! Layer: values and policies; public. Called by `adding` and `building` here, and by many crates.
 ghost use Rattle.std.specs.Prelude.{◌≡◌};
 
 use nk_values::TextFault;

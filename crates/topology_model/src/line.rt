@@ -1,7 +1,6 @@
 //! The lines of a topology.
 //!
-//! Layer: values and policies; public. Called by `draft`, `terms` and `topology` here, and by many crates. Clauses of
-//! many crates name it.
+//! Layer: values and policies; public. Called by many modules here, and by many crates. Clauses of many crates name it.
 use nk_values::{Field, List};
 
 /// A port of a switch: the switch's number, 1 to 65535, and the port's, 1 to 65279.

@@ -1,6 +1,6 @@
 //! The policies from which the terms of a topology are made.
 //!
-//! Layer: values and policies; private. Called by `topology`.
+//! Layer: values and policies; private. Called by `terms`.
 ghost use Rattle.std.specs.Prelude.{◌≡◌, IfOk};
 ghost use Rattle.nk_values.specs.Ranges.{IsLiteralOf};
 ghost use Rattle.nk_values.specs.Lits.{lit_field, lit_value};

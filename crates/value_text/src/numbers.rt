@@ -1,6 +1,6 @@
 //! The texts of numbers in decimal. Texts of values, and reports, put them.
 //!
-//! Layer: the program; public. Called by `rules` and `values` here, and by report_text.
+//! Layer: the program; public. Called by `patterns`, `rules` and `values` here, and by report_text.
 ghost use Rattle.std.specs.Prelude.{◌≡◌, ◌+◌, ◌/◌, ◌%◌, ◌++◌, ◌<◌, ◌≤◌, ◌∷◌, [], OnOk, string_bytes, decimal};
 
 use crate::values::put_ascii;

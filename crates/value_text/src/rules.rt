@@ -3,15 +3,19 @@
 //! Layer: the program; public. Called by audit_command and report_text.
 ghost use Rattle.std.specs.Prelude.{◌≡◌, ◌++◌, OnOk, IfOk, string_bytes};
 ghost use Rattle.value_text.specs.Values.{line};
-ghost use Rattle.value_text.specs.Rules.{in_text, vlan_text, fixed_text, address_of, frame_text, network_text, pattern_text, set_text, set_words, action_text, more_actions, actions_text, row_text, rows_text, port_text, switch_text, band_text, head_text, version_text, versions_text, rules_text};
+ghost use Rattle.value_text.specs.Rules.{set_text, set_words, action_text, actions_text, row_text, rows_text, port_text, switch_text, band_text, head_text, version_text, rules_text};
 
 use crate::numbers::put_number;
 use crate::text::Text;
-use crate::values::{put_ascii, put_field, put_value};
-use nk_values::{Action, Band, Field, IN_PORT, Pattern, PortRows, Prefix, Row, Rows, UNTAGGED};
+use crate::values::{put_ascii, put_value};
+use nk_values::{Action, Band, Field, IN_PORT, PortRows, Row, Rows};
 use policy_rows::Version;
 use std::alloc::{AllocError, Global};
 use topology_model::{DeclaredSwitch, Topology};
+
+mod patterns;
+
+use patterns::put_pattern;
 
 /// The rows of all policies, which count from 1: for each its stamp and band, and switch by switch the rows of
 /// its ports, in the order in which they count.
@@ -112,102 +116,6 @@ pub fn put_row(out: &mut String, row: &Row) -> Result<(), AllocError>
     out.push_str(" : ")?;
     put_actions(out, row.actions.as_slice())?;
     put_ascii(out, b'\n')
-}
-
-// Puts what a pattern fixes at the end.
-fn put_pattern(out: &mut String, pattern: &Pattern) -> Result<(), AllocError>
-    ensures { OnOk result (string_bytes out.new ≡ string_bytes out.old ++ pattern_text pattern.now) }
-{
-    put_in(out, pattern.in_port)?;
-    put_vlan(out, pattern.dl_vlan)?;
-    put_frame(out, pattern)?;
-    put_network(out, pattern)
-}
-
-fn put_in(out: &mut String, port: Option<u16>) -> Result<(), AllocError>
-    ensures { OnOk result (string_bytes out.new ≡ string_bytes out.old ++ in_text port) }
-{
-    match port {
-        None => Ok(()),
-        Some(port) => {
-            out.push_str(" in=")?;
-            put_number(out, u64::from(port))
-        }
-    }
-}
-
-fn put_vlan(out: &mut String, vlan: Option<u16>) -> Result<(), AllocError>
-    ensures { OnOk result (string_bytes out.new ≡ string_bytes out.old ++ vlan_text vlan) }
-{
-    match vlan {
-        None => Ok(()),
-        Some(UNTAGGED) => out.push_str(" vlan=none"),
-        Some(id) => {
-            out.push_str(" vlan=")?;
-            put_number(out, u64::from(id))
-        }
-    }
-}
-
-fn put_frame(out: &mut String, pattern: &Pattern) -> Result<(), AllocError>
-    ensures { OnOk result (string_bytes out.new ≡ string_bytes out.old ++ frame_text pattern.now) }
-{
-    put_fixed(out, Field::EthTyp, half(pattern.dl_type))?;
-    put_fixed(out, Field::IpProto, byte(pattern.nw_proto))?;
-    put_fixed(out, Field::EthSrc, pattern.dl_src)?;
-    put_fixed(out, Field::EthDst, pattern.dl_dst)
-}
-
-fn put_network(out: &mut String, pattern: &Pattern) -> Result<(), AllocError>
-    ensures { OnOk result (string_bytes out.new ≡ string_bytes out.old ++ network_text pattern.now) }
-{
-    put_fixed(out, Field::Ip4Src, address(pattern.nw_src))?;
-    put_fixed(out, Field::Ip4Dst, address(pattern.nw_dst))?;
-    put_fixed(out, Field::TcpSrcPort, half(pattern.tp_src))?;
-    put_fixed(out, Field::TcpDstPort, half(pattern.tp_dst))
-}
-
-// The number of 16 bits, if there is one.
-fn half(number: Option<u16>) -> Option<u64>
-    ensures { result ≡ number }
-{
-    match number {
-        None => None,
-        Some(number) => Some(u64::from(number)),
-    }
-}
-
-// The number of 8 bits, if there is one.
-fn byte(number: Option<u8>) -> Option<u64>
-    ensures { result ≡ number }
-{
-    match number {
-        None => None,
-        Some(number) => Some(u64::from(number)),
-    }
-}
-
-// The address, if some of its bits are fixed. The rows of a policy fix all of them.
-fn address(prefix: Option<Prefix>) -> Option<u64>
-    ensures { result ≡ address_of prefix }
-{
-    match prefix {
-        None => None,
-        Some(prefix) => Some(u64::from(prefix.address)),
-    }
-}
-
-// Puts a field and its number at the end, if it is fixed.
-fn put_fixed(out: &mut String, field: Field, number: Option<u64>) -> Result<(), AllocError>
-    ensures { OnOk result (string_bytes out.new ≡ string_bytes out.old ++ fixed_text field number) }
-{
-    match number {
-        None => Ok(()),
-        Some(number) => {
-            put_ascii(out, b' ')?;
-            put_field(out, field, number)
-        }
-    }
 }
 
 // Puts actions at the end, joined by commas, or `drop`.

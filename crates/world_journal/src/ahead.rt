@@ -1,6 +1,6 @@
 //! What a worker did ahead of its calls, under one lock: its next calls hand it out one by one, and take no lock.
 //!
-//! Layer: runs; private. Called by `run_desk`.
+//! Layer: runs; private. Called by `making` and `run_desk`.
 ghost use Rattle.std.specs.Prelude.{◌≡◌, ◌%◌, [], IfSome};
 ghost use Rattle.worker_desk.specs.Answers.{CanBeWritten, OnNewEnd};
 ghost use Rattle.world_journal.specs.Ahead.{IsWork};

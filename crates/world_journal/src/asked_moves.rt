@@ -1,7 +1,7 @@
 //! What the caller and the workers that bring packets in ask of the run that lies under the lock, with the post of the step
 //! that was made. If the run was taken out, nothing happens and whoever asks is to stop.
 //!
-//! Layer: runs; private. Called by `run_desk`.
+//! Layer: runs; private. Called by `moves`.
 ghost use Rattle.std.specs.Prelude.{◌≡◌, IfOk, OnErr};
 ghost use Rattle.world_journal.specs.Asking.{OnRun};
 ghost use Rattle.world_journal.specs.Calls.{IsUnmoved};

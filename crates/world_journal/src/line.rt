@@ -1,6 +1,6 @@
 //! Packets that are to come in.
 //!
-//! Layer: runs; public. Called by `run` here, and by fleet_workers and thread_commands.
+//! Layer: runs; public. Called by `making`, `run` and `steps` here, and by fleet_workers and thread_commands.
 use nk_values::{Packet, Tag};
 
 /// A packet that comes in once in a run, with its tag.

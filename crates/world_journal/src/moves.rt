@@ -1,6 +1,6 @@
 //! What the workers that bring packets in ask of a run.
 //!
-//! Layer: runs; public. Called by `asked_moves`, `run_desk` and `updates` here, and by fleet_workers.
+//! Layer: runs; public. Called by `asked_moves`, `moves` and `updates` here, and by fleet_workers.
 ghost use Rattle.std.specs.Prelude.{◌≡◌, ℕ, IfOk, IfSome, IfNone, OnErr};
 ghost use Rattle.world_core.specs.declared.event.Event.TheVariants as event;
 ghost use Rattle.world_core.specs.declared.event.PacketEvent.TheVariants as of_packet;

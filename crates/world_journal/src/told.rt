@@ -1,6 +1,6 @@
 //! How many messages were told in the present sessions: a run counts them with the steps that tell them.
 //!
-//! Layer: runs; private. Called by `run`.
+//! Layer: runs; private. Called by `steps`.
 ghost use Rattle.std.specs.Prelude.{◌≡◌, ◌<◌, ◌+◌, false, None, OnOk, OnErr, Err, Some};
 ghost use Rattle.world_core.specs.Steps.{IsEnabled};
 ghost use Rattle.world_core.specs.declared.fault.StepFault.TheVariants as faults;

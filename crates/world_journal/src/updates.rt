@@ -1,6 +1,6 @@
 //! What the caller asks of a run.
 //!
-//! Layer: runs; public. Called by `asked_moves` and `run_desk` here, and by fleet_workers.
+//! Layer: runs; public. Called by `asked_moves` and `moves` here, and by fleet_workers.
 ghost use Rattle.std.specs.Prelude.{◌≡◌, ◌≢◌, ◌<◌, ◌+◌, ◌↔◌, ℕ, IfOk, IfSome, IfNone, IsTrue, OnErr};
 ghost use Rattle.world_core.specs.declared.event.Event.{Event as EventValue};
 ghost use Rattle.world_core.specs.declared.event.Event.TheVariants as event;

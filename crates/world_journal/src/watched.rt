@@ -1,6 +1,6 @@
 //! What lies under the one lock of a run: the run beside the pen that posts its steps.
 //!
-//! Layer: runs; public. Called by `asked_moves`, `asks` and `run_desk` here, and by fleet_workers.
+//! Layer: runs; public. Called by many modules here, and by fleet_workers.
 ghost use Rattle.std.specs.Prelude.{◌≡◌, ◌<◌, [], false, length, IfOk, IfErr};
 ghost use Rattle.watch_laws.specs.Watching.{ArePosts, IsPosted};
 ghost use Rattle.world_journal.specs.Arriving.{IsOver};

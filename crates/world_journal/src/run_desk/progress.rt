@@ -1,0 +1,45 @@
+//! How far a run is, as its workers compare it.
+//!
+//! Layer: runs; private. Called by `making` and `run_desk`.
+ghost use Rattle.std.specs.Prelude.{◌<◌, ◌↔◌, None, IsTrue};
+ghost use Rattle.world_journal.specs.Finishing.{CanFinish};
+
+use crate::name::RunName;
+use crate::poster::Poster;
+use crate::watched::Watched;
+use outside_net::Link;
+use update_coordinator::Phase;
+use worker_desk::Given;
+
+// Whether there was nothing to do.
+pub(super) fn is_idle<E>(given: &Given<E>) -> bool {
+    matches!(given, Given::Nothing { made: None })
+}
+
+// What decides for all workers whether there is something to do: the phase, and whether the coordinator has halted.
+#[derive(Clone, Copy, Debug, PartialEq, Eq)]
+pub(super) struct Progress {
+    phase: Phase,
+    halted: bool,
+}
+
+pub(super) fn progress_of<L: RunName, P: Poster, E: Link>(
+    run: &Option<Watched<L, P, E>>,
+) -> Option<Progress> {
+    let watched = run.as_ref()?;
+    let coordinator = watched.run.world().coordinator();
+    Some(Progress {
+        phase: coordinator.phase(),
+        halted: coordinator.halt().is_some(),
+    })
+}
+
+// Whether there is a run, and it is done.
+pub(super) fn is_done<L: RunName, P: Poster, E: Link>(run: &Option<Watched<L, P, E>>) -> bool
+    ensures { IsTrue result ↔ CanFinish L.all L.lines run.now }
+{
+    match run {
+        None => false,
+        Some(there) => there.run.is_done(),
+    }
+}
