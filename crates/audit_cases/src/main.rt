@@ -1,11 +1,11 @@
 //! Reads cases from standard input, and prints how reported rows differ from planned ones.
 //!
-//! A row is written as `PRIORITY [exact] [in=PORT] [ethDst=ADDRESS] : PORT ..`, with the ports that it sends to; `exact` fixes each
-//! other field to 0. A line `plan ROW | ROW ..` gives the planned rows. `report ROW | ROW ..` is one reply with rows, `report more
-//! ROW | ROW ..` one that says that more come, and `other` a message of another kind. `audit` prints the verdict on the messages
-//! since the last one, or why they are no report. `table N` asks a switch for its N rows, and prints how many replies it gives, how
-//! many bytes the first and the last one take, how many say that more come, and the verdict on them. Any other line is printed as
-//! it is.
+//! A row is written as `PRIORITY [exact] [in=PORT] [ethDst=ADDRESS] : PORT ..`, with the ports that it sends to;
+//! `exact` fixes each other field to 0. A line `plan ROW | ROW ..` gives the planned rows. `report ROW | ROW ..` is one
+//! reply with rows, `report more ROW | ROW ..` one that says that more come, and `other` a message of another kind.
+//! `audit` prints the verdict on the messages since the last one, or why they are no report. `table N` asks a switch
+//! for its N rows, and prints how many replies it gives, how many bytes the first and the last one take, how many say
+//! that more come, and the verdict on them. Any other line is printed as it is.
 //!
 //! Layer: tests; nothing calls it.
 #![tactic(auto)]

@@ -1,4 +1,5 @@
--- What `nkctl audit` answers: the report of a schedule, and how the tables of its last world differ from the planned rows.
+-- What `nkctl audit` answers: the report of a schedule, and how the tables of its last world differ from the planned
+-- rows.
 use Rattle.std.specs.Prelude.{◌≡◌, ℕ, zero, suc, Bool, List, ◌++◌, length, is_some}
 use Rattle.document_text.specs.Documents.{Doc}
 use Rattle.flow_audit.specs.declared.verdict.Verdict.{Verdict}
@@ -24,9 +25,11 @@ pub record IsAuditLine (w : WorldValue) (place : ℕ) (text : List ℕ) : Type 0
 -- the text is the report and then the lines of the first switches
 abbrev pub HasAudits : WorldValue → ℕ → List ℕ → List ℕ → Type 0
 HasAudits w zero report text = text ≡ report
-HasAudits w (suc place) report text = (before : List ℕ) × (here : List ℕ) × HasAudits w place report before × IsAuditLine w place here × (text ≡ before ++ here)
+HasAudits w (suc place) report text = (before : List ℕ) × (here : List ℕ) × HasAudits w place report before ×
+    IsAuditLine w place here × (text ≡ before ++ here)
 
--- The text is the report of the events of the whole schedule and of the world then, and the lines of all switches there; `halts` says whether the updates stand still then.
+-- The text is the report of the events of the whole schedule and of the world then, and the lines of all switches
+-- there; `halts` says whether the updates stand still then.
 pub record IsAuditOf (halts : Bool) (d : Doc) (versions : List Version) (text : List ℕ) : Type 0 where
   pub events : List Event
   pub world : WorldValue
@@ -45,7 +48,8 @@ pub record IsAudit (halts : Bool) (xs text : List ℕ) : Type 0 where
   pub accepted : IsAcceptedAs xs document versions
   pub audit : IsAuditOf halts document versions text
 
--- The source was read to its end, and the text is the report and the audits of its schedule: Halted if the updates stand still then, and Done if not.
+-- The source was read to its end, and the text is the report and the audits of its schedule: Halted if the updates
+-- stand still then, and Done if not.
 pub record IsAuditAnswer (source : SourceSeen) (status : Status) (text : List ℕ) : Type 0 where
   pub halts : Bool
   pub status_is : status ≡ report_status halts

@@ -28,7 +28,8 @@ use world_core::{Events, World};
 /// the switch holds once the batch of the phase is done; or the first line whose event cannot happen. Each switch is
 /// asked for its rows by flow statistics (OpenFlow 1.0.0, 5.3.5), in messages that go as bytes.
 pub fn audit_answer<S: Source>(alloc: Global, source: &mut S) -> Result<Answer, AnswerError>
-    ensures answer { IfOk result (λ a. IsAuditAnswer (source_of S.left S.faults source.old source.new) a.status a.text) }
+    ensures answer { IfOk result
+        (λ a. IsAuditAnswer (source_of S.left S.faults source.old source.new) a.status a.text) }
     ensures stops { IfErr result (Stops IsSimulateRefused (source_of S.left S.faults source.old source.new)) }
     ensures at_most { TakesAtMost 4194305 (S.left source.old) (S.left source.new) }
 {
@@ -76,7 +77,8 @@ fn with_audits(alloc: Global, world: &World, report: &Text) -> Result<Text, Allo
 
 // Puts the line of each switch at the end, in the order of the document.
 fn put_audits(alloc: Global, out: &mut String, world: &World) -> Result<(), AllocError>
-    ensures { OnOk result (HasAudits world.now (length world.now.topology.switches) (string_bytes out.old) (string_bytes out.new)) }
+    ensures { OnOk result (HasAudits world.now (length world.now.topology.switches) (string_bytes out.old)
+        (string_bytes out.new)) }
 {
     for (place, site) in world.topology().switches().iter().enumerate() {
         let verdict = audit_switch(alloc, world, place)?;

@@ -24,13 +24,15 @@ abbrev pub is_new : List Post → ℕ → Bool
 is_new [] n = true
 is_new (p ∷ ps) n = not ((last_post p ps).count == n)
 
--- An eye that knows these posts may have seen those: each is known, their counts rise, and the newest that is known has no smaller one.
+-- An eye that knows these posts may have seen those: each is known, their counts rise, and the newest that is known has
+-- no smaller one.
 pub record AreSights (known seen : List Post) : Type 0 where
   pub each : AllByRecursion (IsKnown known) seen
   pub rising : do_rise seen ≡ true
   pub below : (last_post opening seen).count ≤ (newest known).count
 
--- What was seen of a board with these posts: some with rising counts, and last the newest, which may repeat the one before.
+-- What was seen of a board with these posts: some with rising counts, and last the newest, which may repeat the one
+-- before.
 pub record AreSeen (posts seen : List Post) : Type 0 where
   pub before : List Post
   pub sights : AreSights posts before

@@ -16,8 +16,9 @@ const READS: u64 = 1000;
 // By how many microseconds each pause is longer than the one before.
 const LONGER: u64 = 10;
 
-/// A worker that reads a board until a read is halted, or idle under the last policy, or the run is over. It reads at most
-/// 1,000 times, with pauses that grow: many reads fall into the first milliseconds, and the last into the fifth second.
+/// A worker that reads a board until a read is halted, or idle under the last policy, or the run is over. It reads at
+/// most 1,000 times, with pauses that grow: many reads fall into the first milliseconds, and the last into the fifth
+/// second.
 #[derive(Drop)]
 pub struct Watcher<R: Wait + Clock + Drop, J: BoardName> {
     desk: SightDesk<R, J>,

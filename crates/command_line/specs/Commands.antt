@@ -1,9 +1,11 @@
 -- The words of a command line.
-use Rattle.std.specs.Prelude.{◌≡◌, ◌==◌, ℕ, Bool, true, not, nat_eq, nat_lt, if◌then◌else◌, List, [], ◌∷◌, map, Option, Some, None, option_and_then, String, string_bytes, codes}
+use Rattle.std.specs.Prelude.{◌≡◌, ◌==◌, ℕ, Bool, true, not, nat_eq, nat_lt, if◌then◌else◌, List, [], ◌∷◌, map, Option}
+use Rattle.std.specs.Prelude.{Some, None, option_and_then, String, string_bytes, codes}
 use Rattle.std.specs.declared.alloc.Global.{Global}
 use Rattle.netkat_parser.specs.Numbers.{numeral, at_most}
 use Rattle.command_line.specs.declared.command.Command.{Command}
-use Rattle.command_line.specs.declared.command.Command.TheVariants.{Rules, Trace, Simulate, Equiv, Audit, Run, Watch, Drive, Generate}
+use Rattle.command_line.specs.declared.command.Command.TheVariants.{Rules, Trace, Simulate, Equiv, Audit, Run, Watch}
+use Rattle.command_line.specs.declared.command.Command.TheVariants.{Drive, Generate}
 
 -- the word does not begin with a dash
 abbrev pub is_plain : List ℕ → Bool
@@ -15,7 +17,8 @@ IsPlain word = is_plain (string_bytes word) ≡ true
 
 -- the number of a workload: 1 to 4 decimal digits, from 1 to 1,000
 abbrev pub workload_number : List ℕ → Option ℕ
-workload_number digits = option_and_then (λ n. if nat_eq n 0 then None else Some n) (at_most 1000 (numeral 10 1 4 digits))
+workload_number digits =
+    option_and_then (λ n. if nat_eq n 0 then None else Some n) (at_most 1000 (numeral 10 1 4 digits))
 
 -- the first port of a drive: 1 to 5 decimal digits, from 1,024 to 65,000
 abbrev pub base_port : List ℕ → Option ℕ
@@ -27,11 +30,13 @@ IsName word words = (name : List ℕ) × (map string_bytes words ≡ name ∷ wo
 
 -- the program's name, the word `generate`, and the digits of this number
 abbrev pub IsNumbered : ℕ → List (String Global) → Type 0
-IsNumbered n words = (name : List ℕ) × (digits : List ℕ) × (map string_bytes words ≡ name ∷ codes "generate" ∷ digits ∷ []) × (workload_number digits ≡ Some n)
+IsNumbered n words = (name : List ℕ) × (digits : List ℕ) ×
+    (map string_bytes words ≡ name ∷ codes "generate" ∷ digits ∷ []) × (workload_number digits ≡ Some n)
 
 -- the program's name, the word `drive`, and the digits of this port
 abbrev pub IsFromPort : ℕ → List (String Global) → Type 0
-IsFromPort n words = (name : List ℕ) × (digits : List ℕ) × (map string_bytes words ≡ name ∷ codes "drive" ∷ digits ∷ []) × (base_port digits ≡ Some n)
+IsFromPort n words = (name : List ℕ) × (digits : List ℕ) ×
+    (map string_bytes words ≡ name ∷ codes "drive" ∷ digits ∷ []) × (base_port digits ≡ Some n)
 
 -- The words ask for the command.
 abbrev pub Asks : Command → List (String Global) → Type 0

@@ -11,7 +11,8 @@ pub record ReporterSeen (Q : Type 0) : Type 0 where
 abbrev pub reporter_of : {Q : Type 0} → (Q → ℕ) → Change ℕ → ReporterSeen Q
 reporter_of stamped faults = record { faults = faults; stamped = stamped }
 
--- a call: its words, its source, its sink, its net, how often a thread could not be made, and its reporter, which makes reports Q
+-- a call: its words, its source, its sink, its net, how often a thread could not be made, and its reporter, which makes
+-- reports Q
 pub record Called (Q : Type 0) : Type 0 where
   pub words : List (String Global)
   pub source : SourceSeen
@@ -20,5 +21,7 @@ pub record Called (Q : Type 0) : Type 0 where
   pub threads : Change ℕ
   pub reporter : ReporterSeen Q
 
-abbrev pub called : {Q : Type 0} → List (String Global) → SourceSeen → SinkSeen → NetSeen → Change ℕ → ReporterSeen Q → Called Q
-called words source sink net threads reporter = record { words = words; source = source; sink = sink; net = net; threads = threads; reporter = reporter }
+abbrev pub called : {Q : Type 0} → List (String Global) → SourceSeen → SinkSeen → NetSeen → Change ℕ → ReporterSeen Q →
+    Called Q
+called words source sink net threads reporter =
+    record { words = words; source = source; sink = sink; net = net; threads = threads; reporter = reporter }

@@ -8,7 +8,8 @@ use Rattle.value_text.specs.declared.fault.Fault.{Fault}
 use Rattle.value_text.specs.declared.fault.Fault.TheVariants as fault
 use Rattle.value_text.specs.Faults.{fault_text}
 use Rattle.program_answer.specs.declared.status.Status.{Status}
-use Rattle.program_answer.specs.declared.status.Status.TheVariants.{Done, Refused, Usage, Halted, ReadFault, WriteFault, NetFault, NoThread, Memory, ReportFault}
+use Rattle.program_answer.specs.declared.status.Status.TheVariants.{Done, Refused, Usage, Halted, ReadFault, WriteFault}
+use Rattle.program_answer.specs.declared.status.Status.TheVariants.{NetFault, NoThread, Memory, ReportFault}
 use Rattle.program_answer.specs.Called.{Change, HasRisen, IsSame, NetSeen}
 use Rattle.program_answer.specs.Statuses.{status_of}
 use Rattle.program_answer.specs.Writing.{Wrote, WrotePrefix}
@@ -28,11 +29,12 @@ ReadsFrom Takes words = (k : Command) × Takes k × IsReader k × Asks k words
 -- ---- what is due
 
 -- The words ask for a command, and the text is its report.
-pub record IsAnswered {Q : Type 0} (Takes : Command → Type 0) (c : Called Q) (status : Status) (text : List ℕ) : Type 0 where
-  pub command : Command
-  pub takes : Takes command
-  pub asks : Asks command c.words
-  pub answer : IsAnswer command c status text
+pub record IsAnswered {Q : Type 0} (Takes : Command → Type 0) (c : Called Q) (status : Status) (text : List ℕ) : Type 0
+  where
+    pub command : Command
+    pub takes : Takes command
+    pub asks : Asks command c.words
+    pub answer : IsAnswer command c status text
 
 -- The words ask for a command that stops for this fault, and the text is the fault's line.
 pub record IsStopped {Q : Type 0} (Takes : Command → Type 0) (c : Called Q) (f : Fault) (text : List ℕ) : Type 0 where
@@ -42,7 +44,8 @@ pub record IsStopped {Q : Type 0} (Takes : Command → Type 0) (c : Called Q) (f
   pub stop : IsStop command c f
   pub line : text ≡ fault_text f
 
--- The words ask for a command that refuses its document, a policy of it or a line of its schedule, and the text is the line of that fault.
+-- The words ask for a command that refuses its document, a policy of it or a line of its schedule, and the text is the
+-- line of that fault.
 pub record IsRefusal {Q : Type 0} (Takes : Command → Type 0) (c : Called Q) (text : List ℕ) : Type 0 where
   pub fault : Fault
   pub refused : status_of fault ≡ Refused
@@ -80,7 +83,8 @@ pub record IsCutShort {Q : Type 0} (Takes : Command → Type 0) (c : Called Q) :
 -- `taken`: of the source no more is taken than shows that it is too long;
 -- `no_command`: other words give the usage line, unless the sink fails or memory runs out;
 -- `complete`: a command that no fault stops gives its report, unless the sink fails or memory runs out;
--- `refuses`: what its command does not take is refused, unless a read or a write fails or memory runs out, whatever links and threads do.
+-- `refuses`: what its command does not take is refused, unless a read or a write fails or memory runs out, whatever
+-- links and threads do.
 pub record IsCall {Q : Type 0} (Takes : Command → Type 0) (c : Called Q) (status : Status) : Type 0 where
   pub wrote : status ≢ WriteFault → status ≢ Memory → Wrote (IsDue Takes c status) c.sink
   pub write_fault : status ≡ WriteFault → HasRisen c.sink.faults
@@ -89,8 +93,11 @@ pub record IsCall {Q : Type 0} (Takes : Command → Type 0) (c : Called Q) (stat
   pub writes : status ≢ WriteFault → IsSame c.sink.faults
   pub taken : TakesAtMost 4194305 c.source.left.before c.source.left.after
   pub no_command : ¬ (IsLine Takes c.words) → ((status ≡ Usage) ⊎ (status ≡ WriteFault)) ⊎ (status ≡ Memory)
-  pub complete : (k : Command) → Takes k → Asks k c.words → ((f : Fault) → ¬ (IsStop k c f)) → ¬ (HasRisen c.sink.faults) → ((status ≡ Done) ⊎ (status ≡ Halted)) ⊎ (status ≡ Memory)
-  pub refuses : (k : Command) → Takes k → IsReader k → Asks k c.words → ¬ (HasRisen c.source.faults) → ¬ (HasRisen c.sink.faults) → IfSome c.source.left.before (λ xs. ¬ (Accepts k xs) → (status ≡ Refused) ⊎ (status ≡ Memory))
+  pub complete : (k : Command) → Takes k → Asks k c.words → ((f : Fault) → ¬ (IsStop k c f)) →
+      ¬ (HasRisen c.sink.faults) → ((status ≡ Done) ⊎ (status ≡ Halted)) ⊎ (status ≡ Memory)
+  pub refuses : (k : Command) → Takes k → IsReader k → Asks k c.words → ¬ (HasRisen c.source.faults) →
+      ¬ (HasRisen c.sink.faults) →
+      IfSome c.source.left.before (λ xs. ¬ (Accepts k xs) → (status ≡ Refused) ⊎ (status ≡ Memory))
 
 -- ---- calls without links, threads and a reporter
 

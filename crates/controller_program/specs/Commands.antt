@@ -1,7 +1,8 @@
 -- What each command answers, and why it stops: a line of each table a command.
 use Rattle.std.specs.Prelude.{◌≡◌, ℕ, List}
 use Rattle.command_line.specs.declared.command.Command.{Command}
-use Rattle.command_line.specs.declared.command.Command.TheVariants.{Rules, Trace, Simulate, Equiv, Audit, Run, Watch, Drive, Generate}
+use Rattle.command_line.specs.declared.command.Command.TheVariants.{Rules, Trace, Simulate, Equiv, Audit, Run, Watch}
+use Rattle.command_line.specs.declared.command.Command.TheVariants.{Drive, Generate}
 use Rattle.value_text.specs.declared.fault.Fault.{Fault}
 use Rattle.program_answer.specs.declared.status.Status.{Status}
 use Rattle.program_answer.specs.Answers.{StopsBy}

@@ -18,7 +18,9 @@ AnswersTo k c (Err (error.Fault f)) = IsStop k c f
 AnswersTo k c (Err error.Memory) = IsSame c.source.faults
 
 -- What the words come to, where these commands are taken.
-pub data AnswersWords {Q : Type 0} (Takes : Command → Type 0) (c : Called Q) (r : Result Answer AnswerError) : Type 0 where
-  by : (k : Command) → Takes k → Asks k c.words → AnswersTo k c r → (¬ (IsReader k) → IsSame c.source.faults) → AnswersWords Takes c r
-  none : ¬ (IsLine Takes c.words) → r ≡ Err (error.Fault fault.Usage) → IsSame c.source.faults → AnswersWords Takes c r
-  memory : r ≡ Err error.Memory → IsSame c.source.faults → AnswersWords Takes c r
+pub data AnswersWords {Q : Type 0} (Takes : Command → Type 0) (c : Called Q) (r : Result Answer AnswerError) : Type 0
+  where
+    by : (k : Command) → Takes k → Asks k c.words → AnswersTo k c r → (¬ (IsReader k) → IsSame c.source.faults) →
+        AnswersWords Takes c r
+    none : ¬ (IsLine Takes c.words) → r ≡ Err (error.Fault fault.Usage) → IsSame c.source.faults → AnswersWords Takes c r
+    memory : r ≡ Err error.Memory → IsSame c.source.faults → AnswersWords Takes c r

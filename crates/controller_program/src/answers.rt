@@ -31,7 +31,9 @@ pub fn plain_answer<S: Source>(
     words: &[String],
     source: &mut S,
 ) -> Result<Answer, AnswerError>
-    ensures answers { (sink : SinkSeen) → AnswersWords IsThreadless (called words.now (source_of S.left S.faults source.old source.new) sink no_net still no_reporter) result }
+    ensures answers { (sink : SinkSeen) →
+        AnswersWords IsThreadless
+        (called words.now (source_of S.left S.faults source.old source.new) sink no_net still no_reporter) result }
     ensures at_most { TakesAtMost 4194305 (S.left source.old) (S.left source.new) }
     ensures untouched { ¬ (ReadsFrom IsThreadless words.now) → source.new ≡ source.old }
 {
@@ -63,7 +65,10 @@ pub fn any_answer<
 where
     N::End: 'static,
     Q::Receipt: Send + 'static,
-    ensures answers { (sink : SinkSeen) → AnswersWords IsAny (called words.now (source_of S.left S.faults source.old source.new) sink (net_of N.faults N.broken N.gathered net.old net.new) (change T.faults threads.old threads.new) (reporter_of Q.Receipt.stamped (change Q.faults reporter.old reporter.new))) result }
+    ensures answers { (sink : SinkSeen) →
+        AnswersWords IsAny (called words.now (source_of S.left S.faults source.old source.new) sink
+        (net_of N.faults N.broken N.gathered net.old net.new) (change T.faults threads.old threads.new)
+        (reporter_of Q.Receipt.stamped (change Q.faults reporter.old reporter.new))) result }
     ensures at_most { TakesAtMost 4194305 (S.left source.old) (S.left source.new) }
     ensures untouched { ¬ (ReadsFrom IsAny words.now) → source.new ≡ source.old }
     ensures untouched_net { ¬ (IsLine IsThreaded words.now) → net.new ≡ net.old }
@@ -90,7 +95,8 @@ fn command_answer<S: Source>(
     command: Command,
     source: &mut S,
 ) -> Result<Answer, AnswerError>
-    ensures answers { IsThreadless command → (c : Called ℕ) → c.source ≡ source_of S.left S.faults source.old source.new → AnswersTo command c result }
+    ensures answers { IsThreadless command → (c : Called ℕ) →
+        c.source ≡ source_of S.left S.faults source.old source.new → AnswersTo command c result }
     ensures threads { IsThreaded command → result ≡ Err (AnswerError.Fault Fault.Usage) }
     ensures at_most { TakesAtMost 4194305 (S.left source.old) (S.left source.new) }
     ensures untouched { ¬ (IsThreadless command × IsReader command) → source.new ≡ source.old }

@@ -1,8 +1,8 @@
 //! Reads documents from standard input, each after a line `== ..`, and prints that line and what the document
 //! says in short, or the line and the column of its first fault with the fault's number and name.
 //!
-//! The lines of a document are joined by LF, so the last one has none. `\r` stands for CR. What is printed of a document that
-//! comes byte by byte, and of one that is cut in two, at each place, has to be the same.
+//! The lines of a document are joined by LF, so the last one has none. `\r` stands for CR. What is printed of a
+//! document that comes byte by byte, and of one that is cut in two, at each place, has to be the same.
 //!
 //! Layer: tests; nothing calls it.
 #![tactic(auto)]

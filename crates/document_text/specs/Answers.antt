@@ -1,5 +1,6 @@
 -- What the answers of the reader stand for.
-use Rattle.std.specs.Prelude.{◌≡◌, ⊤, ℕ, Bool, true, false, nat_lt, if◌then◌else◌, List, map, Option, Some, None, Result, Ok, Err}
+use Rattle.std.specs.Prelude.{◌≡◌, ⊤, ℕ, Bool, true, false, nat_lt, if◌then◌else◌, List, map, Option, Some, None}
+use Rattle.std.specs.Prelude.{Result, Ok, Err}
 use Rattle.std.specs.Borrow.{Bor}
 use Rattle.nk_values.specs.declared.text_fault.TextFault.{TextFault}
 use Rattle.nk_values.specs.declared.text_fault.TextFault.TheVariants.{BadLine, Limit, NoEdge, ValueRange}
@@ -126,7 +127,14 @@ Passes x old new (Err stop.Memory) = new ≡ old
 
 -- what the words of a packet line have given
 abbrev pub given_of : GivenFields → packets.GivenFields
-given_of g = record { names = texts g.names.keys; packet = g.packet; tag = g.tag; unknown = g.unknown; outside = g.outside }
+given_of g = record {
+  names = texts g.names.keys;
+  packet = g.packet;
+  tag = g.tag;
+  unknown = g.unknown;
+  outside =
+      g.outside;
+}
 
 -- what was given is this, or the word is at fault, unless memory ran out
 abbrev pub GivesValues : {U : Type 0} → Option packets.GivenFields → packets.GivenFields → Result U Stop → Type 0

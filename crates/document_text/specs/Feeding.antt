@@ -1,5 +1,6 @@
 -- Documents that come in pieces.
-use Rattle.std.specs.Prelude.{◌≡◌, ℕ, zero, suc, ◌+◌, ◌*◌, ◌==◌, Bool, false, not, ◌||◌, List, [], ◌∷◌, ◌++◌, length, take, drop}
+use Rattle.std.specs.Prelude.{◌≡◌, ℕ, zero, suc, ◌+◌, ◌*◌, ◌==◌, Bool, false, not, ◌||◌, List, [], ◌∷◌, ◌++◌, length}
+use Rattle.std.specs.Prelude.{take, drop}
 use Rattle.netkat_parser.specs.declared.fault.Position.{Position}
 use Rattle.netkat_parser.specs.declared.feeding.PolicyReader.{PolicyReader}
 use Rattle.netkat_parser.specs.Cuts.{EndsAt}
@@ -16,8 +17,8 @@ use Rattle.document_text.specs.Texts.{first_len, lines_of}
 
 -- ---- what comes of a text from a spot on
 
--- What comes of a text from a spot on, at a state and on the line with this number, where the policy's text so far is `front`.
--- Inside of a line, the text begins with the rest of that line.
+-- What comes of a text from a spot on, at a state and on the line with this number, where the policy's text so far is
+-- `front`. Inside of a line, the text begins with the rest of that line.
 abbrev pub ComesAt : Spot → State → ℕ → List ℕ → List ℕ → Outcome → Type 0
 ComesAt spot.Line s n front text o = IsFrom (Lines s) n (lines_of text) o
 ComesAt (spot.Text begin) s n front text o = IsFrom (Block s begin front) n (lines_of text) o
@@ -49,14 +50,16 @@ HoldsBytes r front = HoldsAt r.spot r.policy r.behind front
 abbrev pub counted : List ℕ → List ℕ
 counted text = take (most_bytes + 1) text
 
--- How many bytes of the text count is known, and the line of the byte after those that a document may have; and whatever may
--- follow, what comes of it after what was read is what the grammar gives of the text with it. At the end nothing may follow.
+-- How many bytes of the text count is known, and the line of the byte after those that a document may have; and
+-- whatever may follow, what comes of it after what was read is what the grammar gives of the text with it. At the end
+-- nothing may follow.
 pub record StandsBy (end : Bool) (r : DocReader) (text : List ℕ) : Type 0 where
   pub fed : r.fed ≡ length (counted text)
   pub row : r.row ≡ line_behind (take most_bytes text)
   pub front : List ℕ
   pub holds : HoldsBytes r front
-  pub goes : (rest : List ℕ) (o : Outcome) → EndsAt end rest → Comes r front rest o → IsFrom (Lines initial_state) 1 (lines_of (counted text ++ rest)) o
+  pub goes : (rest : List ℕ) (o : Outcome) → EndsAt end rest → Comes r front rest o →
+      IsFrom (Lines initial_state) 1 (lines_of (counted text ++ rest)) o
 
 -- The reader stands for a text.
 abbrev pub StandsFor : DocReader → List ℕ → Type 0
@@ -132,9 +135,11 @@ pub record KeepsSpot (old new : DocReader) : Type 0 where
 -- the first bytes that were pending stand after the policy's text
 pub record HandsBack (len : ℕ) (old new : DocReader) : Type 0 where
   pub pending : new.pending.items ≡ drop len old.pending.items
-  pub stands : (begin : ℕ) (front : List ℕ) → StandsIn begin old.policy old.behind front → StandsIn begin new.policy new.behind (front ++ take len old.pending.items)
+  pub stands : (begin : ℕ) (front : List ℕ) → StandsIn begin old.policy old.behind front →
+      StandsIn begin new.policy new.behind (front ++ take len old.pending.items)
 
 -- nothing more of the policy's text was read
 pub record GivesNothing (old new : DocReader) : Type 0 where
   pub pending : new.pending ≡ old.pending
-  pub stands : (begin : ℕ) (front : List ℕ) → StandsIn begin old.policy old.behind front → StandsIn begin new.policy new.behind front
+  pub stands : (begin : ℕ) (front : List ℕ) → StandsIn begin old.policy old.behind front →
+      StandsIn begin new.policy new.behind front

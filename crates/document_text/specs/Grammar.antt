@@ -1,5 +1,6 @@
 -- The grammar of documents, with the first fault: line by line, from the first one on.
-use Rattle.std.specs.Prelude.{◌≡◌, ◌⊎◌, ℕ, Bool, true, false, not, ◌+◌, ◌==◌, nat_le, nat_lt, List, [], ◌∷◌, ◌++◌, length, take, count_by, if◌then◌else◌}
+use Rattle.std.specs.Prelude.{◌≡◌, ◌⊎◌, ℕ, Bool, true, false, not, ◌+◌, ◌==◌, nat_le, nat_lt, List, [], ◌∷◌, ◌++◌}
+use Rattle.std.specs.Prelude.{length, take, count_by, if◌then◌else◌}
 use Rattle.nk_values.specs.declared.text_fault.TextFault.{TextFault}
 use Rattle.nk_values.specs.declared.text_fault.TextFault.TheVariants.{BadLine, Limit, NoEdge, NoPolicy}
 use Rattle.nk_values.specs.Packets.{IsWellShaped}
@@ -52,7 +53,8 @@ Chosen false A B = B
 -- a line in each mode; the line with the one word `end` ends a policy's text
 abbrev pub Goes : (Mode → Type 0) → ℕ → Outcome → Mode → List ℕ → Type 0
 Goes Go n o (Lines s) line = Does Go n o (step s n (words_of line))
-Goes Go n o (Block s begin text) line = Chosen (is_end (words_of line)) (Closes Go o s begin text) (Go (Block s begin (text ++ line)))
+Goes Go n o (Block s begin text) line =
+    Chosen (is_end (words_of line)) (Closes Go o s begin text) (Go (Block s begin (text ++ line)))
 
 -- the document is whole after its last line
 abbrev pub finished : State → ℕ → Outcome
@@ -99,7 +101,8 @@ within_limit text o = if nat_le (length text) most_bytes then o else cut_off (li
 
 -- What a text is. Bytes after the first one that is too many don't count.
 abbrev pub IsReading : List ℕ → Outcome → Type 0
-IsReading text o = (whole : Outcome) × IsFrom (Lines initial_state) 1 (lines_of (take (most_bytes + 1) text)) whole × (o ≡ within_limit text whole)
+IsReading text o = (whole : Outcome) × IsFrom (Lines initial_state) 1 (lines_of (take (most_bytes + 1) text)) whole ×
+    (o ≡ within_limit text whole)
 
 -- the text is read as the document; it has this first fault
 abbrev pub IsDocument : List ℕ → Doc → Type 0

@@ -6,7 +6,8 @@ use Rattle.nk_syntax.specs.Terms.{Term}
 use Rattle.netkat_parser.specs.Grammar.{IsText}
 use Rattle.topology_model.specs.Layouts.{Layout, is_edge, has_switch, place_of}
 use Rattle.document_text.specs.declared.document.ScheduleStep.{ScheduleStep}
-use Rattle.document_text.specs.declared.document.ScheduleStep.TheVariants.{Send, Take, Apply, Reply, Heard, Arrive, Lost, Rejoin}
+use Rattle.document_text.specs.declared.document.ScheduleStep.TheVariants.{Send, Take, Apply, Reply, Heard, Arrive}
+use Rattle.document_text.specs.declared.document.ScheduleStep.TheVariants.{Lost, Rejoin}
 use Rattle.document_text.specs.declared.document.PacketLine.{PacketLine}
 use Rattle.document_text.specs.declared.document.ScheduleLine.{ScheduleLine}
 use Rattle.document_text.specs.declared.document.Settings.{Settings}
@@ -59,6 +60,7 @@ pub record IsWithin (d : Doc) : Type 0 where
   pub arrives : (p : PacketLine) → IsIn d.packets p → IsArrivalLine d.layout p
   pub named : (e : ScheduleLine) → IsIn d.schedule e → IsNamed d.layout (length d.packets) e.event
 
--- Each document that is read is within the limits, its policies are read from texts, its packets arrive at edge ports, and its events name what there is.
+-- Each document that is read is within the limits, its policies are read from texts, its packets arrive at edge ports,
+-- and its events name what there is.
 abbrev pub Within : Type 0
 Within = (text : List ℕ) (d : Doc) → IsDocument text d → IsWithin d

@@ -1,9 +1,13 @@
--- The lines of a document but for those of policies and of the schedule: what each has to be, and what it declares. Where a line has several faults, the first one named here is its fault.
-use Rattle.std.specs.Prelude.{ℕ, Bool, true, not, ◌==◌, ◌&&◌, ◌||◌, nat_le, List, [], ◌∷◌, codes, Option, None, Some, is_some, if◌then◌else◌, Result, Ok, Err, option_map, option_and_then}
+-- The lines of a document but for those of policies and of the schedule: what each has to be, and what it declares.
+-- Where a line has several faults, the first one named here is its fault.
+use Rattle.std.specs.Prelude.{ℕ, Bool, true, not, ◌==◌, ◌&&◌, ◌||◌, nat_le, List, [], ◌∷◌, codes, Option, None, Some}
+use Rattle.std.specs.Prelude.{is_some, if◌then◌else◌, Result, Ok, Err, option_map, option_and_then}
 use Rattle.std.specs.List.{list_all}
 use Rattle.std.specs.Str.{bytes_eq}
 use Rattle.nk_values.specs.declared.text_fault.TextFault.{TextFault}
-use Rattle.nk_values.specs.declared.text_fault.TextFault.TheVariants.{BadLine, NoEdge, NoPolicy, NotEdge, StampRange, TooFewStamps, UnknownName, UnknownPort, UnknownSwitch, ValueRange}
+use Rattle.nk_values.specs.declared.text_fault.TextFault.TheVariants.{BadLine, NoEdge, NoPolicy, NotEdge, StampRange}
+use Rattle.nk_values.specs.declared.text_fault.TextFault.TheVariants.{TooFewStamps, UnknownName, UnknownPort}
+use Rattle.nk_values.specs.declared.text_fault.TextFault.TheVariants.{UnknownSwitch, ValueRange}
 use Rattle.nk_values.specs.declared.field.Field.TheVariants.{Sw, Pt}
 use Rattle.topology_model.specs.Layouts.{place_of, has_switch, has_port, is_linked}
 use Rattle.topology_model.specs.Lines.{with_line, line_fault}
@@ -11,7 +15,8 @@ use Rattle.topology_model.specs.declared.line.TopoLine.{TopoLine}
 use Rattle.topology_model.specs.declared.line.TopoLine.TheVariants as topology
 use Rattle.document_text.specs.declared.document.PacketLine.{PacketLine}
 use Rattle.document_text.specs.declared.declaration.LineKind.{LineKind}
-use Rattle.document_text.specs.declared.declaration.LineKind.TheVariants.{Switch, Link, Setting, Policy, Packet, Schedule}
+use Rattle.document_text.specs.declared.declaration.LineKind.TheVariants.{Switch, Link, Setting, Policy, Packet}
+use Rattle.document_text.specs.declared.declaration.LineKind.TheVariants.{Schedule}
 use Rattle.document_text.specs.States.{State, place_of_kind, is_late, is_empty, has_edge}
 use Rattle.document_text.specs.Texts.{numeral, numerals, end_of}
 use Rattle.document_text.specs.Packets.{GivenFields, is_value, given_at, with_words}
@@ -28,7 +33,8 @@ placed s k l = placed_by (record s { reached = k; layout = with_line s.layout l 
 -- `switch S ports B1 B2 ..`
 abbrev pub switch_form : List (List ℕ) → Option (ℕ × List ℕ)
 switch_form (w ∷ p ∷ b ∷ bs) =
-    if bytes_eq p (codes "ports") then option_and_then (λ sw. option_map (λ ports. (sw, ports)) (numerals (b ∷ bs))) (numeral w) else None
+    if bytes_eq p (codes "ports") then option_and_then (λ sw. option_map (λ ports. (sw, ports)) (numerals (b ∷ bs)))
+    (numeral w) else None
 switch_form _ = None
 
 abbrev pub switch_line : State → List (List ℕ) → Result State TextFault
@@ -84,7 +90,8 @@ hops_line s ws = new_number s (is_some s.hops) 1 1000 ws (λ n. Ok (record s { r
 
 -- `capacity N`, 1 to 200,000
 abbrev pub capacity_line : State → List (List ℕ) → Result State TextFault
-capacity_line s ws = new_number s (is_some s.capacity) 1 200000 ws (λ n. Ok (record s { reached = Setting; capacity = Some n }))
+capacity_line s ws = new_number s (is_some s.capacity) 1 200000 ws
+    (λ n. Ok (record s { reached = Setting; capacity = Some n }))
 
 -- `stamps LO HI`, two or more of 1 to 4094
 abbrev pub stamps_line : State → List (List ℕ) → Result State TextFault
@@ -97,7 +104,8 @@ stamps_line s ws =
 
 -- `rejoins N`, 0 to 1,000
 abbrev pub rejoins_line : State → List (List ℕ) → Result State TextFault
-rejoins_line s ws = new_number s (is_some s.rejoins) 0 1000 ws (λ n. Ok (record s { reached = Setting; rejoins = Some n }))
+rejoins_line s ws = new_number s (is_some s.rejoins) 0 1000 ws
+    (λ n. Ok (record s { reached = Setting; rejoins = Some n }))
 
 -- `overlap` alone, once
 abbrev pub overlap_line : State → List (List ℕ) → Result State TextFault
@@ -137,5 +145,6 @@ packet_line s ws =
 -- `schedule` alone, once
 abbrev pub schedule_line : State → List (List ℕ) → Result State TextFault
 schedule_line s [] =
-    refused_if (nat_le 5 (place_of_kind s.reached)) BadLine (behind_policies s (Ok (record s { reached = Schedule; inside = true })))
+    refused_if (nat_le 5 (place_of_kind s.reached)) BadLine
+    (behind_policies s (Ok (record s { reached = Schedule; inside = true })))
 schedule_line s _ = Err BadLine

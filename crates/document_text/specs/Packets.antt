@@ -1,5 +1,6 @@
 -- The words of a packet line after its place.
-use Rattle.std.specs.Prelude.{ℕ, Bool, true, false, not, ◌==◌, ◌&&◌, nat_le, List, [], ◌∷◌, ◌++◌, length, slice_index, codes, Option, None, Some, if◌then◌else◌, option_map, option_and_then}
+use Rattle.std.specs.Prelude.{ℕ, Bool, true, false, not, ◌==◌, ◌&&◌, nat_le, List, [], ◌∷◌, ◌++◌, length, slice_index}
+use Rattle.std.specs.Prelude.{codes, Option, None, Some, if◌then◌else◌, option_map, option_and_then}
 use Rattle.std.specs.List.{list_any, list_all, find, before_first, after_first}
 use Rattle.std.specs.Char.{is_ascii_alphabetic, is_ascii_alphanumeric}
 use Rattle.std.specs.Str.{bytes_eq}
@@ -35,7 +36,8 @@ pair_of w =
     if is_name (before_first (λ b. b == 61) w) && is_run (after_first (λ b. b == 61) w)
     then Some (before_first (λ b. b == 61) w, after_first (λ b. b == 61) w) else None
 
--- What the words so far give: the names, the packet and its tag, whether a name is not listed, and whether a value is out of its range.
+-- What the words so far give: the names, the packet and its tag, whether a name is not listed, and whether a value is
+-- out of its range.
 pub record GivenFields : Type 0 where
   pub names : List (List ℕ)
   pub packet : Packet
@@ -48,7 +50,17 @@ abbrev pub plain_packet : ℕ × ℕ → Packet
 plain_packet e = record {
   sw = e.0;
   pt = e.1;
-  header = record { eth_typ = 2048; ip_proto = 0; eth_src = 0; eth_dst = 0; ip4_src = 0; ip4_dst = 0; tcp_src_port = 0; tcp_dst_port = 0 };
+  header = record {
+    eth_typ = 2048;
+    ip_proto = 0;
+    eth_src = 0;
+    eth_dst = 0;
+    ip4_src = 0;
+    ip4_dst = 0;
+    tcp_src_port =
+        0;
+    tcp_dst_port = 0;
+  };
 }
 
 abbrev pub given_at : ℕ × ℕ → GivenFields

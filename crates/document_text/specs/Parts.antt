@@ -15,7 +15,8 @@ use Rattle.document_text.specs.Lines.{switch_form, link_form, packet_form}
 use Rattle.document_text.specs.Steps.{head_of}
 use Rattle.document_text.specs.Texts.{lines_of, words_of, is_end}
 
--- A switch line, a link line or a packet line with the words after its first one; the text of a policy, between its first line and its `end` line; an event with the number and the words of its line.
+-- A switch line, a link line or a packet line with the words after its first one; the text of a policy, between its
+-- first line and its `end` line; an event with the number and the words of its line.
 pub data Part : Type 0 where
   SwitchLine : List (List ℕ) → Part
   LinkLine : List (List ℕ) → Part
@@ -48,7 +49,8 @@ part_of InSchedule n line (w ∷ ws) = if is_end (w ∷ ws) then ([], Free) else
 -- the parts of the lines from the one with this number on
 abbrev pub parts_from : Stand → ℕ → List (List ℕ) → List Part
 parts_from at n [] = []
-parts_from at n (line ∷ lines) = (part_of at n line (words_of line)).0 ++ parts_from (part_of at n line (words_of line)).1 (n + 1) lines
+parts_from at n (line ∷ lines) =
+    (part_of at n line (words_of line)).0 ++ parts_from (part_of at n line (words_of line)).1 (n + 1) lines
 
 abbrev pub parts_of : List ℕ → List Part
 parts_of text = parts_from Free 1 (lines_of text)
@@ -65,7 +67,8 @@ topology_in (LinkLine ws) = given_by (option_map (λ x. topology.Link x.0 x.1) (
 topology_in _ = []
 
 abbrev pub packets_in : Part → List PacketLine
-packets_in (PacketWords ws) = given_by (option_map (λ x. record { packet = x.1.packet; tag = x.1.tag }) (packet_form ws))
+packets_in (PacketWords ws) =
+    given_by (option_map (λ x. record { packet = x.1.packet; tag = x.1.tag }) (packet_form ws))
 packets_in _ = []
 
 abbrev pub texts_in : Part → List (List ℕ)
@@ -82,7 +85,8 @@ AreRead [] [] = Unit {0}
 AreRead (text ∷ texts) (p ∷ ps) = IsText text p × AreRead texts ps
 AreRead _ _ = ⊥
 
--- The topology of the switch lines and link lines, the policies of the texts, the packets of the packet lines and an event a line of the schedule, all in order.
+-- The topology of the switch lines and link lines, the policies of the texts, the packets of the packet lines and an
+-- event a line of the schedule, all in order.
 pub record Says (parts : List Part) (d : Doc) : Type 0 where
   pub layout : d.layout ≡ layout_of (flat_map topology_in parts)
   pub policies : AreRead (flat_map texts_in parts) d.policies

@@ -1,5 +1,6 @@
 -- The lines of a schedule.
-use Rattle.std.specs.Prelude.{ℕ, Bool, not, ◌&&◌, nat_le, List, [], ◌∷◌, length, Option, None, Some, if◌then◌else◌, Result, Ok, Err}
+use Rattle.std.specs.Prelude.{ℕ, Bool, not, ◌&&◌, nat_le, List, [], ◌∷◌, length, Option, None, Some, if◌then◌else◌}
+use Rattle.std.specs.Prelude.{Result, Ok, Err}
 use Rattle.event_words.specs.declared.word.EventWord.{EventWord}
 use Rattle.event_words.specs.declared.word.EventWord.TheVariants as word
 use Rattle.event_words.specs.Words.{word_of}
@@ -8,7 +9,9 @@ use Rattle.nk_values.specs.declared.text_fault.TextFault.TheVariants.{BadLine, U
 use Rattle.nk_values.specs.declared.field.Field.TheVariants.{Sw}
 use Rattle.topology_model.specs.Layouts.{has_switch}
 use Rattle.document_text.specs.declared.document.ScheduleStep.{ScheduleStep}
-use Rattle.document_text.specs.declared.document.ScheduleStep.TheVariants.{Begin, Send, Take, Apply, Reply, Heard, Arrive, Hop, Drained, Lost, Rejoin, Stuck, Settle, Flow}
+use Rattle.document_text.specs.declared.document.ScheduleStep.TheVariants.{Begin, Send, Take, Apply, Reply, Heard}
+use Rattle.document_text.specs.declared.document.ScheduleStep.TheVariants.{Arrive, Hop, Drained, Lost, Rejoin, Stuck}
+use Rattle.document_text.specs.declared.document.ScheduleStep.TheVariants.{Settle, Flow}
 use Rattle.document_text.specs.States.{State}
 use Rattle.document_text.specs.Packets.{is_value, is_vlan_id}
 use Rattle.document_text.specs.Texts.{numeral}
@@ -66,5 +69,6 @@ event_of_two s _ sw k = Err BadLine
 abbrev pub event_of : State → List (List ℕ) → Result ScheduleStep TextFault
 event_of s (w ∷ []) = formed (word_of w) event_alone
 event_of s (w ∷ a ∷ []) = formed (word_of w) (λ x. formed (numeral a) (event_of_one s x))
-event_of s (w ∷ a ∷ b ∷ []) = formed (word_of w) (λ x. formed (numeral a) (λ m. formed (numeral b) (event_of_two s x m)))
+event_of s (w ∷ a ∷ b ∷ []) =
+    formed (word_of w) (λ x. formed (numeral a) (λ m. formed (numeral b) (event_of_two s x m)))
 event_of s _ = Err BadLine

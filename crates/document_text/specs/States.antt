@@ -9,7 +9,8 @@ use Rattle.document_text.specs.declared.declaration.LineKind.{LineKind}
 use Rattle.document_text.specs.declared.declaration.LineKind.TheVariants as kind
 use Rattle.document_text.specs.Documents.{Doc}
 
--- The kind of the latest line, the topology, settings where they were given, policies, packets, and the schedule, inside of which the next line may stand.
+-- The kind of the latest line, the topology, settings where they were given, policies, packets, and the schedule,
+-- inside of which the next line may stand.
 pub record State : Type 0 where
   pub reached : LineKind
   pub layout : Layout

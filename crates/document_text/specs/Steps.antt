@@ -1,5 +1,6 @@
 -- One line after others.
-use Rattle.std.specs.Prelude.{ℕ, Bool, false, not, ◌&&◌, ◌||◌, nat_le, List, [], ◌∷◌, ◌++◌, length, codes, if◌then◌else◌, Result, Ok, Err}
+use Rattle.std.specs.Prelude.{ℕ, Bool, false, not, ◌&&◌, ◌||◌, nat_le, List, [], ◌∷◌, ◌++◌, length, codes}
+use Rattle.std.specs.Prelude.{if◌then◌else◌, Result, Ok, Err}
 use Rattle.std.specs.Str.{bytes_eq}
 use Rattle.nk_values.specs.declared.text_fault.TextFault.{TextFault}
 use Rattle.nk_values.specs.declared.text_fault.TextFault.TheVariants.{BadLine, Limit}
@@ -11,9 +12,11 @@ use Rattle.document_text.specs.declared.head.Head.TheVariants as head
 use Rattle.document_text.specs.States.{State}
 use Rattle.document_text.specs.Texts.{is_end}
 use Rattle.document_text.specs.Schedules.{event_of}
-use Rattle.document_text.specs.Lines.{switch_line, link_line, hops_line, capacity_line, stamps_line, rejoins_line, overlap_line, policy_line, packet_line, schedule_line}
+use Rattle.document_text.specs.Lines.{switch_line, link_line, hops_line, capacity_line, stamps_line, rejoins_line}
+use Rattle.document_text.specs.Lines.{overlap_line, policy_line, packet_line, schedule_line}
 
--- What a line does: reading goes on; or it does where the packet is well shaped; or a policy's text begins; or reading stops.
+-- What a line does: reading goes on; or it does where the packet is well shaped; or a policy's text begins; or reading
+-- stops.
 pub data Step : Type 0 where
   Next : State → Step
   Enters : PacketLine → State → Step

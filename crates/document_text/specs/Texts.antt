@@ -1,5 +1,6 @@
 -- From bytes to lines, words and numbers.
-use Rattle.std.specs.Prelude.{ℕ, suc, Bool, true, false, ◌==◌, ◌||◌, List, [], ◌∷◌, filter, codes, Option, Some, if◌then◌else◌, option_map, option_and_then}
+use Rattle.std.specs.Prelude.{ℕ, suc, Bool, true, false, ◌==◌, ◌||◌, List, [], ◌∷◌, filter, codes, Option, Some}
+use Rattle.std.specs.Prelude.{if◌then◌else◌, option_map, option_and_then}
 use Rattle.std.specs.List.{before_first, after_first}
 use Rattle.std.specs.Str.{bytes_eq}
 use Rattle.netkat_parser.specs.Numbers as parser
@@ -62,4 +63,5 @@ numerals (w ∷ ws) = option_and_then (λ n. option_map (λ ns. n ∷ ns) (numer
 
 -- `S:B`, a switch and a port; 58 is `:`
 abbrev pub end_of : List ℕ → Option (ℕ × ℕ)
-end_of w = option_and_then (λ sw. option_map (λ pt. (sw, pt)) (numeral (after_first (λ b. b == 58) w))) (numeral (before_first (λ b. b == 58) w))
+end_of w = option_and_then (λ sw. option_map (λ pt. (sw, pt)) (numeral (after_first (λ b. b == 58) w)))
+    (numeral (before_first (λ b. b == 58) w))

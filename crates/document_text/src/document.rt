@@ -13,8 +13,9 @@ pub struct PacketLine {
     pub tag: Tag,
 }
 
-/// The hop limit, the rows that a switch has room for, the first and last stamp of the policies, and how many sessions may
-/// be lost without a halt. If drains overlap, an update may begin while packets of earlier policies are on their way.
+/// The hop limit, the rows that a switch has room for, the first and last stamp of the policies, and how many sessions
+/// may be lost without a halt. If drains overlap, an update may begin while packets of earlier policies are on their
+/// way.
 #[derive(Clone, Copy, Debug, PartialEq, Eq)]
 pub struct Settings {
     pub hops: u32,

@@ -43,7 +43,8 @@ impl DocReader {
 
 // Why a policy that has no `end` line is refused, where its text ends at this place and the lines at this one.
 fn unclosed(alloc: Global, policy: PolicyReader, behind: Position, line: u64) -> DocumentError
-    ensures { (begin : ℕ) (front : List ℕ) → StandsFor (line_start begin) policy front → place_behind (line_start begin) front ≡ behind → LacksAnswer line begin front result }
+    ensures { (begin : ℕ) (front : List ℕ) → StandsFor (line_start begin) policy front →
+        place_behind (line_start begin) front ≡ behind → LacksAnswer line begin front result }
 {
     let fault = match policy.finish(alloc) {
         Err(ParseError::Fault(fault)) => fault,
@@ -58,7 +59,8 @@ fn unclosed(alloc: Global, policy: PolicyReader, behind: Position, line: u64) ->
 
 // Whether this is the fault's place.
 fn is_at(place: Position, fault: ParseFault) -> bool
-    ensures { MatchBool result (place ≡ record { line = fault.line; column = fault.column }) (¬ (place ≡ record { line = fault.line; column = fault.column })) }
+    ensures { MatchBool result (place ≡ record { line = fault.line; column = fault.column })
+        (¬ (place ≡ record { line = fault.line; column = fault.column })) }
 {
     place.line == fault.line && place.column == fault.column
 }

@@ -85,7 +85,9 @@ impl DocReader {
     // Takes the words of a line of `len` bytes. It stays pending.
     fn take(&mut self, alloc: Global, len: usize) -> Result<Taken, Stop>
         requires { len ≤ length self.old.pending.items }
-        ensures takes { TakesLine (step (state_of self.old.reader) self.old.line (words_of (take len self.old.pending.items))) (state_of self.old.reader) (state_of self.new.reader) result }
+        ensures takes { TakesLine
+            (step (state_of self.old.reader) self.old.line (words_of (take len self.old.pending.items)))
+            (state_of self.old.reader) (state_of self.new.reader) result }
         ensures keeps { KeepsAll self.old self.new }
     {
         let words = words(alloc, &self.pending.as_slice()[..len])?;

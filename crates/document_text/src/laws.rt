@@ -10,16 +10,16 @@ pub fn one_outcome()
     ensures some { SomeOutcome }
 {}
 
-/// A document that was read is within the limits. Its settings are in their ranges, and it has 1 to 64 policies, each read
-/// from some text. Each packet is well shaped and arrives at a port without a link. Events name switches and packet lines
-/// of the document.
+/// A document that was read is within the limits. Its settings are in their ranges, and it has 1 to 64 policies, each
+/// read from some text. Each packet is well shaped and arrives at a port without a link. Events name switches and
+/// packet lines of the document.
 pub fn within()
     ensures { Within }
 {}
 
-/// A document says what its parts say, in order. Its topology is that of its switch lines and link lines, and its policies
-/// are read from the texts between `policy` and `end`. Its packets are those of its packet lines, and each line of its
-/// schedule is an event.
+/// A document says what its parts say, in order. Its topology is that of its switch lines and link lines, and its
+/// policies are read from the texts between `policy` and `end`. Its packets are those of its packet lines, and each
+/// line of its schedule is an event.
 pub fn says_its_parts()
     ensures { SaysItsParts }
 {}

@@ -3,7 +3,8 @@
 //! Layer: texts that are read; private. Called by `take`.
 ghost use Rattle.std.specs.Prelude.{◌≡◌, true};
 ghost use Rattle.document_text.specs.declared.document.PacketLine.{PacketLine as Line};
-ghost use Rattle.document_text.specs.Packets.{pair_of, plain_packet, given_at, with_tag, with_number, with_field, with_named, with_word, with_words};
+ghost use Rattle.document_text.specs.Packets.{pair_of, plain_packet, given_at, with_tag, with_number, with_field};
+ghost use Rattle.document_text.specs.Packets.{with_named, with_word, with_words};
 ghost use Rattle.document_text.specs.Lines.{packet_line, at_edge};
 ghost use Rattle.document_text.specs.Answers.{texts, state_of, given_of, Forms, GivesValues, Lets, Matches};
 

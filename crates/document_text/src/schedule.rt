@@ -4,7 +4,8 @@
 ghost use Rattle.std.specs.Prelude.{◌≡◌};
 ghost use Rattle.nk_values.specs.declared.field.Field.TheVariants.{Sw};
 ghost use Rattle.event_words.specs.Words.{word_of};
-ghost use Rattle.document_text.specs.Schedules.{arrival, at_switch, is_index, event_alone, event_of_one, event_of_two, event_of};
+ghost use Rattle.document_text.specs.Schedules.{arrival, at_switch, is_index, event_alone, event_of_one, event_of_two};
+ghost use Rattle.document_text.specs.Schedules.{event_of};
 ghost use Rattle.document_text.specs.Lines.{schedule_line};
 ghost use Rattle.document_text.specs.Packets.{is_vlan_id};
 ghost use Rattle.document_text.specs.Answers.{texts, state_of, Becomes, Forms, Matches, Ranges, NamesSwitch};
@@ -24,7 +25,8 @@ const LAST_INDEX: u64 = 0xffff_ffff;
 
 /// Takes `schedule`, after which events stand.
 pub fn schedule_line(reader: &mut Reader, alloc: Global, words: &[&[u8]]) -> Result<(), Stop>
-    ensures { Becomes (schedule_line (state_of reader.old) (texts words.now)) (state_of reader.old) (state_of reader.new) result }
+    ensures { Becomes (schedule_line (state_of reader.old) (texts words.now)) (state_of reader.old)
+        (state_of reader.new) result }
 {
     if !words.is_empty() || reader.declared.reached.place() >= 5 {
         return Err(Stop::Fault(TextFault::BadLine));

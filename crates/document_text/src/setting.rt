@@ -3,7 +3,8 @@
 //! Layer: texts that are read; private. Called by `take`.
 ghost use Rattle.std.specs.Prelude.{◌≡◌, ◌≤◌, true, IfOk, OnOk};
 ghost use Rattle.document_text.specs.States.{State, has_edge};
-ghost use Rattle.document_text.specs.Lines.{unset, one_numeral, two_numerals, new_number, hops_line, capacity_line, stamps_line, rejoins_line, overlap_line, policy_line};
+ghost use Rattle.document_text.specs.Lines.{unset, one_numeral, two_numerals, new_number, hops_line, capacity_line};
+ghost use Rattle.document_text.specs.Lines.{stamps_line, rejoins_line, overlap_line, policy_line};
 ghost use Rattle.document_text.specs.Answers.{texts, state_of, Becomes, Forms, Leads, Lets};
 
 use crate::declaration::LineKind;
@@ -76,7 +77,8 @@ fn new_number(
 
 /// Takes `hops N`.
 pub fn hops_line(reader: &mut Reader, alloc: Global, words: &[&[u8]]) -> Result<(), Stop>
-    ensures { Becomes (hops_line (state_of reader.old) (texts words.now)) (state_of reader.old) (state_of reader.new) result }
+    ensures { Becomes (hops_line (state_of reader.old) (texts words.now)) (state_of reader.old) (state_of reader.new)
+        result }
 {
     let given = reader.declared.hops.is_some();
     let hops = new_number(reader, alloc, words, given, 1, MOST_HOPS)?;
@@ -87,7 +89,8 @@ pub fn hops_line(reader: &mut Reader, alloc: Global, words: &[&[u8]]) -> Result<
 
 /// Takes `capacity N`.
 pub fn capacity_line(reader: &mut Reader, alloc: Global, words: &[&[u8]]) -> Result<(), Stop>
-    ensures { Becomes (capacity_line (state_of reader.old) (texts words.now)) (state_of reader.old) (state_of reader.new) result }
+    ensures { Becomes (capacity_line (state_of reader.old) (texts words.now)) (state_of reader.old)
+        (state_of reader.new) result }
 {
     let given = reader.declared.capacity.is_some();
     let capacity = new_number(reader, alloc, words, given, 1, MOST_ROWS)?;
@@ -98,7 +101,8 @@ pub fn capacity_line(reader: &mut Reader, alloc: Global, words: &[&[u8]]) -> Res
 
 /// Takes `stamps LO HI`.
 pub fn stamps_line(reader: &mut Reader, alloc: Global, words: &[&[u8]]) -> Result<(), Stop>
-    ensures { Becomes (stamps_line (state_of reader.old) (texts words.now)) (state_of reader.old) (state_of reader.new) result }
+    ensures { Becomes (stamps_line (state_of reader.old) (texts words.now)) (state_of reader.old) (state_of reader.new)
+        result }
 {
     let (low, high) = two_numerals(words)?;
     unset(reader, alloc, reader.declared.stamps.is_some())?;
@@ -115,7 +119,8 @@ pub fn stamps_line(reader: &mut Reader, alloc: Global, words: &[&[u8]]) -> Resul
 
 /// Takes `rejoins N`.
 pub fn rejoins_line(reader: &mut Reader, alloc: Global, words: &[&[u8]]) -> Result<(), Stop>
-    ensures { Becomes (rejoins_line (state_of reader.old) (texts words.now)) (state_of reader.old) (state_of reader.new) result }
+    ensures { Becomes (rejoins_line (state_of reader.old) (texts words.now)) (state_of reader.old)
+        (state_of reader.new) result }
 {
     let given = reader.declared.rejoins.is_some();
     let rejoins = new_number(reader, alloc, words, given, 0, MOST_REJOINS)?;
@@ -126,7 +131,8 @@ pub fn rejoins_line(reader: &mut Reader, alloc: Global, words: &[&[u8]]) -> Resu
 
 /// Takes `overlap`.
 pub fn overlap_line(reader: &mut Reader, alloc: Global, words: &[&[u8]]) -> Result<(), Stop>
-    ensures { Becomes (overlap_line (state_of reader.old) (texts words.now)) (state_of reader.old) (state_of reader.new) result }
+    ensures { Becomes (overlap_line (state_of reader.old) (texts words.now)) (state_of reader.old)
+        (state_of reader.new) result }
 {
     if !words.is_empty() {
         return Err(Stop::Fault(TextFault::BadLine));
@@ -139,7 +145,8 @@ pub fn overlap_line(reader: &mut Reader, alloc: Global, words: &[&[u8]]) -> Resu
 
 /// Takes `policy`, after which a policy's text begins.
 pub fn policy_line(reader: &mut Reader, alloc: Global, words: &[&[u8]]) -> Result<(), Stop>
-    ensures { Becomes (policy_line (state_of reader.old) (texts words.now)) (state_of reader.old) (state_of reader.new) result }
+    ensures { Becomes (policy_line (state_of reader.old) (texts words.now)) (state_of reader.old) (state_of reader.new)
+        result }
 {
     if !words.is_empty() || reader.is_late(LineKind::Policy) {
         return Err(Stop::Fault(TextFault::BadLine));

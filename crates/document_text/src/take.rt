@@ -87,7 +87,8 @@ impl Reader {
 
     /// Takes the words of the line with this number. If memory runs out, nothing changes.
     pub fn take(&mut self, alloc: Global, line: u64, words: &[&[u8]]) -> Result<Taken, Stop>
-        ensures { TakesLine (step (state_of self.old) line (texts words.now)) (state_of self.old) (state_of self.new) result }
+        ensures { TakesLine (step (state_of self.old) line (texts words.now)) (state_of self.old) (state_of self.new)
+            result }
     {
         let Some((first, rest)) = words.split_first() else {
             return Ok(Taken::Line);
@@ -119,7 +120,8 @@ impl Reader {
 
     // Takes a line outside the schedule.
     fn declares(&mut self, alloc: Global, head: Head, words: &[&[u8]]) -> Result<Taken, Stop>
-        ensures { TakesLine (declares (state_of self.old) head (texts words.now)) (state_of self.old) (state_of self.new) result }
+        ensures { TakesLine (declares (state_of self.old) head (texts words.now)) (state_of self.old)
+            (state_of self.new) result }
     {
         match head {
             Head::Switch => switch_line(self, alloc, words)?,
@@ -142,7 +144,8 @@ impl Reader {
 
     // Takes a line inside the schedule.
     fn scheduled(&mut self, line: u64, words: &[&[u8]]) -> Result<(), Stop>
-        ensures { Passes (scheduled (state_of self.old) line (texts words.now)) (state_of self.old) (state_of self.new) result }
+        ensures { Passes (scheduled (state_of self.old) line (texts words.now)) (state_of self.old) (state_of self.new)
+            result }
     {
         if is_end(words) {
             self.declared.inside = false;
@@ -155,7 +158,8 @@ impl Reader {
 
     // Takes a packet, which has to be well shaped.
     fn enters(&mut self, alloc: Global, words: &[&[u8]]) -> Result<(), Stop>
-        ensures { Passes (enters (state_of self.old) (packet_line (state_of self.old) (texts words.now))) (state_of self.old) (state_of self.new) result }
+        ensures { Passes (enters (state_of self.old) (packet_line (state_of self.old) (texts words.now)))
+            (state_of self.old) (state_of self.new) result }
     {
         let line = packet_line(self, alloc, words)?;
         if !well_shaped(&line.packet) {

@@ -21,7 +21,8 @@ use topology_model::{LineError, PortRef, Ports, TopoLine};
 
 /// Takes `switch S ports B1 B2 ..`.
 pub fn switch_line(reader: &mut Reader, alloc: Global, words: &[&[u8]]) -> Result<(), Stop>
-    ensures { Becomes (switch_line (state_of reader.old) (texts words.now)) (state_of reader.old) (state_of reader.new) result }
+    ensures { Becomes (switch_line (state_of reader.old) (texts words.now)) (state_of reader.old) (state_of reader.new)
+        result }
 {
     let (number, numbers) = switch_form(alloc, words)?;
     if reader.is_late(LineKind::Switch) {
@@ -96,7 +97,8 @@ pub fn end_in_range(numbers: (u64, u64)) -> Result<PortRef, Stop>
 
 /// Takes `link S:B S:B`.
 pub fn link_line(reader: &mut Reader, alloc: Global, words: &[&[u8]]) -> Result<(), Stop>
-    ensures { Becomes (link_line (state_of reader.old) (texts words.now)) (state_of reader.old) (state_of reader.new) result }
+    ensures { Becomes (link_line (state_of reader.old) (texts words.now)) (state_of reader.old) (state_of reader.new)
+        result }
 {
     let (first, second) = link_form(words)?;
     if reader.is_late(LineKind::Link) {

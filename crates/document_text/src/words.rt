@@ -1,9 +1,11 @@
 //! From bytes to lines, words and numbers.
 //!
 //! Layer: texts that are read; private. Called by many modules.
-ghost use Rattle.std.specs.Prelude.{◌≡◌, ◌≢◌, ◌≤◌, ◌<◌, ℕ, false, List, [], ◌∷◌, ◌++◌, length, filter, IfOk, IfSome, IfNone};
+ghost use Rattle.std.specs.Prelude.{◌≡◌, ◌≢◌, ◌≤◌, ◌<◌, ℕ, false, List, [], ◌∷◌, ◌++◌, length, filter, IfOk, IfSome};
+ghost use Rattle.std.specs.Prelude.{IfNone};
 ghost use Rattle.std.specs.Bool.{OnTrue};
-ghost use Rattle.document_text.specs.Texts.{first_len, is_over, content, is_blank, is_filled, words_of, is_end, numeral, numerals, end_of};
+ghost use Rattle.document_text.specs.Texts.{first_len, is_over, content, is_blank, is_filled, words_of, is_end};
+ghost use Rattle.document_text.specs.Texts.{numeral, numerals, end_of};
 ghost use Rattle.document_text.specs.Feeding.{IsPiece, differs, is_other};
 ghost use Rattle.std.specs.List.{position_or_len, prefix_len, list_all};
 ghost use Rattle.document_text.specs.Answers.{texts, Forms};
@@ -17,7 +19,8 @@ use std::alloc::{AllocError, Global};
 
 /// How many bytes the first line has, with the LF that ends it, or none if there is no LF.
 pub fn line_end(text: &[u8]) -> Option<usize>
-    ensures some { IfSome result (λ n. (0 < n) × (n ≤ length text.now) × ((rest : List ℕ) → first_len (text.now ++ rest) ≡ n)) }
+    ensures some { IfSome result
+        (λ n. (0 < n) × (n ≤ length text.now) × ((rest : List ℕ) → first_len (text.now ++ rest) ≡ n)) }
     ensures none { IfNone result (IsPiece text.now) }
 {
     match memchr(b'\n', text) {

@@ -25,8 +25,11 @@ use Rattle.program_answer.specs.Worlds.{start_of_drive}
 abbrev pub beginning : Doc → List Version → Control
 beginning d versions = (start_of_drive d versions).fleet.control
 
--- The journal leads from the beginning to this coordinator, which has halted or has the last policy handle all packets; `halts` says which. Each drain in it was reported, and a session is lost only if the net's count of broken ends rose. The text is that of the journal and of the coordinator.
-pub record IsDriveOf {Q : Type 0} (stamped : Q → ℕ) (halts : Bool) (broken : Change ℕ) (d : Doc) (versions : List Version) (text : List ℕ) : Type 0 where
+-- The journal leads from the beginning to this coordinator, which has halted or has the last policy handle all packets;
+-- `halts` says which. Each drain in it was reported, and a session is lost only if the net's count of broken ends rose.
+-- The text is that of the journal and of the coordinator.
+pub record IsDriveOf {Q : Type 0} (stamped : Q → ℕ) (halts : Bool) (broken : Change ℕ) (d : Doc)
+    (versions : List Version) (text : List ℕ) : Type 0 where
   pub control : Control
   pub journal : List Steering
   pub driven : IsDriven stamped broken.before broken.after (beginning d versions) control journal
@@ -42,28 +45,35 @@ pub record IsDrive {Q : Type 0} (stamped : Q → ℕ) (halts : Bool) (broken : C
   pub accepted : IsAcceptedAs xs document versions
   pub drive : IsDriveOf stamped halts broken document versions text
 
--- The source was read to its end, and the text is the report of a drive: Halted if it has halted, and Done if the last policy handles all packets.
-pub record IsDriveAnswer {Q : Type 0} (stamped : Q → ℕ) (source : SourceSeen) (broken : Change ℕ) (status : Status) (text : List ℕ) : Type 0 where
+-- The source was read to its end, and the text is the report of a drive: Halted if it has halted, and Done if the last
+-- policy handles all packets.
+pub record IsDriveAnswer {Q : Type 0} (stamped : Q → ℕ) (source : SourceSeen) (broken : Change ℕ) (status : Status)
+    (text : List ℕ) : Type 0 where
   pub halts : Bool
   pub status_is : status ≡ report_status halts
   pub read : Reads (λ xs. IsDrive stamped halts broken xs text) source
 
--- The source was read to its end, its document is accepted, and then a count rose: that of ports, of threads or of the reporter.
+-- The source was read to its end, its document is accepted, and then a count rose: that of ports, of threads or of the
+-- reporter.
 pub record IsCut (source : SourceSeen) (count : Change ℕ) : Type 0 where
   pub read : Reads IsAccepted source
   pub rose : HasRisen count
 
--- why it stops: as every command does, or for a port that could not be opened, a thread that could not be made, or a reporter that failed
+-- why it stops: as every command does, or for a port that could not be opened, a thread that could not be made, or a
+-- reporter that failed
 abbrev pub DriveStopsBy : SourceSeen → Change ℕ → Change ℕ → Change ℕ → Fault → Type 0
 DriveStopsBy source ports threads reports fault.Net = IsCut source ports
 DriveStopsBy source ports threads reports fault.NoThread = IsCut source threads
 DriveStopsBy source ports threads reports fault.Report = IsCut source reports
 DriveStopsBy source ports threads reports fault.Read = StopsBy IsInputRefused source fault.Read
 DriveStopsBy source ports threads reports fault.Usage = StopsBy IsInputRefused source fault.Usage
-DriveStopsBy source ports threads reports (fault.Line line column f) = StopsBy IsInputRefused source (fault.Line line column f)
-DriveStopsBy source ports threads reports (fault.NotEnabled line) = StopsBy IsInputRefused source (fault.NotEnabled line)
+DriveStopsBy source ports threads reports (fault.Line line column f) =
+    StopsBy IsInputRefused source (fault.Line line column f)
+DriveStopsBy source ports threads reports (fault.NotEnabled line) =
+    StopsBy IsInputRefused source (fault.NotEnabled line)
 DriveStopsBy source ports threads reports (fault.NotTwo line) = StopsBy IsInputRefused source (fault.NotTwo line)
-DriveStopsBy source ports threads reports (fault.Compile policy f) = StopsBy IsInputRefused source (fault.Compile policy f)
+DriveStopsBy source ports threads reports (fault.Compile policy f) =
+    StopsBy IsInputRefused source (fault.Compile policy f)
 DriveStopsBy source ports threads reports (fault.Emit policy f) = StopsBy IsInputRefused source (fault.Emit policy f)
 
 -- the same, if it is not out of memory, before which no read failed
@@ -79,7 +89,8 @@ pub record IsToldAs (switches : List Site) (control : Control) (journal : List S
   pub text : a.text ≡ drive_text switches journal control.phase control.halt
 
 -- the report of a drive, with the status by how it ends
-pub record IsDrivenAs {Q : Type 0} (stamped : Q → ℕ) (broken : Change ℕ) (d : Doc) (versions : List Version) (a : Answer) : Type 0 where
+pub record IsDrivenAs {Q : Type 0} (stamped : Q → ℕ) (broken : Change ℕ) (d : Doc) (versions : List Version)
+    (a : Answer) : Type 0 where
   pub halts : Bool
   pub status : a.status ≡ report_status halts
   pub drive : IsDriveOf stamped halts broken d versions a.text

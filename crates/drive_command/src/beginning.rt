@@ -19,7 +19,8 @@ pub(crate) fn begin(
     versions: Vec<Version>,
 ) -> Result<Coordinator, AllocError>
     requires { AreVersions topology.now versions.items None }
-    ensures { IfOk result (λ c. c ≡ initial_control (rows_of versions.items) (numbers_of topology.now.switches) 0 None) }
+    ensures { IfOk result (λ c. c ≡ initial_control (rows_of versions.items) (numbers_of topology.now.switches) 0
+        None) }
 {
     let numbers = numbers_of(alloc, topology.switches())?;
     let rows = rows_of(alloc, versions)?;

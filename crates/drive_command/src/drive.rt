@@ -26,10 +26,10 @@ use std::time::Clock;
 use update_coordinator::Coordinator;
 
 /// The report of a drive of the policies of a source's document, with a worker in a thread of its own for each switch.
-/// Once the document is accepted, the reporter of drains listens, a port is opened for each switch, and then threads are
-/// started. The port of the first switch is `first`, the others follow in the order of the document, and the reporter
-/// comes after them. It waits for the switches and for the reports. Packets and the schedule of the document are not
-/// used, and the first session that is lost halts the drive.
+/// Once the document is accepted, the reporter of drains listens, a port is opened for each switch, and then threads
+/// are started. The port of the first switch is `first`, the others follow in the order of the document, and the
+/// reporter comes after them. It waits for the switches and for the reports. Packets and the schedule of the document
+/// are not used, and the first session that is lost halts the drive.
 pub fn drive_answer<
     R: Wait + Clock + Clone + Drop + Send + 'static,
     S: Source,
@@ -50,8 +50,12 @@ pub fn drive_answer<
 where
     N::End: 'static,
     Q::Receipt: Send + 'static,
-    ensures answer { IfOk result (λ a. IsDriveAnswer Q.Receipt.stamped (source_of S.left S.faults source.old source.new) (change N.broken net.old net.new) a.status a.text) }
-    ensures stops { IfErr result (DriveStops (source_of S.left S.faults source.old source.new) (change N.faults net.old net.new) (change T.faults threads.old threads.new) (change Q.faults reporter.old reporter.new)) }
+    ensures answer { IfOk result
+        (λ a. IsDriveAnswer Q.Receipt.stamped (source_of S.left S.faults source.old source.new)
+        (change N.broken net.old net.new) a.status a.text) }
+    ensures stops { IfErr result
+        (DriveStops (source_of S.left S.faults source.old source.new) (change N.faults net.old net.new)
+        (change T.faults threads.old threads.new) (change Q.faults reporter.old reporter.new)) }
     ensures at_most { TakesAtMost 4194305 (S.left source.old) (S.left source.new) }
 {
     let input = read_input(alloc, source)?;
@@ -91,8 +95,11 @@ where
     Q::Receipt: Send + 'static,
     requires sound { IsSound (doc_of document) }
     requires versions { AreVersions document.topology document.settings 0 (policies_of document) versions.items }
-    ensures driven { IfOk result (IsDrivenAs Q.Receipt.stamped (change N.broken net.old net.new) (doc_of document) versions.items) }
-    ensures cut { IfErr result (TellsDriveCut (change N.faults net.old net.new) (change T.faults threads.old threads.new) (change Q.faults reporter.old reporter.new)) }
+    ensures driven { IfOk result
+        (IsDrivenAs Q.Receipt.stamped (change N.broken net.old net.new) (doc_of document) versions.items) }
+    ensures cut { IfErr result
+        (TellsDriveCut (change N.faults net.old net.new) (change T.faults threads.old threads.new)
+        (change Q.faults reporter.old reporter.new)) }
 {
     let topology = document.into_parts().topology;
     starts_halt_at_loss();

@@ -77,7 +77,8 @@ GivesNext s old new (Nothing None) = (¬ MaySend s old.held.control) × (¬ IsAw
 GivesNext s old new (Nothing (Some _)) = ⊥
 GivesNext s old new (NewEnd e) = ⊥
 
--- What `give` answers to the worker of switch s: that it is to stop; the answer that is to be sent; the next message; to receive, if one is to come; or nothing.
+-- What `give` answers to the worker of switch s: that it is to stop; the answer that is to be sent; the next message;
+-- to receive, if one is to come; or nothing.
 abbrev pub DriveGives : {E Q : Type 0} → ℕ → DriveValue E Q → DriveValue E Q → Given E → Type 0
 DriveGives s old new Stop = Stops old s × (new ≡ old)
 DriveGives s old new (Out m None) = (¬ Stops old s) × (echo_at old s ≡ Some m) × (new ≡ answering old s None)
@@ -118,7 +119,8 @@ pub record DriveCuts {E Q : Type 0} (e : Steering) (end : E) (old new : DriveVal
   pub halted : new.held.control.halt ≢ None
   pub rest : IsBeside old new
 
--- nothing can come of the bytes: others came before them, or they are less than a message, or the coordinator has halted
+-- nothing can come of the bytes: others came before them, or they are less than a message, or the coordinator has
+-- halted
 abbrev pub IsVain : {E Q : Type 0} → ℕ → List ℕ → ℕ → DriveValue E Q → Type 0
 IsVain s bytes k r = (¬ (told_before s r.held.journal ≡ k)) ⊎ (IsRest bytes ⊎ (r.held.control.halt ≢ None))
 
@@ -132,10 +134,12 @@ HearsAs s x end old new (Memory e) = (e ≡ end) × (new ≡ old)
 
 -- What `tell` answers: a message is heard; what halts the coordinator has its end kept; other bytes come to nothing.
 abbrev pub DriveTells : {E Q : Type 0} → ℕ → List ℕ → ℕ → E → DriveValue E Q → DriveValue E Q → Told E → Type 0
-DriveTells s bytes k end old new (Back e (Some kind.Heard)) = (e ≡ end) × (told_before s old.held.journal ≡ k) × ((m : Message) × IsElement bytes (element.Message m) × Hears s m old new)
+DriveTells s bytes k end old new (Back e (Some kind.Heard)) = (e ≡ end) × (told_before s old.held.journal ≡ k) ×
+    ((m : Message) × IsElement bytes (element.Message m) × Hears s m old new)
 DriveTells s bytes k end old new (Back e (Some _)) = ⊥
 DriveTells s bytes k end old new (Back e None) = (e ≡ end) × (new ≡ old) × IsVain s bytes k old
-DriveTells s bytes k end old new Kept = (told_before s old.held.journal ≡ k) × ((x : Element) × (e : Steering) × IsElement bytes x × IsEventOf s x e × DriveCuts e end old new)
+DriveTells s bytes k end old new Kept = (told_before s old.held.journal ≡ k) ×
+    ((x : Element) × (e : Steering) × IsElement bytes x × IsEventOf s x e × DriveCuts e end old new)
 DriveTells s bytes k end old new (Memory e) = (e ≡ end) × (new ≡ old)
 
 -- what `lost` answers
@@ -165,4 +169,5 @@ abbrev pub Updates : {E Q : Type 0} → DriveValue E Q → DriveValue E Q → Ca
 Updates old new next.Stop = ((old.closed ≡ true) ⊎ IsOver old.held.control) × (new ≡ old)
 Updates old new next.Step = NotesEvent steering.Begin old.held new.held × IsBeside old new
 Updates old new (next.Wait stamp) = (drain_refusal old.held.control stamp ≡ None) × (new ≡ old)
-Updates old new next.Nothing = (¬ (begin_refusal old.held.control ≡ None)) × ((stamp : ℕ) → ¬ (drain_refusal old.held.control stamp ≡ None)) × (new ≡ old)
+Updates old new next.Nothing = (¬ (begin_refusal old.held.control ≡ None)) ×
+    ((stamp : ℕ) → ¬ (drain_refusal old.held.control stamp ≡ None)) × (new ≡ old)

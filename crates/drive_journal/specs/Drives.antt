@@ -6,7 +6,8 @@ use Rattle.update_coordinator.specs.Controls.{Control}
 use Rattle.update_coordinator.specs.Sending.{MaySend}
 use Rattle.drive_journal.specs.Journals.{SteeredValue}
 
--- The journal with its coordinator, whether the drive was closed, and of each switch the answer to its last message that is still to be sent.
+-- The journal with its coordinator, whether the drive was closed, and of each switch the answer to its last message
+-- that is still to be sent.
 pub record DriveValue (E Q : Type 0) : Type 0 where
   pub held : SteeredValue E Q
   pub closed : Bool
@@ -36,7 +37,8 @@ IsOver c = (c.halt ≢ None) ⊎ IsLast c
 abbrev pub IsSentAll : {E Q : Type 0} → DriveValue E Q → ℕ → Type 0
 IsSentAll r s = (echo_at r s ≡ None) × ¬ MaySend s r.held.control
 
--- The worker of switch s is to stop: the drive is closed or has halted, or the last policy handles all packets and nothing is left to be sent to it.
+-- The worker of switch s is to stop: the drive is closed or has halted, or the last policy handles all packets and
+-- nothing is left to be sent to it.
 abbrev pub Stops : {E Q : Type 0} → DriveValue E Q → ℕ → Type 0
 Stops r s = (r.closed ≡ true) ⊎ ((r.held.control.halt ≢ None) ⊎ (IsLast r.held.control × IsSentAll r s))
 

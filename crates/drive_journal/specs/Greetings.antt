@@ -29,5 +29,6 @@ is_fresh _ = false
 
 -- As long as nothing halted, a session that was fresh is so exactly if the journal has no HELLO of its switch.
 abbrev pub GreetingsAreNoted : Type 0
-GreetingsAreNoted = (c : Control) (es : List Steering) (d : Control) → HaltsAtLoss c → Drives c es d → d.halt ≡ None → (s : ℕ) (old new : Peer) → slice_get c.peers s ≡ Some old → slice_get d.peers s ≡ Some new
+GreetingsAreNoted = (c : Control) (es : List Steering) (d : Control) → HaltsAtLoss c → Drives c es d → d.halt ≡ None →
+    (s : ℕ) (old new : Peer) → slice_get c.peers s ≡ Some old → slice_get d.peers s ≡ Some new
     → is_fresh new.session.state ≡ (is_fresh old.session.state && not (has_greeting s es))

@@ -1,5 +1,6 @@
 -- A journal of the controller's events, the coordinator that it leads to, and what was kept for it.
-use Rattle.std.specs.Prelude.{◌≡◌, ℕ, ◌<◌, ◌==◌, Bool, false, List, [], ◌∷◌, ◌++◌, length, map, Option, Some, None, slice_get}
+use Rattle.std.specs.Prelude.{◌≡◌, ℕ, ◌<◌, ◌==◌, Bool, false, List, [], ◌∷◌, ◌++◌, length, map, Option, Some, None}
+use Rattle.std.specs.Prelude.{slice_get}
 use Rattle.std.specs.List.{AllByRecursion, filter}
 use Rattle.openflow_wire.specs.declared.message.Message.{Message}
 use Rattle.openflow_wire.specs.declared.fault.WireFault.{WireFault}
@@ -61,15 +62,19 @@ abbrev pub WhereKnown : (List ℕ → Type 0) → Option (List ℕ) → Type 0
 WhereKnown P None = Unit {0}
 WhereKnown P (Some bytes) = P bytes
 
--- What holds of the end of an event after these: it is that of the switch; a message or a fault came next in its stream, if that is known; the end of a lost session had failed.
+-- What holds of the end of an event after these: it is that of the switch; a message or a fault came next in its
+-- stream, if that is known; the end of a lost session had failed.
 abbrev pub MetBy : {E : Type 0} → (E → ℕ) → (E → ℕ) → (E → Option (List ℕ)) → List Steering → Steering → E → Type 0
-MetBy named faults received before (Heard s m) end = (named end ≡ s) × WhereKnown (HasMessage (told_before s before) m) (received end)
-MetBy named faults received before (Garbled s f) end = (named end ≡ s) × WhereKnown (HasFault (told_before s before) f) (received end)
+MetBy named faults received before (Heard s m) end = (named end ≡ s) ×
+    WhereKnown (HasMessage (told_before s before) m) (received end)
+MetBy named faults received before (Garbled s f) end = (named end ≡ s) ×
+    WhereKnown (HasFault (told_before s before) f) (received end)
 MetBy named faults received before (Lost s) end = (named end ≡ s) × (0 < faults end)
 MetBy named faults received before _ end = ⊥
 
 -- One end is kept for the last event, which halted the coordinator, and it met the conditions there.
-pub record IsKeptFor {E : Type 0} (named faults : E → ℕ) (received : E → Option (List ℕ)) (journal : List Steering) (ends : List E) : Type 0 where
+pub record IsKeptFor {E : Type 0} (named faults : E → ℕ) (received : E → Option (List ℕ)) (journal : List Steering)
+    (ends : List E) : Type 0 where
   pub before : List Steering
   pub event : Steering
   pub end_ : E
@@ -78,7 +83,8 @@ pub record IsKeptFor {E : Type 0} (named faults : E → ℕ) (received : E → O
   pub met : MetBy named faults received before event end_
 
 -- If it has not halted, none is kept.
-abbrev pub KeepsFor : {E : Type 0} → (E → ℕ) → (E → ℕ) → (E → Option (List ℕ)) → Option Cause → List Steering → List E → Type 0
+abbrev pub KeepsFor : {E : Type 0} → (E → ℕ) → (E → ℕ) → (E → Option (List ℕ)) → Option Cause → List Steering →
+    List E → Type 0
 KeepsFor named faults received None journal ends = ends ≡ []
 KeepsFor named faults received (Some cause) journal ends = IsKeptFor named faults received journal ends
 
@@ -95,8 +101,10 @@ stamps_of (e ∷ es) = stamps_in e ++ stamps_of es
 
 -- ---- the journal
 
--- The coordinator is what the journal leads to from the start; one report is kept for each drain, in order; and an end for the event that halted it.
-pub record IsSteered {E Q : Type 0} (named faults : E → ℕ) (received : E → Option (List ℕ)) (stamped : Q → ℕ) (start control : Control) (journal : List Steering) (receipts : List Q) (ends : List E) : Type 0 where
+-- The coordinator is what the journal leads to from the start; one report is kept for each drain, in order; and an end
+-- for the event that halted it.
+pub record IsSteered {E Q : Type 0} (named faults : E → ℕ) (received : E → Option (List ℕ)) (stamped : Q → ℕ)
+    (start control : Control) (journal : List Steering) (receipts : List Q) (ends : List E) : Type 0 where
   pub runs : Drives start journal control
   pub drains : map stamped receipts ≡ stamps_of journal
   pub kept : KeepsFor named faults received control.halt journal ends

@@ -15,4 +15,5 @@ pub record IsLastBefore (es : List Steering) (e : Steering) (d : Control) : Type
 
 -- If the first loss halts the coordinator, a session is lost by the last event alone.
 abbrev pub LostIsLast : Type 0
-LostIsLast = (c : Control) (es : List Steering) (d : Control) (s : ℕ) → HaltsAtLoss c → Drives c es d → IsIn es (Lost s) → IsLastBefore es (Lost s) d
+LostIsLast = (c : Control) (es : List Steering) (d : Control) (s : ℕ) → HaltsAtLoss c → Drives c es d →
+    IsIn es (Lost s) → IsLastBefore es (Lost s) d

@@ -6,7 +6,8 @@ ghost use Rattle.worker_desk.specs.Answers.{CanBeWritten, GivesBack, OnNewEnd, O
 ghost use Rattle.worker_desk.specs.Streams.{TellsWhereKnown};
 ghost use Rattle.openflow_wire.specs.Writing.{Fits};
 ghost use Rattle.drive_journal.specs.declared.element.Element.TheVariants as elements;
-ghost use Rattle.drive_journal.specs.Calls.{DriveGives, GivesEcho, GivesNext, IsAwaited, IsNextElement, DriveLoses, RestsAs, HearsAs, RunsOut, Shuts, DriveTells};
+ghost use Rattle.drive_journal.specs.Calls.{DriveGives, GivesEcho, GivesNext, IsAwaited, IsNextElement, DriveLoses};
+ghost use Rattle.drive_journal.specs.Calls.{RestsAs, HearsAs, RunsOut, Shuts, DriveTells};
 ghost use Rattle.drive_journal.specs.Drives.{Stops, echo_at};
 ghost use Rattle.drive_journal.specs.Journals.{told_before};
 
@@ -124,7 +125,8 @@ impl<L: DriveName, E: Link, Q: Receipt> Drive<L, E, Q> {
         requires place { place < length L.start.peers }
         requires name { E.named end ≡ place }
         requires fits { Fits message }
-        requires next { IsNextElement (told_before place self.old.held.journal) (E.received end) (elements.Message message) }
+        requires next { IsNextElement (told_before place self.old.held.journal) (E.received end)
+            (elements.Message message) }
         ensures answer { HearsAs place (elements.Message message) end self.old self.new result }
         ensures back { GivesBack end result }
     {
@@ -149,7 +151,8 @@ impl<L: DriveName, E: Link, Q: Receipt> Drive<L, E, Q> {
     fn garble(&mut self, place: usize, fault: WireFault, end: E) -> Told<E>
         requires place { place < length L.start.peers }
         requires name { E.named end ≡ place }
-        requires next { IsNextElement (told_before place self.old.held.journal) (E.received end) (elements.Fault fault) }
+        requires next { IsNextElement (told_before place self.old.held.journal) (E.received end)
+            (elements.Fault fault) }
         ensures answer { HearsAs place (elements.Fault fault) end self.old self.new result }
         ensures back { GivesBack end result }
     {

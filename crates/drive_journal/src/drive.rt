@@ -48,7 +48,8 @@ impl<L: DriveName, E: Link, Q: Receipt> Model for Drive<L, E, Q> {
 }
 
 impl<L: DriveName, E: Link, Q: Receipt> Drive<L, E, Q> {
-    ghost use Rattle.std.specs.Prelude.{◌≡◌, ◌≢◌, ◌<◌, ◌↔◌, ◌++◌, ◌∷◌, [], None, true, false, IsTrue, IfOk, IfErr, OnOk, OnErr, length, replicate};
+    ghost use Rattle.std.specs.Prelude.{◌≡◌, ◌≢◌, ◌<◌, ◌↔◌, ◌++◌, ◌∷◌, [], None, true, false, IsTrue, IfOk, IfErr};
+    ghost use Rattle.std.specs.Prelude.{OnOk, OnErr, length, replicate};
     ghost use Rattle.update_coordinator.specs.Calls.{drain_refusal};
     ghost use Rattle.update_coordinator.specs.Sending.{MaySend};
     ghost use Rattle.drive_journal.specs.declared.steering.Steering.TheVariants as steering;
@@ -59,7 +60,8 @@ impl<L: DriveName, E: Link, Q: Receipt> Drive<L, E, Q> {
 
     /// A drive that begins: no answer is to be sent.
     pub fn new(alloc: Global, held: Steered<L, E, Q>) -> Result<Drive<L, E, Q>, AllocError>
-        ensures { IfOk result (λ d. d ≡ record { held = held; closed = false; echoes = replicate (length L.start.peers) None }) }
+        ensures { IfOk result (λ d. d ≡ record
+            { held = held; closed = false; echoes = replicate (length L.start.peers) None }) }
     {
         let count = held.switch_count();
         let echoes = no_echoes(alloc, count)?;
@@ -125,7 +127,8 @@ impl<L: DriveName, E: Link, Q: Receipt> Drive<L, E, Q> {
 
     /// Takes the report of a drain, and keeps it.
     pub fn drained(&mut self, receipt: Q) -> Result<(), Refused<Q>>
-        ensures step { OnOk result (Steers self.old.held.control (steering.Drained (Q.stamped receipt)) self.new.held.control) }
+        ensures step { OnOk result
+            (Steers self.old.held.control (steering.Drained (Q.stamped receipt)) self.new.held.control) }
         ensures refused { IfErr result (Refuses (drain_refusal self.old.held.control (Q.stamped receipt) ≢ None)) }
         ensures receipts { OnOk result (self.new.held.receipts ≡ self.old.held.receipts ++ receipt ∷ []) }
         ensures err { OnErr result (self.new ≡ self.old) }

@@ -19,9 +19,9 @@ use std::time::{Clock, Duration};
 
 /// A drive under its one lock, as its workers share it. Each call locks once and asks the drive; what it answers is
 /// stated of the drive's own call of that name. A worker that is told there is nothing to do waits, with the lock given
-/// up, until a phase begins. After a second it is to receive for a moment, so that it hears what its switch sends unasked.
-/// After a message that nobody asked for it is to receive once more before it waits, so a switch that sends much is heard
-/// without a pause.
+/// up, until a phase begins. After a second it is to receive for a moment, so that it hears what its switch sends
+/// unasked. After a message that nobody asked for it is to receive once more before it waits, so a switch that sends
+/// much is heard without a pause.
 pub struct DriveDesk<R, L: DriveName, E: Link, Q: Receipt> {
     pub(crate) rt: R,
     pub(crate) alloc: Global,

@@ -26,7 +26,8 @@ pub enum Element {
 pub(crate) fn read_element(alloc: Global, bytes: &[u8]) -> Element
     ensures is { IsElement bytes.now result }
     ensures fits { IsFitting result }
-    ensures next { (k : ℕ) (received : Option (List ℕ)) → TellsWhereKnown received k bytes.now → IsNextElement k received result }
+    ensures next { (k : ℕ) (received : Option (List ℕ)) → TellsWhereKnown received k bytes.now →
+        IsNextElement k received result }
 {
     match first_element(alloc, bytes) {
         None => Element::Rest,

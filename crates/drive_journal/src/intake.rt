@@ -14,7 +14,8 @@ use update_coordinator::Coordinator;
 pub(crate) fn take_in(coordinator: &mut Coordinator, event: &Steering) -> bool
     requires place { IsAmong (length coordinator.old.peers) event.now }
     requires losses { HaltsAtLoss coordinator.old }
-    ensures { MatchBool result (Steers coordinator.old event.now coordinator.new) ((coordinator.old.halt ≢ None) × (coordinator.new ≡ coordinator.old)) }
+    ensures { MatchBool result (Steers coordinator.old event.now coordinator.new)
+        ((coordinator.old.halt ≢ None) × (coordinator.new ≡ coordinator.old)) }
 {
     match event {
         Steering::Heard(place, message) => coordinator.heard(*place, message).is_ok(),

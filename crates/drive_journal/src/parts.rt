@@ -49,7 +49,8 @@ impl<L: DriveName, E: Link, Q: Receipt> Steered<L, E, Q> {
         ensures receipts { result.2.items ≡ self.receipts }
         ensures ends { result.3.items ≡ self.ends }
         ensures writable { AreWritable self.journal }
-        ensures history { IsSteered E.named E.faults E.received Q.stamped L.start self.control self.journal self.receipts self.ends }
+        ensures history { IsSteered E.named E.faults E.received Q.stamped L.start self.control self.journal
+            self.receipts self.ends }
     {
         let Steered {
             coordinator,

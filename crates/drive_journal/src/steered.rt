@@ -31,9 +31,13 @@ impl<L: DriveName, E: Link, Q: Receipt> Model for Steered<L, E, Q> {
 
     ghost Value = { SteeredValue E Q };
 
-    ghost view = { λ h. record { control = h.coordinator; journal = h.journal.items; receipts = h.receipts.items; ends = h.ends.items } };
+    ghost view = { λ h. record
+        { control = h.coordinator; journal = h.journal.items; receipts = h.receipts.items; ends = h.ends.items } };
 
-    ghost invariant = { λ h. IsSteered E.named E.faults E.received Q.stamped L.start h.coordinator h.journal.items h.receipts.items h.ends.items × AreCounts h.journal.items h.told.items × (length h.told.items ≡ length L.start.peers) × (length h.coordinator.peers ≡ length L.start.peers) × AreWritable h.journal.items × HaltsAtLoss h.coordinator };
+    ghost invariant = { λ h. IsSteered E.named E.faults E.received Q.stamped L.start h.coordinator h.journal.items
+        h.receipts.items h.ends.items × AreCounts h.journal.items h.told.items ×
+        (length h.told.items ≡ length L.start.peers) × (length h.coordinator.peers ≡ length L.start.peers) ×
+        AreWritable h.journal.items × HaltsAtLoss h.coordinator };
 }
 
 impl<L: DriveName, E: Link, Q: Receipt> Steered<L, E, Q> {
@@ -106,7 +110,8 @@ impl<L: DriveName, E: Link, Q: Receipt> Steered<L, E, Q> {
     pub fn drained(&mut self, receipt: Q) -> Result<(), Refused<Q>>
         ensures step { OnOk result (Steers self.old.control (steering.Drained (Q.stamped receipt)) self.new.control) }
         ensures refused { IfErr result (Refuses (drain_refusal self.old.control (Q.stamped receipt) ≢ None)) }
-        ensures journal { OnOk result (self.new.journal ≡ self.old.journal ++ steering.Drained (Q.stamped receipt) ∷ []) }
+        ensures journal { OnOk result
+            (self.new.journal ≡ self.old.journal ++ steering.Drained (Q.stamped receipt) ∷ []) }
         ensures receipts { OnOk result (self.new.receipts ≡ self.old.receipts ++ receipt ∷ []) }
         ensures ends { OnOk result (self.new.ends ≡ self.old.ends) }
         ensures err { OnErr result (self.new ≡ self.old) }

@@ -45,15 +45,20 @@ Shows w _ v es = es ≡ []
 -- What a run is for the controller, event by event.
 abbrev pub Projects : WorldValue → List Event → WorldValue → List Steering → Type 0
 Projects w [] v es = (w ≡ v) × (es ≡ [])
-Projects w (e ∷ events) v es = (x : WorldValue) × (here : List Steering) × (rest : List Steering) × Step w e x × Shows w e x here × Projects x events v rest × (es ≡ here ++ rest)
+Projects w (e ∷ events) v es = (x : WorldValue) × (here : List Steering) × (rest : List Steering) × Step w e x ×
+    Shows w e x here × Projects x events v rest × (es ≡ here ++ rest)
 
--- If the first loss halts the world, the controller's part of a run is a run of the controller, with the same coordinator.
+-- If the first loss halts the world, the controller's part of a run is a run of the controller, with the same
+-- coordinator.
 abbrev pub RunsAreDriven : Type 0
-RunsAreDriven = (w : WorldValue) (events : List Event) (v : WorldValue) → HaltsAtLoss w.fleet.control → AllByRecursion IsHonest events → Runs w events v → (es : List Steering) × Projects w events v es × Drives w.fleet.control es v.fleet.control
+RunsAreDriven = (w : WorldValue) (events : List Event) (v : WorldValue) → HaltsAtLoss w.fleet.control →
+    AllByRecursion IsHonest events → Runs w events v → (es : List Steering) × Projects w events v es ×
+    Drives w.fleet.control es v.fleet.control
 
 -- ---- from the controller to the world
 
--- The event of the world that an event of the controller is: a message is the front of its channel, and no copy carries the stamp of a drain.
+-- The event of the world that an event of the controller is: a message is the front of its channel, and no copy carries
+-- the stamp of a drain.
 abbrev pub Means : WorldValue → Steering → Event → Type 0
 Means w Begin e = e ≡ (event.Controller of_controller.Begin)
 Means w (Send s m) e = e ≡ event.Controller (of_controller.Send s)
@@ -62,6 +67,9 @@ Means w (Drained stamp) e = NoneCarries stamp w.flights × (e ≡ event.Controll
 Means w (Lost s) e = e ≡ event.Controller (of_controller.Lost s)
 Means w (Garbled s f) e = ⊥
 
--- If the first loss halts the world, what the controller can do next can happen in it, and leads to the same coordinator.
+-- If the first loss halts the world, what the controller can do next can happen in it, and leads to the same
+-- coordinator.
 abbrev pub SteeringIsEnabled : Type 0
-SteeringIsEnabled = (w : WorldValue) (s : Steering) (d : Control) (e : Event) → IsKept w → HaltsAtLoss w.fleet.control → Steers w.fleet.control s d → Means w s e → IsEnabled w e × ((v : WorldValue) × Step w e v × (v.fleet.control ≡ d))
+SteeringIsEnabled = (w : WorldValue) (s : Steering) (d : Control) (e : Event) → IsKept w →
+    HaltsAtLoss w.fleet.control → Steers w.fleet.control s d → Means w s e → IsEnabled w e ×
+    ((v : WorldValue) × Step w e v × (v.fleet.control ≡ d))

@@ -11,8 +11,8 @@ pub fn runs_are_driven()
     ensures { RunsAreDriven }
 {}
 
-/// What the controller alone can do next can happen in the world too, and leads to the same coordinator there. A message
-/// is the front of its channel, no copy carries the stamp of a drain, and the first loss halts the world.
+/// What the controller alone can do next can happen in the world too, and leads to the same coordinator there. A
+/// message is the front of its channel, no copy carries the stamp of a drain, and the first loss halts the world.
 pub fn steering_is_enabled()
     ensures { SteeringIsEnabled }
 {

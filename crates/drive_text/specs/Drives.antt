@@ -26,7 +26,8 @@ steering_text switches (Send s m) = worded word.Send (number_at switches s ++ me
 steering_text switches (Heard s m) = worded word.Heard (number_at switches s ++ message_text m)
 steering_text switches (Drained v) = worded word.Drained (decimal v)
 steering_text switches (Lost s) = worded word.Lost (number_at switches s)
-steering_text switches (Garbled s f) = worded word.Garbled (number_at switches s ++ (codes " " ++ decimal (fault_number f)))
+steering_text switches (Garbled s f) =
+    worded word.Garbled (number_at switches s ++ (codes " " ++ decimal (fault_number f)))
 
 -- the line of an event
 abbrev pub steering_line : List DeclaredSwitch → Steering → List ℕ

@@ -81,7 +81,8 @@ fn put_event(
     event: &Steering,
 ) -> Result<(), AllocError>
     requires { IsWritable event.now }
-    ensures { OnOk result (string_bytes out.new ≡ string_bytes out.old ++ (codes "e " ++ steering_text switches.now event.now)) }
+    ensures { OnOk result (string_bytes out.new ≡ string_bytes out.old ++
+        (codes "e " ++ steering_text switches.now event.now)) }
 {
     match event {
         Steering::Begin => out.push_str("e begin"),

@@ -21,15 +21,17 @@ StartsAs before now (Err Report) = ⊥
 StartsAs before now (Err Net) = ⊥
 
 -- Threads and reports: each fault raised the count of its object, and none falls.
-pub record RunCause {T : Type 0} (starts starts_now reports reports_now : ℕ) (result : Result T DriveFault) : Type 0 where
-  pub threads : starts ≤ starts_now
-  pub reporter : reports ≤ reports_now
-  pub no_thread : result ≡ Err NoThread → Rose starts starts_now
-  pub report : result ≡ Err Report → Rose reports reports_now
-  pub net : ¬ (result ≡ Err Net)
+pub record RunCause {T : Type 0} (starts starts_now reports reports_now : ℕ) (result : Result T DriveFault) : Type 0
+  where
+    pub threads : starts ≤ starts_now
+    pub reporter : reports ≤ reports_now
+    pub no_thread : result ≡ Err NoThread → Rose starts starts_now
+    pub report : result ≡ Err Report → Rose reports reports_now
+    pub net : ¬ (result ≡ Err Net)
 
 -- The same, and a port that could not be opened raised the net's count.
-pub record DriveCause {T : Type 0} (nets nets_now starts starts_now reports reports_now : ℕ) (result : Result T DriveFault) : Type 0 where
+pub record DriveCause {T : Type 0} (nets nets_now starts starts_now reports reports_now : ℕ)
+    (result : Result T DriveFault) : Type 0 where
   pub net : result ≡ Err Net → Rose nets nets_now
   pub no_thread : result ≡ Err NoThread → Rose starts starts_now
   pub report : result ≡ Err Report → Rose reports reports_now

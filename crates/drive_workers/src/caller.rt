@@ -11,8 +11,8 @@ use std::alloc::AllocError;
 use std::sync::Wait;
 use std::time::Clock;
 
-/// Begins updates, and takes the reports of drains, until the drive is closed or over. Where the drive stands is posted at
-/// each turn. It answers a fault if the reporter failed, or out of memory.
+/// Begins updates, and takes the reports of drains, until the drive is closed or over. Where the drive stands is posted
+/// at each turn. It answers a fault if the reporter failed, or out of memory.
 pub fn steer<R: Wait + Clock + Drop, L: DriveName, E: Link, Q: Reporter, J: BoardName>(
     desk: &DriveDesk<R, L, E, Q::Receipt>,
     reporter: &mut Q,

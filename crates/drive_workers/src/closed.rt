@@ -22,8 +22,8 @@ use update_coordinator::Coordinator;
 use worker_desk::Gate;
 
 /// Drives outside switches from this start until it is over, with a worker for each end. Gives the coordinator, the
-/// journal that led to it, the reports that were kept for drains, and the end that was kept if it has halted. The gate is
-/// told meanwhile how far the drive is, if it wants to be.
+/// journal that led to it, the reports that were kept for drains, and the end that was kept if it has halted. The gate
+/// is told meanwhile how far the drive is, if it wants to be.
 pub fn run_drive<
     R: Wait + Clock + Clone + Drop + Send + 'static,
     E: Link + Send + 'static,
@@ -45,10 +45,12 @@ where
     requires losses { HaltsAtLoss coordinator }
     requires count { vec_len ends ≡ length coordinator.peers }
     requires ends { AreEnds E.named E.received ends.items }
-    ensures journal { IfOk result (λ r. IsSteered E.named E.faults E.received Q.Receipt.stamped coordinator r.0 r.1.items r.2.items r.3.items) }
+    ensures journal { IfOk result
+        (λ r. IsSteered E.named E.faults E.received Q.Receipt.stamped coordinator r.0 r.1.items r.2.items r.3.items) }
     ensures writable { IfOk result (λ r. AreWritable r.1.items) }
     ensures over { IfOk result (λ r. IsOver r.0) }
-    ensures cause { RunCause (T.faults threads.old) (T.faults threads.new) (Q.faults reporter.old) (Q.faults reporter.new) result }
+    ensures cause { RunCause (T.faults threads.old) (T.faults threads.new) (Q.faults reporter.old)
+        (Q.faults reporter.new) result }
 {
     let board = Board::new();
     run_named::<Brand, R, E, Q, G, T>(rt, alloc, board, coordinator, ends, reporter, threads, gate)
@@ -79,10 +81,12 @@ where
     requires losses { HaltsAtLoss coordinator }
     requires count { vec_len ends ≡ length L.start.peers }
     requires ends { AreEnds E.named E.received ends.items }
-    ensures journal { IfOk result (λ r. IsSteered E.named E.faults E.received Q.Receipt.stamped L.start r.0 r.1.items r.2.items r.3.items) }
+    ensures journal { IfOk result
+        (λ r. IsSteered E.named E.faults E.received Q.Receipt.stamped L.start r.0 r.1.items r.2.items r.3.items) }
     ensures writable { IfOk result (λ r. AreWritable r.1.items) }
     ensures over { IfOk result (λ r. IsOver r.0) }
-    ensures cause { RunCause (T.faults threads.old) (T.faults threads.new) (Q.faults reporter.old) (Q.faults reporter.new) result }
+    ensures cause { RunCause (T.faults threads.old) (T.faults threads.new) (Q.faults reporter.old)
+        (Q.faults reporter.new) result }
 {
     let last = coordinator.versions().len();
     let Ok(held) = Steered::<L, E, Q::Receipt>::make(alloc, coordinator) else {

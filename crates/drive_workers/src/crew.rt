@@ -44,7 +44,8 @@ where
     requires count { vec_len ends ≡ length L.start.peers }
     requires ends { AreEnds E.named E.received ends.items }
     ensures over { IfOk result (λ h. IsOver h.control) }
-    ensures cause { RunCause (T.faults threads.old) (T.faults threads.new) (Q.faults reporter.old) (Q.faults reporter.new) result }
+    ensures cause { RunCause (T.faults threads.old) (T.faults threads.new) (Q.faults reporter.old)
+        (Q.faults reporter.new) result }
 {
     let Ok(drive) = Drive::new(alloc, held) else {
         return Err(DriveFault::Memory);
@@ -97,7 +98,8 @@ impl<
     ) -> Result<(), DriveFault>
         requires count { vec_len ends ≡ length L.start.peers }
         requires ends { AreEnds E.named E.received ends.items }
-        ensures { RunCause (T.faults threads.old) (T.faults threads.new) (P.faults reporter.old) (P.faults reporter.new) result }
+        ensures { RunCause (T.faults threads.old) (T.faults threads.new) (P.faults reporter.old)
+            (P.faults reporter.new) result }
     {
         self.start_all(ends, threads)?;
         steer(self.desk, reporter, pen)

@@ -19,8 +19,8 @@ use std::time::Clock;
 use update_coordinator::Coordinator;
 use worker_desk::Gate;
 
-/// Drives outside switches from this start until it is over. Each comes in at the port of its place on this machine, and
-/// whoever reports drains at the port after these. It gives the coordinator and the journal that led to it.
+/// Drives outside switches from this start until it is over. Each comes in at the port of its place on this machine,
+/// and whoever reports drains at the port after these. It gives the coordinator and the journal that led to it.
 pub fn drive_over<
     R: Wait + Clock + Clone + Drop + Send + 'static,
     N: Net,
@@ -43,8 +43,10 @@ where
     requires runs { coordinator.halt ≡ None }
     requires losses { HaltsAtLoss coordinator }
     requires switches { length coordinator.peers < 2 ^ 32 }
-    ensures driven { IfOk result (λ r. IsDriven Q.Receipt.stamped (N.broken net.old) (N.broken net.new) coordinator r.0 r.1.items) }
-    ensures cause { DriveCause (N.faults net.old) (N.faults net.new) (T.faults threads.old) (T.faults threads.new) (Q.faults reporter.old) (Q.faults reporter.new) result }
+    ensures driven { IfOk result
+        (λ r. IsDriven Q.Receipt.stamped (N.broken net.old) (N.broken net.new) coordinator r.0 r.1.items) }
+    ensures cause { DriveCause (N.faults net.old) (N.faults net.new) (T.faults threads.old) (T.faults threads.new)
+        (Q.faults reporter.old) (Q.faults reporter.new) result }
 {
     a_lost_session_is_last();
     let count = coordinator.switch_count() as u32;

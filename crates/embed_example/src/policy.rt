@@ -42,8 +42,8 @@ impl From<AllocError> for PolicyError {
     }
 }
 
-/// The policy with rows that stand for it: of each packet at a port, the first row that hits sends what the policy gives.
-/// Or the first reason why there are none.
+/// The policy with rows that stand for it: of each packet at a port, the first row that hits sends what the policy
+/// gives. Or the first reason why there are none.
 pub fn version(alloc: Global, pol: &Pol, topology: &Topology) -> Result<Version, PolicyError>
     ensures means { IfOk result (λ v. RowsMean v.rows (term_of pol.now) topology.now) }
     ensures writable { IfOk result (λ v. AreWritable v.rows) }

@@ -27,15 +27,18 @@ number_of Second = 2
 
 -- ---- of two policies
 
--- Each well-shaped packet has the same results under both. If they are plain, it has the same histories in each topology.
+-- Each well-shaped packet has the same results under both. If they are plain, it has the same histories in each
+-- topology.
 pub record AreEqual (p q : Term) : Type 0 where
   pub results : HaveSameResults p q
   pub histories : IsPlain p → IsPlain q → HaveSameHistories p q
 
--- The text says that they are equal, or shows a well-shaped packet and a result of it that just the policy of this number gives.
+-- The text says that they are equal, or shows a well-shaped packet and a result of it that just the policy of this
+-- number gives.
 pub data IsComparison (p q : Term) (text : List ℕ) : Type 0 where
   equal : AreEqual p q → text ≡ equal_text → IsComparison p q text
-  apart : (x : Apart) → AreApartBy p q x → text ≡ apart_text x.packet x.output (number_of x.side) → IsComparison p q text
+  apart : (x : Apart) → AreApartBy p q x → text ≡ apart_text x.packet x.output (number_of x.side) →
+      IsComparison p q text
 
 -- the first fault of the two, with the number of its policy
 pub record IsPairFault (p q : Term) (f : Fault) : Type 0 where

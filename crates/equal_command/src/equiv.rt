@@ -22,7 +22,8 @@ use value_text::{Fault, Text, apart_text, equal_text};
 
 /// The comparison of the two policies of a source's document.
 pub fn equiv_answer<S: Source>(alloc: Global, source: &mut S) -> Result<Answer, AnswerError>
-    ensures answer { IfOk result (λ a. IsEquivAnswer (source_of S.left S.faults source.old source.new) a.status a.text) }
+    ensures answer { IfOk result
+        (λ a. IsEquivAnswer (source_of S.left S.faults source.old source.new) a.status a.text) }
     ensures stops { IfErr result (Stops IsEquivRefused (source_of S.left S.faults source.old source.new)) }
     ensures at_most { TakesAtMost 4194305 (S.left source.old) (S.left source.new) }
 {

@@ -3,7 +3,9 @@ use Rattle.std.specs.Prelude.{◌≡◌, ◌↔◌, ℕ, List, [], ◌∷◌, co
 use Rattle.std.specs.List.{find}
 use Rattle.std.specs.Str.{bytes_eq}
 use Rattle.event_words.specs.declared.word.EventWord.{EventWord}
-use Rattle.event_words.specs.declared.word.EventWord.TheVariants.{Begin, Send, Take, Apply, Reply, Heard, Arrive, Hop, Drained, Lost, Rejoin, Stuck, Foreign, Garbled, Settle, Flow}
+use Rattle.event_words.specs.declared.word.EventWord.TheVariants.{Begin, Send, Take, Apply, Reply, Heard, Arrive, Hop}
+use Rattle.event_words.specs.declared.word.EventWord.TheVariants.{Drained, Lost, Rejoin, Stuck, Foreign, Garbled}
+use Rattle.event_words.specs.declared.word.EventWord.TheVariants.{Settle, Flow}
 
 -- a word as it is written
 abbrev pub text_of : EventWord → List ℕ
@@ -25,7 +27,8 @@ text_of Settle = codes "settle"
 text_of Flow = codes "flow"
 
 abbrev pub all_words : List EventWord
-all_words = Begin ∷ Send ∷ Take ∷ Apply ∷ Reply ∷ Heard ∷ Arrive ∷ Hop ∷ Drained ∷ Lost ∷ Rejoin ∷ Stuck ∷ Foreign ∷ Garbled ∷ Settle ∷ Flow ∷ []
+all_words = Begin ∷ Send ∷ Take ∷ Apply ∷ Reply ∷ Heard ∷ Arrive ∷ Hop ∷ Drained ∷ Lost ∷ Rejoin ∷ Stuck ∷ Foreign ∷
+    Garbled ∷ Settle ∷ Flow ∷ []
 
 -- the word that bytes are, if they are one
 abbrev pub word_of : List ℕ → Option EventWord

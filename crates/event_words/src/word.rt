@@ -5,8 +5,8 @@
 ghost use Rattle.std.specs.Prelude.{◌≡◌};
 ghost use Rattle.event_words.specs.Words.{text_of, word_of};
 
-/// The word that names an event. `Settle` and `Flow` stand for many events, and only schedules have them. Only reports of
-/// the world have `Foreign`, and only those of outside switches `Garbled`.
+/// The word that names an event. `Settle` and `Flow` stand for many events, and only schedules have them. Only reports
+/// of the world have `Foreign`, and only those of outside switches `Garbled`.
 #[derive(Clone, Copy, Debug, PartialEq, Eq)]
 pub enum EventWord {
     Begin,

@@ -17,7 +17,8 @@ use Rattle.fdd_store.specs.Stores.{Kept, Has, Gives, tree_at}
 abbrev pub FitsFrame : Frame → Packet → Type 0
 FitsFrame k p = (f : Field) → Leaves k f (get p f)
 
--- x answers the packets of the kind as a does; it names no field that the kind fixes, and tests no value that it excludes
+-- x answers the packets of the kind as a does; it names no field that the kind fixes, and tests no value that it
+-- excludes
 pub record Restricts (k : Frame) (a x : Tree) : Type 0 where
   pub same : (p : Packet) → FitsFrame k p → SameAnswers (answers x p) (answers a p)
   pub tests : (m : Lit) → Tests x m → Tests a m

@@ -29,9 +29,11 @@ pub record IsFixedBy (q : Packet) (x y : Tree) (f : Field) : Type 0 where
 abbrev pub StartsAt : ℕ → Tree → Type 0
 StartsAt k t = (m : Lit) → Tests t m → k ≤ rank m
 
--- Within the cell c, q is a cell in which the diagrams answer apart: each packet of q that holds nothing else which they name.
+-- Within the cell c, q is a cell in which the diagrams answer apart: each packet of q that holds nothing else which
+-- they name.
 pub record CellApart (c : Packet) (x y : Tree) (q : Packet) : Type 0 where
   pub keeps : (f : Field) → ¬ IsOpen c f → get q f ≡ get c f
   pub fixed : (f : Field) → ¬ IsOpen q f → (¬ IsOpen c f) ⊎ IsFixedBy q x y f
   pub beyond : (k : ℕ) → StartsAt k x → StartsAt k y → (m : Lit) → Holds q m → Holds c m ⊎ (k ≤ rank m)
-  pub differs : (p : Packet) → Agrees q p → ((m : Lit) → NamesLit x m ⊎ NamesLit y m → Holds p m → Holds q m) → ¬ SameAnswers (answers x p) (answers y p)
+  pub differs : (p : Packet) → Agrees q p → ((m : Lit) → NamesLit x m ⊎ NamesLit y m → Holds p m → Holds q m) →
+      ¬ SameAnswers (answers x p) (answers y p)

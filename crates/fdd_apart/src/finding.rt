@@ -6,7 +6,8 @@ ghost use Rattle.nk_values.specs.Members.{Within};
 ghost use Rattle.fdd_differ.specs.Unnamed.{AreFewNames};
 ghost use Rattle.fdd_nodes.specs.Trees.{answers, SameAnswers};
 ghost use Rattle.fdd_store.specs.Stores.{Has, Grows, tree_at};
-ghost use Rattle.fdd_apart.specs.Aparts.{AreAlikeShaped, AreAlikeOf, AreAlikeBoth, AreNamesOf, IsApart, IsAsked, IsPacketOf, IsApartOn};
+ghost use Rattle.fdd_apart.specs.Aparts.{AreAlikeShaped, AreAlikeOf, AreAlikeBoth, AreNamesOf, IsApart, IsAsked};
+ghost use Rattle.fdd_apart.specs.Aparts.{IsPacketOf, IsApartOn};
 
 use crate::kinds::restriction;
 use crate::outputs::lone_output;
@@ -32,11 +33,12 @@ pub struct Apart {
     pub side: Side,
 }
 
-/// A well-shaped packet and an output that just one of two diagrams gives, or none if they answer each well-shaped packet
-/// alike (ICFP 2015, section 3).
+/// A well-shaped packet and an output that just one of two diagrams gives, or none if they answer each well-shaped
+/// packet alike (ICFP 2015, section 3).
 ///
-/// The diagrams are compared on one kind of frame at a time. A store has one diagram for each answer, so what they are on
-/// the packets of a kind has two names exactly if one of these packets tells them apart. Equal names are answered at once.
+/// The diagrams are compared on one kind of frame at a time. A store has one diagram for each answer, so what they are
+/// on the packets of a kind has two names exactly if one of these packets tells them apart. Equal names are answered at
+/// once.
 ///
 /// `names` has all literals that the diagrams test and assign, in any order. The error is that memory ran out.
 pub fn apart_in(
@@ -52,7 +54,9 @@ pub fn apart_in(
     requires named_a { AreNamesOf names.now (tree_at store.old a) }
     requires named_b { AreNamesOf names.now (tree_at store.old b) }
     ensures grows { Grows store.old store.new }
-    ensures told { IfOk result (λ o. MatchOption o (AreAlikeShaped (tree_at store.old a) (tree_at store.old b)) (IsApart (tree_at store.old a) (tree_at store.old b))) }
+    ensures told { IfOk result
+        (λ o. MatchOption o (AreAlikeShaped (tree_at store.old a) (tree_at store.old b))
+        (IsApart (tree_at store.old a) (tree_at store.old b))) }
 {
     if are_one(store, a, b) {
         return Ok(None);
@@ -83,7 +87,9 @@ fn apart_in_two_kinds(
 ) -> Result<Option<Apart>, AllocError>
     requires { IsAsked store.old a b names.now }
     ensures grows { Grows store.old store.new }
-    ensures told { IfOk result (λ o. MatchOption o (AreAlikeBoth first second (tree_at store.old a) (tree_at store.old b)) (IsApart (tree_at store.old a) (tree_at store.old b))) }
+    ensures told { IfOk result
+        (λ o. MatchOption o (AreAlikeBoth first second (tree_at store.old a) (tree_at store.old b))
+        (IsApart (tree_at store.old a) (tree_at store.old b))) }
 {
     if let Some(found) = apart_in_kind(alloc, store, a, b, names, first)? {
         return Ok(Some(found));
@@ -102,7 +108,9 @@ fn apart_in_kind(
 ) -> Result<Option<Apart>, AllocError>
     requires { IsAsked store.old a b names.now }
     ensures grows { Grows store.old store.new }
-    ensures told { IfOk result (λ o. MatchOption o (AreAlikeOf frame (tree_at store.old a) (tree_at store.old b)) (IsApart (tree_at store.old a) (tree_at store.old b))) }
+    ensures told { IfOk result
+        (λ o. MatchOption o (AreAlikeOf frame (tree_at store.old a) (tree_at store.old b))
+        (IsApart (tree_at store.old a) (tree_at store.old b))) }
 {
     let x = restriction(alloc, store, frame, a)?;
     let y = restriction(alloc, store, frame, b)?;
@@ -127,7 +135,9 @@ fn packet_of(cell: &Cell, frame: Frame, names: &[Lit]) -> Packet
 fn output_apart(store: &Store, a: Id, b: Id, packet: &Packet) -> Option<Apart>
     requires has_a { Has store.now a }
     requires has_b { Has store.now b }
-    ensures { MatchOption result (SameAnswers (answers (tree_at store.now a) packet.now) (answers (tree_at store.now b) packet.now)) (IsApartOn (tree_at store.now a) (tree_at store.now b) packet.now) }
+    ensures { MatchOption result
+        (SameAnswers (answers (tree_at store.now a) packet.now) (answers (tree_at store.now b) packet.now))
+        (IsApartOn (tree_at store.now a) (tree_at store.now b) packet.now) }
 {
     let packet = *packet;
     if let Some(output) = lone_output(store, a, b, &packet) {

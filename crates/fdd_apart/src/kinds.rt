@@ -21,8 +21,8 @@ use indexmap::IndexMap;
 use nk_values::Lit;
 use std::alloc::{AllocError, Global};
 
-/// The diagram that answers each well-shaped packet of a kind as another one does. It tests and assigns only what the kind
-/// leaves open.
+/// The diagram that answers each well-shaped packet of a kind as another one does. It tests and assigns only what the
+/// kind leaves open.
 ///
 /// A part that is shared is walked once.
 pub(crate) fn restriction(
@@ -66,7 +66,8 @@ fn restrict(
 
 // The result for a part that was walked.
 fn found(known: &IndexMap<Id, Id>, a: Id) -> Option<Id>
-    ensures { (k : Frame) (s : Kept) → AreRestrictions k s known.now.entries → IfSome result (λ r. IsRestriction k s a r) }
+    ensures { (k : Frame) (s : Kept) → AreRestrictions k s known.now.entries →
+        IfSome result (λ r. IsRestriction k s a r) }
 {
     match known.get(&a) {
         None => None,

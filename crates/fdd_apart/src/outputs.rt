@@ -17,7 +17,9 @@ use nk_values::Packet;
 pub(crate) fn lone_output(store: &Store, a: Id, b: Id, packet: &Packet) -> Option<Packet>
     requires has_a { Has store.now a }
     requires has_b { Has store.now b }
-    ensures { MatchOption result (Within (answers (tree_at store.now a) packet.now) (answers (tree_at store.now b) packet.now)) (IsLoneOutput (tree_at store.now a) (tree_at store.now b) packet.now) }
+    ensures { MatchOption result
+        (Within (answers (tree_at store.now a) packet.now) (answers (tree_at store.now b) packet.now))
+        (IsLoneOutput (tree_at store.now a) (tree_at store.now b) packet.now) }
 {
     let (leaf, other) = (leaf_on(store, a, packet), leaf_on(store, b, packet));
     lone_outcome(leaf.copies(), other.copies(), packet)

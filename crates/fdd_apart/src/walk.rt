@@ -60,7 +60,8 @@ fn first_test(store: &Store, a: Id, b: Id) -> Option<Lit>
     requires has_b { Has store.now b }
     ensures made_a { IsMade (tree_at store.now a) }
     ensures made_b { IsMade (tree_at store.now b) }
-    ensures first { MatchOption result (IsLeaf (tree_at store.now a) × IsLeaf (tree_at store.now b)) (λ l. IsFirst l (tree_at store.now a) (tree_at store.now b)) }
+    ensures first { MatchOption result (IsLeaf (tree_at store.now a) × IsLeaf (tree_at store.now b))
+        (λ l. IsFirst l (tree_at store.now a) (tree_at store.now b)) }
 {
     let (first, second) = (root_test(store, a), root_test(store, b));
     let Some(l) = first else {

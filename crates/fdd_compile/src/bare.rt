@@ -32,7 +32,8 @@ pub(crate) fn bare(alloc: Global, store: &mut Store, summands: &[Summand]) -> Re
 
 // Puts a diagram after others, if it is not the last of them again.
 fn put_part(parts: &mut Vec<Id>, part: Id) -> Result<(), AllocError>
-    ensures { OnOk result ((parts.new.items ≡ parts.old.items ++ part ∷ []) ⊎ ((parts.new.items ≡ parts.old.items) × IsIn parts.old.items part)) }
+    ensures { OnOk result ((parts.new.items ≡ parts.old.items ++ part ∷ []) ⊎
+        ((parts.new.items ≡ parts.old.items) × IsIn parts.old.items part)) }
 {
     if let Some(last) = parts.last() {
         if last.place() == part.place() {

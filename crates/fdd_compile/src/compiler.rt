@@ -38,7 +38,8 @@ impl Compiler {
     /// As `compile`. After an error further policies can be compiled.
     pub fn compile(&mut self, alloc: Global, pol: &Pol) -> Result<Compiled, CompileError>
         requires { AreFewNamed (TermNames (term_of pol.now)) }
-        ensures told { MatchResult result (λ c. CompiledOf (term_of pol.now) (diagram_of c)) (λ e. Refuses (term_of pol.now) e) }
+        ensures told { MatchResult result (λ c. CompiledOf (term_of pol.now) (diagram_of c))
+            (λ e. Refuses (term_of pol.now) e) }
         ensures faultless { OnOk result (IsFaultless (term_of pol.now)) }
     {
         if let Some(fault) = leftmost_fault(pol) {
@@ -48,11 +49,12 @@ impl Compiler {
     }
 }
 
-/// The split diagram of a policy, or the first reason against it. In order, these are the leftmost `dup` or assignment to
-/// sw, ethTyp or ipProto; the first star that is deep; and a well-shaped packet with a result that is not.
+/// The split diagram of a policy, or the first reason against it. In order, these are the leftmost `dup` or assignment
+/// to sw, ethTyp or ipProto; the first star that is deep; and a well-shaped packet with a result that is not.
 pub fn compile(alloc: Global, pol: &Pol) -> Result<Compiled, CompileError>
     requires { AreFewNamed (TermNames (term_of pol.now)) }
-    ensures told { MatchResult result (λ c. CompiledOf (term_of pol.now) (diagram_of c)) (λ e. Refuses (term_of pol.now) e) }
+    ensures told { MatchResult result (λ c. CompiledOf (term_of pol.now) (diagram_of c))
+        (λ e. Refuses (term_of pol.now) e) }
     ensures faultless { OnOk result (IsFaultless (term_of pol.now)) }
 {
     let mut compiler = Compiler::new(alloc);

@@ -22,7 +22,8 @@ use std::alloc::Global;
 pub fn meaning(alloc: Global, store: &mut Store, pol: &Pol) -> Result<Id, CompileError>
     requires { AreFewNamed (TermNames (term_of pol.now)) }
     ensures grows { Grows store.old store.new }
-    ensures told { MatchResult result (λ r. Gives store.new r (MeaningOf (term_of pol.now))) (λ e. RefusesMeaning (term_of pol.now) e) }
+    ensures told { MatchResult result (λ r. Gives store.new r (MeaningOf (term_of pol.now)))
+        (λ e. RefusesMeaning (term_of pol.now) e) }
 {
     if !is_flat(pol) {
         return Err(CompileError::Fault(CompileFault::Dup));

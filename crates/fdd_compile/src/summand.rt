@@ -20,8 +20,8 @@ pub(crate) struct Summand {
 }
 
 impl Summand {
-    /// A diagram behind tests. Tests at the front of the diagram that keep nothing else are taken out of it, and all tests
-    /// stand in their order.
+    /// A diagram behind tests. Tests at the front of the diagram that keep nothing else are taken out of it, and all
+    /// tests stand in their order.
     pub(crate) fn new(
         store: &Store,
         zero: Id,
@@ -31,7 +31,8 @@ impl Summand {
         requires has { Has store.now below }
         requires zero { Gives store.now zero ZeroOf }
         ensures has { IfOk result (λ s. Has store.now s.below) }
-        ensures alike { IfOk result (λ s. AreAlike (left_of 0 store.now s ∷ []) (if_all tests.items (tree_at store.now below) ∷ [])) }
+        ensures alike { IfOk result
+            (λ s. AreAlike (left_of 0 store.now s ∷ []) (if_all tests.items (tree_at store.now below) ∷ [])) }
     {
         let mut all = Summand { tests, below };
         while let Some(front) = front_of(store, zero, all.below) {
@@ -111,7 +112,8 @@ fn front_of(store: &Store, zero: Id, a: Id) -> Option<Front>
     requires has { Has store.now a }
     requires zero { Gives store.now zero ZeroOf }
     ensures has { IfSome result (λ r. Has store.now r.below) }
-    ensures alike { IfSome result (λ r. AreAlike (Node r.test (tree_at store.now r.below) (Ends []) ∷ []) (tree_at store.now a ∷ [])) }
+    ensures alike { IfSome result
+        (λ r. AreAlike (Node r.test (tree_at store.now r.below) (Ends []) ∷ []) (tree_at store.now a ∷ [])) }
     ensures lower { IfSome result (λ r. IsLower (tree_at store.now r.below) (tree_at store.now a)) }
 {
     match store.look(a) {

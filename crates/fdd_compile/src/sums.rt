@@ -29,7 +29,8 @@ pub(crate) fn summed(
     swept(alloc, store, &summands, 0)
 }
 
-// Summands whose tests begin alike stand together, those with no more tests first, and then those with later tests first.
+// Summands whose tests begin alike stand together, those with no more tests first, and then those with later tests
+// first.
 fn order(a: &Summand, b: &Summand) -> Ordering {
     let (xs, ys) = (a.tests.as_slice(), b.tests.as_slice());
     for (x, y) in xs.iter().zip(ys.iter()) {
@@ -114,7 +115,8 @@ fn sweep(
     requires rest { Gives store.old rest IsNormal }
     requires small { AreSmall (tree_at store.old rest ∷ map (left_of from store.old) summands.now) }
     ensures grows { Grows store.old store.new }
-    ensures place { IfOk result (λ r. Gives store.new r (UnionOfAll (tree_at store.old rest ∷ map (left_of from store.old) summands.now))) }
+    ensures place { IfOk result
+        (λ r. Gives store.new r (UnionOfAll (tree_at store.old rest ∷ map (left_of from store.old) summands.now))) }
 {
     let mut whole = rest;
     let mut start = 0;
@@ -168,7 +170,8 @@ fn closed(
     requires whole { Gives store.old whole IsNormal }
     requires small { AreSmall (tree_at store.old whole ∷ map (left_of from store.old) run.now) }
     ensures grows { Grows store.old store.new }
-    ensures place { IfOk result (λ r. Gives store.new r (UnionOfAll (tree_at store.old whole ∷ map (left_of from store.old) run.now))) }
+    ensures place { IfOk result
+        (λ r. Gives store.new r (UnionOfAll (tree_at store.old whole ∷ map (left_of from store.old) run.now))) }
 {
     match test {
         Some(test) => {

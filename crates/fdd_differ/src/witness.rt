@@ -30,7 +30,8 @@ pub fn path_packet(path: &Path) -> Option<Packet>
 
 /// A well-shaped packet of a path that is a frame of one kind, or none if there is no such packet.
 ///
-/// One candidate is enough: it has what the kind and the true tests fix, and elsewhere values that the path doesn't name.
+/// One candidate is enough: it has what the kind and the true tests fix, and elsewhere values that the path doesn't
+/// name.
 pub fn path_packet_in(path: &Path, frame: Frame) -> Option<Packet>
     requires { IsFewOn path.now }
     ensures { MatchOption result ((p : Packet) → ¬ IsWitnessOf path.now frame p) (IsWitnessOf path.now frame) }

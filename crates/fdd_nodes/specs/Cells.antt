@@ -10,7 +10,8 @@ use Rattle.nk_values.specs.Ranges.{IsValue}
 use Rattle.nk_values.specs.Ranks.{rank}
 use Rattle.fdd_nodes.specs.Trees.{Tree, Leaf, Node, answers, SameAnswers, IsOrderedFrom, Tests, IsSetBy, Assigns}
 
--- the number of a field that nothing fixes; no literal has it. It is named where cells are made and asked, and nowhere else.
+-- the number of a field that nothing fixes; no literal has it. It is named where cells are made and asked, and nowhere
+-- else.
 abbrev pub free : ℕ
 free = 18446744073709551615
 
@@ -91,8 +92,10 @@ pub record IsValid (c : Packet) : Type 0 where
 pub record Parts (c : Packet) (a b : Tree) (q : Packet) : Type 0 where
   pub keeps : (f : Field) → ¬ IsOpen c f → get q f ≡ get c f
   pub valid : IsValid c → IsValid q
-  pub beyond : (k : ℕ) → IsOrderedFrom k a → IsOrderedFrom k b → (m : Lit) → IsOpen c (lit_field m) → Holds q m → k ≤ rank m
-  pub differs : (k : ℕ) → IsOrderedFrom k a → IsOrderedFrom k b → (g : Packet) → IsFresh g a → IsFresh g b → ¬ SameAnswers (answers a (fill q g)) (answers b (fill q g))
+  pub beyond : (k : ℕ) → IsOrderedFrom k a → IsOrderedFrom k b → (m : Lit) → IsOpen c (lit_field m) → Holds q m →
+      k ≤ rank m
+  pub differs : (k : ℕ) → IsOrderedFrom k a → IsOrderedFrom k b → (g : Packet) → IsFresh g a → IsFresh g b →
+      ¬ SameAnswers (answers a (fill q g)) (answers b (fill q g))
 
 -- no leaf assigns what the cell or its path in it fixes
 abbrev pub Respects : Packet → Tree → Type 0

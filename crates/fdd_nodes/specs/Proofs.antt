@@ -5,4 +5,5 @@ use Rattle.fdd_nodes.specs.Trees.{Tree, Leaf, Node, IsOrderedFrom}
 
 pub IsOrderedFrom-prop : (t : Tree) (k : ℕ) → IsProp (IsOrderedFrom k t)
 IsOrderedFrom-prop (Leaf cs) k = Unit-prop
-IsOrderedFrom-prop (Node l t e) k = λ x y. λ i. (le_prop x.0 y.0 i, IsOrderedFrom-prop t _ x.1 y.1 i, IsOrderedFrom-prop e _ x.2 y.2 i)
+IsOrderedFrom-prop (Node l t e) k =
+    λ x y. λ i. (le_prop x.0 y.0 i, IsOrderedFrom-prop t _ x.1 y.1 i, IsOrderedFrom-prop e _ x.2 y.2 i)

@@ -44,4 +44,5 @@ else_part l (Node m t e) = if rank m == rank l then e else Node m t e
 -- where the tests of a field lead that stand first, if it holds n
 abbrev pub part_with : Field → ℕ → Tree → Tree
 part_with f n (Leaf cs) = Leaf cs
-part_with f n (Node l t e) = if place (lit_field l) == place f then (if lit_value l == n then t else part_with f n e) else Node l t e
+part_with f n (Node l t e) = if place (lit_field l) ==
+    place f then (if lit_value l == n then t else part_with f n e) else Node l t e

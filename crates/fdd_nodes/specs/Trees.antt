@@ -11,7 +11,8 @@ use Rattle.nk_values.specs.Ranks.{step, rank}
 use Rattle.fdd_nodes.specs.declared.node.Node.TheVariants as made
 use Rattle.fdd_nodes.specs.declared.node.Node as rust
 
--- a diagram without where it lies in memory: a leaf with its copies, or a test with the branches where it holds and where not
+-- a diagram without where it lies in memory: a leaf with its copies, or a test with the branches where it holds and
+-- where not
 pub data Tree : Type 0 where
   Leaf : List (List Lit) → Tree
   Node : Lit → Tree → Tree → Tree
@@ -38,15 +39,16 @@ outcomes cs p = map (λ c. apply c p) cs
 abbrev pub answers : Tree → Packet → List Packet
 answers t p = outcomes (leaf_at t p) p
 
--- Answers are read as sets: where two are compared, by their members. What is said of one answer alone, as that a packet
--- is in it, asks for no order either.
+-- Answers are read as sets: where two are compared, by their members. What is said of one answer alone, as that a
+-- packet is in it, asks for no order either.
 abbrev pub SameAnswers : List Packet → List Packet → Type 0
 SameAnswers xs ys = SameMembers xs ys
 
 -- Tests rise by field and then by value, from the place k on. Below a true branch its field is not tested again.
 abbrev pub IsOrderedFrom : ℕ → Tree → Type 0
 IsOrderedFrom k (Leaf cs) = Unit {0}
-IsOrderedFrom k (Node l t e) = (k ≤ rank l) × IsOrderedFrom (step * (place (lit_field l) + 1)) t × IsOrderedFrom (rank l + 1) e
+IsOrderedFrom k (Node l t e) = (k ≤ rank l) × IsOrderedFrom (step * (place (lit_field l) + 1)) t ×
+    IsOrderedFrom (rank l + 1) e
 
 abbrev pub IsOrdered : Tree → Type 0
 IsOrdered t = IsOrderedFrom 0 t

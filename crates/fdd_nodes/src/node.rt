@@ -91,7 +91,8 @@ impl Node {
 
     /// The first of the tests at two roots, or none if both are leaves.
     pub fn first_test(&self, other: &Node) -> Option<Lit>
-        ensures { MatchOption result (IsLeaf (tree self.now) × IsLeaf (tree other.now)) (λ l. IsFirst l (tree self.now) (tree other.now)) }
+        ensures { MatchOption result (IsLeaf (tree self.now) × IsLeaf (tree other.now))
+            (λ l. IsFirst l (tree self.now) (tree other.now)) }
     {
         match self {
             Node::Leaf(_) => match other {

@@ -9,7 +9,8 @@ ghost use Rattle.fdd_nodes.specs.Names.{IsFew, AreFew};
 ghost use Rattle.fdd_nodes.specs.Normals.{IsNormal};
 ghost use Rattle.fdd_nodes.specs.Trees as trees;
 ghost use Rattle.fdd_split.specs.Split.{SplitOf};
-ghost use Rattle.fdd_store.specs.Operations.{IsPredicate, OneOf, ZeroOf, TestOf, AssignmentOf, UnionOf, ChoiceOf, SequenceOf, NegationOf, CofactorOf};
+ghost use Rattle.fdd_store.specs.Operations.{IsPredicate, OneOf, ZeroOf, TestOf, AssignmentOf, UnionOf, ChoiceOf};
+ghost use Rattle.fdd_store.specs.Operations.{SequenceOf, NegationOf, CofactorOf};
 
 use crate::parts::is_field_from;
 use crate::within;

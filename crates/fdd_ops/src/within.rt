@@ -6,7 +6,8 @@ ghost use Rattle.fdd_nodes.specs.Fdds.{tree_of};
 ghost use Rattle.fdd_nodes.specs.Names.{IsFew, AreFew};
 ghost use Rattle.fdd_nodes.specs.Trees as trees;
 ghost use Rattle.fdd_split.specs.Split.{SplitOf};
-ghost use Rattle.fdd_store.specs.Operations.{IsPredicate, IsFieldFrom, UnionOf, ChoiceOf, SequenceOf, NegationOf, CofactorOf, ReductionOf};
+ghost use Rattle.fdd_store.specs.Operations.{IsPredicate, IsFieldFrom, UnionOf, ChoiceOf, SequenceOf, NegationOf};
+ghost use Rattle.fdd_store.specs.Operations.{CofactorOf, ReductionOf};
 ghost use Rattle.fdd_store.specs.Stores.{Gives};
 
 use fdd_nodes::Fdd;

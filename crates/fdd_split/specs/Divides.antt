@@ -43,4 +43,6 @@ pub record Doubles (k : List Bar) (a : Tree) (l : Lit) (T E : List Bar → Tree 
 abbrev pub Divides : List Bar → Tree → Tree → Type 0
 Divides k a (Leaf cs) = HasNoThreat k a × (a ≡ Leaf cs)
 Divides k a (Node l t e) =
-    (HasNoThreat k a × (a ≡ Node l t e)) ⊎ (Branches k a l (λ j x. Divides j x t) (λ j x. Divides j x e) ⊎ Doubles k a l (λ j x. Divides j x t) (λ j x. Divides j x e))
+    (HasNoThreat k a × (a ≡ Node l t e)) ⊎
+    (Branches k a l (λ j x. Divides j x t) (λ j x. Divides j x e) ⊎
+    Doubles k a l (λ j x. Divides j x t) (λ j x. Divides j x e))

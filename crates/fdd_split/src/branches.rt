@@ -24,7 +24,8 @@ pub(crate) fn bars_then(
     branch: Id,
 ) -> Result<Vec<Bar>, AllocError>
     requires { Has store.now branch }
-    ensures { IfOk result (λ r. Narrows bars.now r.items (bar.Place (place (lit_field l.now))) (tree_at store.now branch)) }
+    ensures { IfOk result (λ r. Narrows bars.now r.items (bar.Place (place (lit_field l.now)))
+        (tree_at store.now branch)) }
 {
     let field = l.field();
     below(alloc, store, bars, Bar::Place(field.place()), field, branch)

@@ -92,7 +92,8 @@ fn threat_beside(
 // Whether some copy assigns the field a literal that may be a threat before the one that was found.
 fn has_candidate(bars: &[Bar], copies: &[Assignments], field: Field, found: Option<Lit>) -> bool
     requires { (x : List Lit) → IsIn copies.now x → IsCopy x }
-    ensures { IsFalse result → (c : List Lit) → IsIn copies.now c → (x : Lit) → IsIn c x → lit_field x ≡ field → ¬ IsCandidate bars.now x found }
+    ensures { IsFalse result → (c : List Lit) → IsIn copies.now c → (x : Lit) → IsIn c x → lit_field x ≡ field →
+        ¬ IsCandidate bars.now x found }
 {
     for c in copies {
         if let Some(l) = literal_of(c.lits(), field) {

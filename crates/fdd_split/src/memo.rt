@@ -24,8 +24,8 @@ pub(crate) struct Part {
     pub(crate) root: Rc<Node>,
 }
 
-/// Of each place of the store whether its diagram is plain, if that is known; the first threats that were found; what was
-/// divided; and the nodes of what was not.
+/// Of each place of the store whether its diagram is plain, if that is known; the first threats that were found; what
+/// was divided; and the nodes of what was not.
 #[derive(Drop)]
 pub(crate) struct Memo {
     pub(crate) plain: Vec<Option<bool>>,

@@ -81,7 +81,8 @@ pub(crate) fn first_of(a: Option<Lit>, b: Option<Lit>) -> Option<Lit>
 pub(crate) fn meets_some(bars: &[Bar], c: &[Lit], others: &[Assignments]) -> bool
     requires { IsCopy c.now }
     ensures some { IsTrue result → MeetsSome bars.now c.now others.now }
-    ensures none { (x : Lit) → IsIn c.now x → ((d : List Lit) → IsIn others.now d → KeepsField d (lit_field x)) → IsFalse result → ¬ MeetsSome bars.now c.now others.now }
+    ensures none { (x : Lit) → IsIn c.now x → ((d : List Lit) → IsIn others.now d → KeepsField d (lit_field x)) →
+        IsFalse result → ¬ MeetsSome bars.now c.now others.now }
 {
     for d in others {
         match meet(bars, c, d.lits()) {

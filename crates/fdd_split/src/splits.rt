@@ -23,9 +23,11 @@ use nk_values::Lit;
 use std::alloc::{AllocError, Global};
 use std::rc::Rc;
 
-/// The split diagram that answers as a diagram of a store: no two copies of a leaf give one packet, and no test is idle.
+/// The split diagram that answers as a diagram of a store: no two copies of a leaf give one packet, and no test is
+/// idle.
 ///
-/// A part of the store's diagram in which no two copies of a leaf can give one packet is kept as it is, and looked at once.
+/// A part of the store's diagram in which no two copies of a leaf can give one packet is kept as it is, and looked at
+/// once.
 pub fn split(alloc: Global, store: &mut Store, a: Id) -> Result<Fdd, AllocError>
     requires has { Has store.old a }
     requires few { IsFew (tree_at store.old a) }

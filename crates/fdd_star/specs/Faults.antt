@@ -13,8 +13,8 @@ use Rattle.fdd_star.specs.declared.fault.StarFault.{StarFault}
 use Rattle.fdd_star.specs.Stars.{IsDeep}
 use Rattle.fdd_store.specs.Operations.{LeavesOut}
 
--- The star is deep, on a packet of the cell c. The packet is g in each field that neither c fixes nor p tests; and what it
--- holds c or g holds, or p tests it.
+-- The star is deep, on a packet of the cell c. The packet is g in each field that neither c fixes nor p tests; and what
+-- it holds c or g holds, or p tests it.
 pub record IsFaultIn (p : Tree) (c g : Packet) (f : StarFault) : Type 0 where
   pub deep : IsDeep p f.packet f.output
   pub agrees : Agrees c f.packet

@@ -13,7 +13,8 @@ pub record AreFound (k : Kept) (n : Found) : Type 0 where
   pub visits : AreVisits k n.visits
 
 -- the store's diagram r is the star of p on the packets of the cell c that hold none of old; and as many are missed now
-pub record IsPart (k : Kept) (p : Tree) (c : Packet) (old : List Lit) (n : Found) (new : List Lit) (r : ℕ) : Type 0 where
-  pub star : Gives k r (StarBut p c old)
-  pub found : AreFound k n
-  pub missed : new ≡ old
+pub record IsPart (k : Kept) (p : Tree) (c : Packet) (old : List Lit) (n : Found) (new : List Lit) (r : ℕ) : Type 0
+  where
+    pub star : Gives k r (StarBut p c old)
+    pub found : AreFound k n
+    pub missed : new ≡ old

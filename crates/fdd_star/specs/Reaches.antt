@@ -38,31 +38,35 @@ pub record AsksAll (ls : List Lit) (old new : Reach) : Type 0 where
 pub record NotesPacket (q : Packet) (x : List Lit) (old new : Reach) : Type 0 where
   pub asked : asked_of new ≡ asked_of old
   pub which : (IsIn old.cells.keys q × (new.cells.keys ≡ old.cells.keys) × (reached_copies new ≡ reached_copies old))
-      ⊎ ((¬ IsIn old.cells.keys q) × (new.cells.keys ≡ old.cells.keys ++ q ∷ []) × (reached_copies new ≡ reached_copies old ++ x ∷ []))
+      ⊎ ((¬ IsIn old.cells.keys q) × (new.cells.keys ≡ old.cells.keys ++ q ∷ []) ×
+      (reached_copies new ≡ reached_copies old ++ x ∷ []))
 
 -- the copy y makes an answer to what the copy x makes, and has only literals of x and what is assigned
 pub record IsNextCopy (p : Tree) (c : Packet) (x y : List Lit) : Type 0 where
   pub made : IsIn (answers p (apply x c)) (apply y c)
   pub named : (m : Lit) → IsIn y m → IsIn x m ⊎ Assigns p m
 
--- Behind the copies of old, new has copies that make the answers to what the copies xs make; and what is asked of these.
+-- Behind the copies of old, new has copies that make the answers to what the copies xs make; and what is asked of
+-- these.
 pub record Grows (p : Tree) (c : Packet) (xs : List (List Lit)) (old new : Reach) : Type 0 where
   pub told : IsTold c new
   pub more : List (List Lit)
   pub joined : reached_copies new ≡ reached_copies old ++ more
-  pub has : (x : List Lit) (q : Packet) → IsIn xs x → IsIn (answers p (apply x c)) q → IsIn (outcomes (reached_copies new) c) q
+  pub has : (x : List Lit) (q : Packet) → IsIn xs x → IsIn (answers p (apply x c)) q →
+      IsIn (outcomes (reached_copies new) c) q
   pub only : (y : List Lit) → IsIn more y → (x : List Lit) × IsIn xs x × IsNextCopy p c x y
   pub late : (y : List Lit) → IsIn more y → ¬ IsIn (outcomes (reached_copies old) c) (apply y c)
   pub kept : (m : Lit) → IsIn (asked_of old) m → IsIn (asked_of new) m
   pub asks : (x : List Lit) (m : Lit) → IsIn xs x → Asks p (apply x c) m → IsIn (asked_of new) m
-  pub asked : (m : Lit) → IsIn (asked_of new) m → IsIn (asked_of old) m ⊎ ((x : List Lit) × IsIn xs x × Asks p (apply x c) m)
+  pub asked : (m : Lit) → IsIn (asked_of new) m → IsIn (asked_of old) m ⊎
+      ((x : List Lit) × IsIn xs x × Asks p (apply x c) m)
 
 -- what p makes of a packet in fewer than n turns
 abbrev pub Fewer : Tree → ℕ → Packet → Packet → Type 0
 Fewer p n pk out = (k : ℕ) × (k < n) × Turns p k pk out
 
--- After n turns the copies make exactly what at most n turns reach from the cell's packet. Those before the place make what
--- fewer do, and what they ask is noted; the others make nothing of that.
+-- After n turns the copies make exactly what at most n turns reach from the cell's packet. Those before the place make
+-- what fewer do, and what they ask is noted; the others make nothing of that.
 pub record Turned (p : Tree) (c : Packet) (n place : ℕ) (r : Reach) : Type 0 where
   pub told : IsTold c r
   pub within : place ≤ length (reached_copies r)
@@ -71,12 +75,13 @@ pub record Turned (p : Tree) (c : Packet) (n place : ℕ) (r : Reach) : Type 0 w
   pub early : (x : List Lit) → IsIn (take place (reached_copies r)) x → Fewer p n c (apply x c)
   pub late : (x : List Lit) → IsIn (drop place (reached_copies r)) x → ¬ Fewer p n c (apply x c)
   pub named : (x : List Lit) (m : Lit) → IsIn (reached_copies r) x → IsIn x m → Assigns p m
-  pub asks : (x : List Lit) (m : Lit) → IsIn (take place (reached_copies r)) x → Asks p (apply x c) m → IsIn (asked_of r) m
+  pub asks : (x : List Lit) (m : Lit) → IsIn (take place (reached_copies r)) x → Asks p (apply x c) m →
+      IsIn (asked_of r) m
   pub is_open : (m : Lit) → IsIn (asked_of r) m → IsOpen c (lit_field m)
   pub tests : (m : Lit) → IsIn (asked_of r) m → Tests p m
 
--- All that any number of turns reach from the cell's packet is reached in 512; what was asked on the way is of fields that
--- the cell leaves open.
+-- All that any number of turns reach from the cell's packet is reached in 512; what was asked on the way is of fields
+-- that the cell leaves open.
 pub record IsClosed (p : Tree) (c : Packet) (r : Reach) : Type 0 where
   pub made : (x : List Lit) → IsIn (reached_copies r) x → AtMost p 512 c (apply x c)
   pub all : (n : ℕ) (q : Packet) → Turns p n c q → IsIn (outcomes (reached_copies r) c) q

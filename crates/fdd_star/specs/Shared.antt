@@ -14,8 +14,8 @@ use Rattle.fdd_store.specs.Operations.{CofactorOf}
 use Rattle.fdd_store.specs.contracts.id.IdPartialEq.TheImpl as id_impl
 use Rattle.fdd_store.specs.Stores.{Kept, Has, Gives, tree_at}
 
--- where any literal of the field f holds that leaves q of p, the store's diagram a is the star of p on the packets of the
--- cell c that hold none of ls
+-- where any literal of the field f holds that leaves q of p, the store's diagram a is the star of p on the packets of
+-- the cell c that hold none of ls
 pub record IsShared (k : Kept) (p : Tree) (c : Packet) (ls : List Lit) (f : Field) (q a : ℕ) : Type 0 where
   pub has : Has k q
   pub star : (l : Lit) → lit_field l ≡ f → CofactorOf l p (tree_at k q) → Gives k a (StarBut p (put l c) ls)

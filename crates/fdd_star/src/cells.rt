@@ -16,8 +16,8 @@ const MOST_CELLS: usize = 4_096;
 
 const MOST_PLACES: usize = 262_144;
 
-/// Adds a cell and those that turns lead to from it, or from another one of them, whatever its packets hold where it fixes
-/// nothing. It tells whether all are there: not if they are many, or if too much of the diagram would be gone
+/// Adds a cell and those that turns lead to from it, or from another one of them, whatever its packets hold where it
+/// fixes nothing. It tells whether all are there: not if they are many, or if too much of the diagram would be gone
 /// through for them. What was gone through is taken from the allowance.
 pub(crate) fn add_led_to(
     alloc: Global,
@@ -74,7 +74,8 @@ fn add_cells(
 ) -> Result<(), AllocError>
     requires has { Has store.now a }
     requires done { AllLead store.now here.now done.old.keys cells.old.keys }
-    ensures { OnOk result (AllLeadOn store.now (tree_at store.now a) here.now cells.old.keys cells.new.keys done.new.keys) }
+    ensures { OnOk result (AllLeadOn store.now (tree_at store.now a) here.now cells.old.keys cells.new.keys
+        done.new.keys) }
 {
     if done.contains(&a) {
         return Ok(());

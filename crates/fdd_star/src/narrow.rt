@@ -17,9 +17,9 @@ use indexmap::IndexSet;
 use nk_values::Lit;
 use std::alloc::{AllocError, Global};
 
-/// The body of which parts are taken at a cell for the literals that were asked there: that without the tests which come out
-/// one way in all turns from the cell, if it has fewer parts. It makes the same turns. If the cell fixes nothing, no test
-/// comes out one way.
+/// The body of which parts are taken at a cell for the literals that were asked there: that without the tests which
+/// come out one way in all turns from the cell, if it has fewer parts. It makes the same turns. If the cell fixes
+/// nothing, no test comes out one way.
 pub(crate) fn narrowed(
     alloc: Global,
     store: &mut Store,
@@ -115,8 +115,8 @@ fn on_cells(alloc: Global, store: &mut Store, a: Id, cells: &[Cell]) -> Result<I
     }
 }
 
-// The same of a test, by the cells that have packets which hold it and those that have others: it goes where one of them
-// has none, and stays where both have all.
+// The same of a test, by the cells that have packets which hold it and those that have others: it goes where one of
+// them has none, and stays where both have all.
 #[cycle(on_cells)]
 fn on_sides(
     alloc: Global,

@@ -16,7 +16,8 @@ use nk_values::{Field, Lit, Packet};
 use std::alloc::{AllocError, Global};
 use std::collections::BTreeSet;
 
-/// The star in a cell as it is made, part by part: one for each test that was asked of a field which the cell leaves open.
+/// The star in a cell as it is made, part by part: one for each test that was asked of a field which the cell leaves
+/// open.
 #[derive(Drop)]
 pub(crate) struct Parts {
     /// The star as far as it is made: where none of the literals holds whose parts are left.
@@ -58,7 +59,9 @@ impl Parts {
         requires fresh { IsFresh other.now (tree_at store.old p) }
         ensures grows { Grows store.old store.new }
         ensures found { OnOk result (AreFound store.new found.new) }
-        ensures parts { MatchResult result (HasParts store.new (tree_at store.old p) cell.now missed.old.keys missed.new.keys) (λ e. IsErrorIn (tree_at store.old p) cell.now other.now e) }
+        ensures parts { MatchResult result
+            (HasParts store.new (tree_at store.old p) cell.now missed.old.keys missed.new.keys)
+            (λ e. IsErrorIn (tree_at store.old p) cell.now other.now e) }
     {
         let Reach { copies, asked, .. } = Reach::of(
             alloc,

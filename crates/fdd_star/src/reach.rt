@@ -31,8 +31,8 @@ impl Reach {
     ghost use Rattle.fdd_star.specs.Reaches.{reached_copies, Starts, IsTold, NotesPacket, AsksAll, Grows, IsClosed};
     ghost use Rattle.fdd_store.specs.Stores.{Has, tree_at};
 
-    /// What any number of turns reach, or an output that takes 513 turns. The fault fills the cell with another packet, which
-    /// has nothing that the diagram names.
+    /// What any number of turns reach, or an output that takes 513 turns. The fault fills the cell with another packet,
+    /// which has nothing that the diagram names.
     pub(crate) fn of(
         alloc: Global,
         store: &Store,
@@ -47,7 +47,8 @@ impl Reach {
         requires range { IsInRange other.now }
         requires fresh { IsFresh other.now (tree_at store.now p) }
         ensures visits { OnOk result (AreVisits store.now visits.new) }
-        ensures reach { MatchResult result (λ r. IsClosed (tree_at store.now p) cell.now r) (λ e. IsErrorIn (tree_at store.now p) cell.now other.now e) }
+        ensures reach { MatchResult result (λ r. IsClosed (tree_at store.now p) cell.now r)
+            (λ e. IsErrorIn (tree_at store.now p) cell.now other.now e) }
     {
         let mut all = Reach::start(alloc, cell)?;
         let mut from = 0;
@@ -98,7 +99,8 @@ impl Reach {
         requires place { from ≤ length (reached_copies self.old) }
         requires told { IsTold cell.now self.old }
         ensures visits { OnOk result (AreVisits store.now visits.new) }
-        ensures grown { OnOk result (Grows (tree_at store.now p) cell.now (drop from (reached_copies self.old)) self.old self.new) }
+        ensures grown { OnOk result
+            (Grows (tree_at store.now p) cell.now (drop from (reached_copies self.old)) self.old self.new) }
     {
         for i in from..self.copies.len() {
             let copy = self.copies[i].copy()?;
@@ -144,7 +146,8 @@ impl Reach {
         requires told { IsTold cell.now self.old }
         requires has { Has store.now visit.now.leaf }
         requires leaf { IsLeaf (tree_at store.now visit.now.leaf) }
-        ensures { (t : Tree) → IsVisitOf store.now t (apply copy.now cell.now) visit.now → OnOk result (Grows t cell.now (copy.now ∷ []) self.old self.new) }
+        ensures { (t : Tree) → IsVisitOf store.now t (apply copy.now cell.now) visit.now →
+            OnOk result (Grows t cell.now (copy.now ∷ []) self.old self.new) }
     {
         let here = cell.after(copy);
         self.note(&visit.asked)?;

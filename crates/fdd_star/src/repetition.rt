@@ -32,8 +32,8 @@ use std::alloc::Global;
 // How many places of diagrams may be gone through to narrow bodies, and one more for each four copies that were found.
 const FIRST_ALLOWANCE: usize = 1_048_576;
 
-/// What was found of the stars of a store's diagrams: where packets come to. And how many places of diagrams may still be
-/// gone through to narrow bodies.
+/// What was found of the stars of a store's diagrams: where packets come to. And how many places of diagrams may still
+/// be gone through to narrow bodies.
 #[derive(Drop)]
 pub(crate) struct Found {
     pub(crate) visits: Visits,
@@ -54,15 +54,17 @@ impl Found {
 
 /// The star `p*` of a diagram of a store: what any number of turns give (ICFP 2015, section 3).
 ///
-/// From the packet of a cell, which holds what is fixed and nothing that the diagram names elsewhere, the turns are made
-/// one by one, each on what the one before added. Each test that is asked of a field left open parts the cell. For the packets
-/// on which it holds and no earlier one does, the star is found anew, so that no cell is gone through twice. Tests of one field share their part if the diagram makes the same of what each leaves. 512 turns are made at
+/// From the packet of a cell, which holds what is fixed and nothing that the diagram names elsewhere, the turns are
+/// made one by one, each on what the one before added. Each test that is asked of a field left open parts the cell. For
+/// the packets on which it holds and no earlier one does, the star is found anew, so that no cell is gone through
+/// twice. Tests of one field share their part if the diagram makes the same of what each leaves. 512 turns are made at
 /// most; if one more would add something, the fault has a packet and an output that show it.
 pub fn star(alloc: Global, store: &mut Store, p: Id) -> Result<Id, StarError>
     requires has { Has store.old p }
     requires few { IsFew (tree_at store.old p) }
     ensures grows { Grows store.old store.new }
-    ensures star { MatchResult result (λ r. Gives store.new r (StarOf (tree_at store.old p))) (λ e. IsErrorOf (tree_at store.old p) e) }
+    ensures star { MatchResult result (λ r. Gives store.new r (StarOf (tree_at store.old p)))
+        (λ e. IsErrorOf (tree_at store.old p) e) }
     ensures never_deep { OnOk result (IsShallow (tree_at store.old p)) }
 {
     let names = Names::of(alloc, store, p)?;
@@ -104,7 +106,9 @@ fn part_in(
     requires fresh { IsFresh other.now (tree_at store.old p) }
     requires assigned { Covers assigned.now.keys (tree_at store.old p) }
     ensures grows { Grows store.old store.new }
-    ensures part { MatchResult result (IsPart store.new (tree_at store.old p) cell.now missed.old.keys found.new missed.new.keys) (λ e. IsErrorIn (tree_at store.old p) cell.now other.now e) }
+    ensures part { MatchResult result
+        (IsPart store.new (tree_at store.old p) cell.now missed.old.keys found.new missed.new.keys)
+        (λ e. IsErrorIn (tree_at store.old p) cell.now other.now e) }
 {
     let mut parts = Parts::of(alloc, store, found, missed, other, assigned, p, cell)?;
     while let Some(l) = parts.left.pop() {
@@ -127,8 +131,8 @@ fn part_in(
     Ok(parts.all)
 }
 
-// The star where a literal holds of a field that the cell leaves open: that of a literal of which the body leaves the same,
-// or found anew.
+// The star where a literal holds of a field that the cell leaves open: that of a literal of which the body leaves the
+// same, or found anew.
 #[cycle(star)]
 fn part_of(
     alloc: Global,
@@ -153,7 +157,9 @@ fn part_of(
     requires assigned { Covers assigned.now.keys (tree_at store.old body) }
     requires is_open { IsOpen cell.now (lit_field l.now) }
     ensures grows { Grows store.old store.new }
-    ensures part { MatchResult result (IsPart store.new (tree_at store.old body) (put l.now cell.now) missed.old.keys found.new missed.new.keys) (λ e. IsErrorIn (tree_at store.old body) (put l.now cell.now) other.now e) }
+    ensures part { MatchResult result
+        (IsPart store.new (tree_at store.old body) (put l.now cell.now) missed.old.keys found.new missed.new.keys)
+        (λ e. IsErrorIn (tree_at store.old body) (put l.now cell.now) other.now e) }
     ensures shared { OnOk result (AreShared store.new (tree_at store.old body) cell.now missed.old.keys shared.new) }
 {
     let left = store.cofactor(alloc, body, *l)?;
@@ -177,8 +183,8 @@ fn part_of(
     Ok(part)
 }
 
-// What makes the turns of a body where a literal holds. No turn changes a field that the body never sets: there it is what
-// the literal leaves of the body.
+// What makes the turns of a body where a literal holds. No turn changes a field that the body never sets: there it is
+// what the literal leaves of the body.
 fn inner_of(store: &Store, body: Id, left: Id, l: &Lit) -> Id
     requires has { Has store.now body }
     requires has_left { Has store.now left }

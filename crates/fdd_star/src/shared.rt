@@ -46,7 +46,8 @@ impl Shared {
 /// Whether a literal shares its part: the body never assigns it.
 pub(crate) fn is_shared(store: &Store, assigned: &IndexSet<Lit>, body: Id, l: &Lit) -> bool
     requires { Has store.now body }
-    ensures { Covers assigned.now.keys (tree_at store.now body) → IsTrue result → ¬ Assigns (tree_at store.now body) l.now }
+    ensures { Covers assigned.now.keys (tree_at store.now body) → IsTrue result →
+        ¬ Assigns (tree_at store.now body) l.now }
 {
     !store.sets(body, l.field()) || !assigned.contains(l)
 }

@@ -43,7 +43,8 @@ impl Visits {
 
     /// The visit of a cell's packet, if it was kept.
     pub(crate) fn get(&self, diagram: Id, here: &Cell) -> Option<&Visit>
-        ensures { (k : Kept) → AreVisits k self.now → IfSome result (λ v. IsVisitOf k (tree_at k diagram) here.now v.now) }
+        ensures { (k : Kept) → AreVisits k self.now →
+            IfSome result (λ v. IsVisitOf k (tree_at k diagram) here.now v.now) }
     {
         self.known.get(&Key {
             diagram,
@@ -53,7 +54,8 @@ impl Visits {
 
     /// Keeps a visit, if there are not many.
     pub(crate) fn keep(&mut self, diagram: Id, here: &Cell, visit: Visit) -> Result<(), AllocError>
-        ensures { (k : Kept) → AreVisits k self.old → Has k diagram → IsVisitOf k (tree_at k diagram) here.now visit → OnOk result (AreVisits k self.new) }
+        ensures { (k : Kept) → AreVisits k self.old → Has k diagram → IsVisitOf k (tree_at k diagram) here.now visit →
+            OnOk result (AreVisits k self.new) }
     {
         if self.known.len() >= MOST_VISITS {
             return Ok(());

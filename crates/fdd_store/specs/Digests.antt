@@ -33,9 +33,11 @@ pub record SetsAre (t : Tree) (s : Fields) : Type 0 where
   pub each : (m : Lit) → Assigns t m → has s (lit_field m) ≡ true
   pub only : (f : Field) → has s f ≡ true → SetsField t f
 
--- of the diagram t, of a place n or of the next one: where the tests of its first field lead, and the fields that it assigns
+-- of the diagram t, of a place n or of the next one: where the tests of its first field lead, and the fields that it
+-- assigns
 pub record IsDigest (k : Kept) (n : ℕ) (t : Tree) (e : Digest) : Type 0 where
-  pub leads : (l : Lit) (x y : Tree) → t ≡ Node l x y → (e.behind < n) × (tree_at k e.behind ≡ behind (place (lit_field l)) t)
+  pub leads : (l : Lit) (x y : Tree) → t ≡ Node l x y → (e.behind < n) ×
+      (tree_at k e.behind ≡ behind (place (lit_field l)) t)
   pub sets : SetsAre t e.sets
 
 -- the digest of a place

@@ -53,7 +53,8 @@ impl Model for Store {
 
     ghost view = { λ s. record { shapes = s.shapes.keys; known = s.known.entries } };
 
-    ghost invariant = { λ s. IsStore (record { shapes = s.shapes.keys; known = s.known.entries }) × AreDigests (record { shapes = s.shapes.keys; known = s.known.entries }) s.digests.items };
+    ghost invariant = { λ s. IsStore (record { shapes = s.shapes.keys; known = s.known.entries }) ×
+        AreDigests (record { shapes = s.shapes.keys; known = s.known.entries }) s.digests.items };
 }
 
 /// How many nodes and leaves there are, and how many results.
@@ -150,7 +151,8 @@ impl Store {
 
     /// Goes back to what was kept before.
     pub(crate) fn cut(&mut self, size: Size)
-        requires { IsStore (record { shapes = take size.shapes self.old.shapes; known = take size.known self.old.known }) }
+        requires { IsStore (record
+            { shapes = take size.shapes self.old.shapes; known = take size.known self.old.known }) }
         ensures shapes { self.new.shapes ≡ take size.shapes self.old.shapes }
         ensures known { self.new.known ≡ take size.known self.old.known }
     {

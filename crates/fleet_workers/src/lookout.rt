@@ -37,7 +37,8 @@ pub(crate) fn open_board<R: Wait + Clock + Clone + Drop, L: BoardName>(
     Ok((pen, eyes, ending))
 }
 
-// Starts a reader for an onlooker that wants to be told, and one that keeps what it sees, if one is to: where it lays that.
+// Starts a reader for an onlooker that wants to be told, and one that keeps what it sees, if one is to: where it lays
+// that.
 pub(crate) fn start_readers<
     R: Wait + Clock + Clone + Drop + Send + 'static,
     L: BoardName + Send + Sync + 'static,

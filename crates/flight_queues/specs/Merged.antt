@@ -1,5 +1,6 @@
 -- Copies in queues by their switches, and merged by their numbers.
-use Rattle.std.specs.Prelude.{◌≡◌, ℕ, ◌+◌, ◌<◌, ◌≤◌, nat_eq, Bool, not, List, [], ◌∷◌, length, map, Option, Some, None, slice_get, get_or, if◌then◌else◌}
+use Rattle.std.specs.Prelude.{◌≡◌, ℕ, ◌+◌, ◌<◌, ◌≤◌, nat_eq, Bool, not, List, [], ◌∷◌, length, map, Option, Some, None}
+use Rattle.std.specs.Prelude.{slice_get, get_or, if◌then◌else◌}
 use Rattle.std.specs.Option.{option_eq}
 use Rattle.std.specs.List.{filter, flat_map}
 use Rattle.nk_values.specs.Members.{IsIn}
@@ -68,11 +69,13 @@ pub record AreMarked (queues : List (List Numbered)) (marks : List Mark) (next :
   pub agree : (place : ℕ) → numbers_of (queue_at queues place) ≡ mark_numbers (filter (leads_to place) marks)
 
 -- Each switch has a queue of its own, and each copy is in that of the switch that it came to.
-pub record IsKept (place_of : ℕ → Option ℕ) (queues : List (List Numbered)) (marks : List Mark) (next : ℕ) : Type 0 where
-  pub within : (switch place : ℕ) → place_of switch ≡ Some place → place < length queues
-  pub apart : (one other place : ℕ) → place_of one ≡ Some place → place_of other ≡ Some place → one ≡ other
-  pub stands : (place : ℕ) (f : Flight) → IsIn (flights_of (queue_at queues place)) f → place_of (switch_of f) ≡ Some place
-  pub marked : AreMarked queues marks next
+pub record IsKept (place_of : ℕ → Option ℕ) (queues : List (List Numbered)) (marks : List Mark) (next : ℕ) : Type 0
+  where
+    pub within : (switch place : ℕ) → place_of switch ≡ Some place → place < length queues
+    pub apart : (one other place : ℕ) → place_of one ≡ Some place → place_of other ≡ Some place → one ≡ other
+    pub stands : (place : ℕ) (f : Flight) → IsIn (flights_of (queue_at queues place)) f →
+        place_of (switch_of f) ≡ Some place
+    pub marked : AreMarked queues marks next
 
 -- ---- one copy less, and one with another number
 

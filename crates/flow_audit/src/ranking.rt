@@ -22,7 +22,8 @@ fn is_one_key(a: &Row, b: &Row) -> bool
 /// The place of a row whose key comes again after it, or none if each key comes once.
 pub fn repeated(rows: &[Row]) -> Option<usize>
     requires { IsUp rows.now }
-    ensures { MatchOption result (IsRising rows.now) (λ k. (k < length rows.now) × ((d : RowValue) → IsRepeated rows.now (slice_index_or rows.now k d))) }
+    ensures { MatchOption result (IsRising rows.now)
+        (λ k. (k < length rows.now) × ((d : RowValue) → IsRepeated rows.now (slice_index_or rows.now k d))) }
 {
     for k in 1..rows.len() {
         if is_one_key(&rows[k - 1], &rows[k]) {

@@ -1,4 +1,5 @@
-//! Tests of flow tables, queues of copies, barriers and stamps: what no clause says, that calls succeed where memory is there.
+//! Tests of flow tables, queues of copies, barriers and stamps: what no clause says, that calls succeed where memory is
+//! there.
 //!
 //! Layer: tests. The root of the crate, which no code calls.
 #![tactic(auto)]

@@ -26,7 +26,8 @@ abbrev mutual
 
 -- a policy without `dup` renews the newest packet of a history, by that packet alone
 abbrev pub FlatRenewsTheNewest : Type 0
-FlatRenewsTheNewest = (p : Term) → IsFlat p → (n : ℕ) (h : Trail) → den p n h ≡ map (λ (t : Trail). renewed h t.newest) (den p n (one_packet h.newest))
+FlatRenewsTheNewest = (p : Term) → IsFlat p → (n : ℕ) (h : Trail) →
+    den p n h ≡ map (λ (t : Trail). renewed h t.newest) (den p n (one_packet h.newest))
 
 -- each future of a copy has the copy's history as its past, whatever the policy
 abbrev pub FuturesGoOn : Type 0

@@ -26,7 +26,7 @@ sent_at v q = sent_by_port v q (port_in v.ports q.pt)
 abbrev pub sendings : PortView → List (List Lit) → Packet → List Sent
 sendings v cs p = flat_map (sent_at v) (outcomes cs p)
 
--- Of each packet of the cell x at the view's port, with the tag of that port, the actions send the copies, each once, in some
--- order.
+-- Of each packet of the cell x at the view's port, with the tag of that port, the actions send the copies, each once,
+-- in some order.
 pub record ActsAs (x : Packet) (v : PortView) (cs : List (List Lit)) (as' : List Action) : Type 0 where
   pub same : (p : Packet) → Agrees x p → p.pt ≡ v.pt → IsPermutation (sendings v cs p) (acted as' (arriving v p))

@@ -1,7 +1,8 @@
 -- The actions of copies that can be listed, and the copies that bar a listing.
 use Rattle.std.specs.Prelude.{◌≡◌, ◌⊎◌, ℕ, ◌==◌, List, [], ◌∷◌, ◌++◌, Option, Some, None, if◌then◌else◌}
 use Rattle.nk_values.specs.declared.action.Action.{Action}
-use Rattle.nk_values.specs.declared.action.Action.TheVariants.{Output, SetVlanVid, StripVlan, SetDlSrc, SetDlDst, SetNwSrc, SetNwDst, SetTpSrc, SetTpDst}
+use Rattle.nk_values.specs.declared.action.Action.TheVariants.{Output, SetVlanVid, StripVlan, SetDlSrc, SetDlDst}
+use Rattle.nk_values.specs.declared.action.Action.TheVariants.{SetNwSrc, SetNwDst, SetTpSrc, SetTpDst}
 use Rattle.nk_values.specs.declared.field.Field.{Field}
 use Rattle.nk_values.specs.declared.field.Field.TheVariants.{EthDst, Ip4Src, Ip4Dst, TcpSrcPort, TcpDstPort}
 use Rattle.nk_values.specs.declared.packet.Packet.{Packet}
@@ -76,12 +77,14 @@ retagged stamp Linked Linked = []
 abbrev pub port_number : PortView → ℕ → ℕ
 port_number v n = if n == v.pt then 65528 else n
 
--- The actions of the copies one after another, where y is what the header is known to be and k the kind of port whose tag
--- it has: first the header, each field with the copy's own number, else what the path fixes, else the original one; then
--- the tag; then the output.
+-- The actions of the copies one after another, where y is what the header is known to be and k the kind of port whose
+-- tag it has: first the header, each field with the copy's own number, else what the path fixes, else the original one;
+-- then the tag; then the output.
 abbrev pub listed : PortView → Packet → Packet → PortKind → List Route → List Action
 listed v x y k [] = []
-listed v x y k (r ∷ rs) = changed y (apply r.copy x) settable ++ (retagged v.stamp k r.kind ++ Output (port_number v r.port) ∷ listed v x (apply r.copy x) r.kind rs)
+listed v x y k (r ∷ rs) =
+    changed y (apply r.copy x) settable ++
+    (retagged v.stamp k r.kind ++ Output (port_number v r.port) ∷ listed v x (apply r.copy x) r.kind rs)
 
 -- the actions of a leaf in the cell x: its copies form a chain, and are listed in order
 pub record IsActionList (x : Packet) (v : PortView) (cs : List (List Lit)) (as' : List Action) : Type 0 where

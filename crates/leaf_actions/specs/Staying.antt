@@ -38,8 +38,10 @@ abbrev pub AllClimb : Packet → Packet → List (List Lit) → Type 0
 AllClimb x y [] = Unit {0}
 AllClimb x y (c ∷ cs) = (keeps y (apply c x) ≡ true) × AllClimb x (apply c x) cs
 
--- the actions of such copies one after another, where y is what the header is known to be and k the kind of port whose tag
--- it has
+-- the actions of such copies one after another, where y is what the header is known to be and k the kind of port whose
+-- tag it has
 abbrev pub stayed : PortView → Packet → Packet → PortKind → SwitchPort → List (List Lit) → List Action
 stayed v x y k p [] = []
-stayed v x y k p (c ∷ cs) = changed y (apply c x) settable ++ (retagged v.stamp k p.kind ++ Output (port_number v p.pt) ∷ stayed v x (apply c x) p.kind p cs)
+stayed v x y k p (c ∷ cs) =
+    changed y (apply c x) settable ++
+    (retagged v.stamp k p.kind ++ Output (port_number v p.pt) ∷ stayed v x (apply c x) p.kind p cs)

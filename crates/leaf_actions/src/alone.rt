@@ -24,7 +24,8 @@ pub(crate) fn listed_alone(
     view: &PortView,
 ) -> Result<Actions, AllocError>
     requires { IsValid cell.now }
-    ensures { IfOk result (λ as'. as' ≡ listed view.now cell.now cell.now view.now.kind (routes_of view.now cell.now (copy.now ∷ []))) }
+    ensures { IfOk result (λ as'. as' ≡ listed view.now cell.now cell.now view.now.kind
+        (routes_of view.now cell.now (copy.now ∷ []))) }
 {
     let Some(port) = view.port(out_of(view, copy)) else {
         return Ok(Actions::none());

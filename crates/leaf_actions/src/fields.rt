@@ -2,7 +2,8 @@
 //!
 //! Layer: rows and packets; private. Called by `order` and `pairs`.
 ghost use Rattle.std.specs.Prelude.{◌≡◌, ◌<◌, ◌^◌, length};
-ghost use Rattle.leaf_actions.specs.Changes.{changes, fixes, count_of, change_count, goes_beyond, first_of_fields, first_beyond};
+ghost use Rattle.leaf_actions.specs.Changes.{changes, fixes, count_of, change_count, goes_beyond, first_of_fields};
+ghost use Rattle.leaf_actions.specs.Changes.{first_beyond};
 
 use crate::moves::moves;
 use fdd_nodes::{Assignments, Cell};

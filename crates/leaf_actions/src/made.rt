@@ -10,7 +10,8 @@ ghost use Rattle.nk_values.specs.Tags.{IsVlanId};
 ghost use Rattle.fdd_nodes.specs.Cells.{IsValid};
 ghost use Rattle.leaf_actions.specs.Acting.{ActsAs};
 ghost use Rattle.leaf_actions.specs.Chains.{keeps, Climbs};
-ghost use Rattle.leaf_actions.specs.Listing.{setting, change, changed, retagged, port_number, listed, IsActionList, RefusesLeaf};
+ghost use Rattle.leaf_actions.specs.Listing.{setting, change, changed, retagged, port_number, listed, IsActionList};
+ghost use Rattle.leaf_actions.specs.Listing.{RefusesLeaf};
 ghost use Rattle.leaf_actions.specs.Settable.{AreSettable, settable};
 
 use crate::alone::listed_alone;
@@ -24,9 +25,9 @@ use fdd_nodes::{Cell, Leaf};
 use nk_values::{Action, Actions, Field, IN_PORT, List, Packet, PortKind};
 use std::alloc::{AllocError, Global};
 
-/// Why no list of actions makes all copies: no action gives a field back its original number. The copies `a` and `b`, in
-/// the order of listing, each set a header field which the other leaves and the path does not fix. The first such field of
-/// each is told.
+/// Why no list of actions makes all copies: no action gives a field back its original number. The copies `a` and `b`,
+/// in the order of listing, each set a header field which the other leaves and the path does not fix. The first such
+/// field of each is told.
 #[derive(Drop)]
 pub struct ActionsFault {
     pub a: Route,
@@ -53,10 +54,10 @@ impl From<AllocError> for ActionsError {
     }
 }
 
-/// The actions that make the copies of a leaf, for the packets of a cell at a port (OpenFlow 1.0.0, 5.2.4). Copies to ports
-/// that are not declared are left out. The others are listed by the number of header fields that they set and the cell does
-/// not fix, then by port and assignments. The error carries the first two copies that no order makes both. The cells that
-/// paths fix are valid.
+/// The actions that make the copies of a leaf, for the packets of a cell at a port (OpenFlow 1.0.0, 5.2.4). Copies to
+/// ports that are not declared are left out. The others are listed by the number of header fields that they set and the
+/// cell does not fix, then by port and assignments. The error carries the first two copies that no order makes both.
+/// The cells that paths fix are valid.
 pub fn actions(
     alloc: Global,
     cell: &Cell,

@@ -9,7 +9,8 @@ use std::alloc::AllocError;
 use std::cmp::Ordering;
 
 /// A copy with the declared port by which it leaves: how many header fields it sets that its path does not fix, the
-/// port's number and kind, and its assignments. Routes are ordered by the number of fields, the port and the assignments.
+/// port's number and kind, and its assignments. Routes are ordered by the number of fields, the port and the
+/// assignments.
 #[derive(Drop)]
 pub struct Route {
     pub count: u64,

@@ -17,8 +17,8 @@ pub struct SwitchPort {
 /// The declared ports of a switch.
 pub type SwitchPorts = List<SwitchPort>;
 
-/// A port of a switch as its rows see it: the switch and the port, what kind of port it is, the VLAN id that packets carry
-/// between switches, and the declared ports of the switch.
+/// A port of a switch as its rows see it: the switch and the port, what kind of port it is, the VLAN id that packets
+/// carry between switches, and the declared ports of the switch.
 #[derive(Drop)]
 pub struct PortView {
     pub sw: u16,

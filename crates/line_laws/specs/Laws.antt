@@ -24,7 +24,9 @@ own_lines head hs = map (λ h. head ++ history_text h) hs
 
 -- so histories of one packet, each once, have a line each: no line stands for two
 abbrev pub NoneIsDropped : Type 0
-NoneIsDropped = (pk : Packet) (head : List ℕ) (hs : List Trail) (lines : List (List ℕ)) → ((h : Trail) → IsIn hs h → IsWayOf pk h) → EachOnce hs → AreLinesOf head hs lines → IsPermutation (own_lines head hs) lines
+NoneIsDropped = (pk : Packet) (head : List ℕ) (hs : List Trail) (lines : List (List ℕ)) →
+    ((h : Trail) → IsIn hs h → IsWayOf pk h) → EachOnce hs → AreLinesOf head hs lines →
+    IsPermutation (own_lines head hs) lines
 
 -- the lines of a packet's walk: one `done` for each finished history, and one `open` for each in flight
 pub record HaveOwnLines (finished in_flight : List Trail) (done still : List (List ℕ)) : Type 0 where
@@ -32,5 +34,7 @@ pub record HaveOwnLines (finished in_flight : List Trail) (done still : List (Li
   pub open_lines : IsPermutation (own_lines (codes "open ") in_flight) still
 
 abbrev pub WalksHaveOwnLines : Type 0
-WalksHaveOwnLines = (t : Layout) (p : Term) (pk : Packet) (tag : Option ℕ) (hops : ℕ) (finished in_flight : List Trail) (done still : List (List ℕ)) → IsSound t → IsPlain p → IsWellShaped pk →
-    IsWalk (wiring t) p pk tag hops finished in_flight → AreLinesOf (codes "done ") finished done → AreLinesOf (codes "open ") in_flight still → HaveOwnLines finished in_flight done still
+WalksHaveOwnLines = (t : Layout) (p : Term) (pk : Packet) (tag : Option ℕ) (hops : ℕ) (finished in_flight : List Trail)
+    (done still : List (List ℕ)) → IsSound t → IsPlain p → IsWellShaped pk →
+    IsWalk (wiring t) p pk tag hops finished in_flight → AreLinesOf (codes "done ") finished done →
+    AreLinesOf (codes "open ") in_flight still → HaveOwnLines finished in_flight done still

@@ -1,19 +1,20 @@
-//! Drives fake switches in memory through each case of standard input, and prints how each drive ended and what it tells.
-//! With an argument, `run` or `watch`, it does that with the document of standard input over TCP of this machine, and prints
-//! the report.
+//! Drives fake switches in memory through each case of standard input, and prints how each drive ended and what it
+//! tells. With an argument, `run` or `watch`, it does that with the document of standard input over TCP of this
+//! machine, and prints the report.
 //!
 //! A case is a head line `== NAME`, lines `= WORDS`, and the lines of a document. These words say what is odd:
 //!
 //! - `switch S tells N`: switch S tells datapath N. `switch S capacity N`: its table has room for N rows.
 //! - `switch S greets with 0`: its HELLO has version 0. `switch S speaks 4`: its later messages have version 4.
-//! - `switch S probes`: an ECHO_REQUEST comes before each of its answers. `switch S leaves after N`: it goes once it took
-//!   N messages.
+//! - `switch S probes`: an ECHO_REQUEST comes before each of its answers. `switch S leaves after N`: it goes once it
+//!   took N messages.
 //! - `reporter after N`: it reports at the call after N others. `reporter fails at N`: its call N fails.
 //! - `closed S`: the port of switch S cannot be opened.
 //! - `short`: of the text the lines of events are not printed. With several switches the lines of each stand together.
 //! - `over tcp`: the drive is over TCP of this machine. `late S`: switch S comes after the others. `absent S`: it never
 //!   comes. `runs`: no drive but a run over TCP, of which the phase is printed, and how many packets came in.
-//! - `reporter says LINE`: a line that the reporter writes as soon as it is in. `reporter leaves`: it is gone after that.
+//! - `reporter says LINE`: a line that the reporter writes as soon as it is in. `reporter leaves`: it is gone after
+//!   that.
 //!
 //! Layer: tests; nothing calls it.
 #![tactic(auto)]

@@ -1,5 +1,6 @@
 -- What stands at the front of a text that may go on.
-use Rattle.std.specs.Prelude.{◌≡◌, ◌≢◌, ◌≤◌, ◌<◌, ℕ, Bool, true, false, not, ◌==◌, ◌&&◌, List, [], ◌∷◌, ◌++◌, length, take, drop, Some, if◌then◌else◌}
+use Rattle.std.specs.Prelude.{◌≡◌, ◌≢◌, ◌≤◌, ◌<◌, ℕ, Bool, true, false, not, ◌==◌, ◌&&◌, List, [], ◌∷◌, ◌++◌, length}
+use Rattle.std.specs.Prelude.{take, drop, Some, if◌then◌else◌}
 use Rattle.std.specs.List.{prefix_len}
 use Rattle.std.specs.Char.{is_ascii_alphabetic, is_ascii_alphanumeric}
 use Rattle.nk_values.specs.declared.field.Field.{Field}
@@ -17,13 +18,15 @@ use Rattle.netkat_parser.specs.Signs.{is_blank, ahead, sign, past, run, past_run
 abbrev pub comment_behind : Bool → List ℕ → Bool
 comment_behind in_comment [] = in_comment
 comment_behind true (b ∷ bs) = comment_behind (not (b == 10)) bs
-comment_behind false (b ∷ bs) = if is_blank b then comment_behind false bs else if b == 35 then comment_behind true bs else false
+comment_behind false (b ∷ bs) = if is_blank b then comment_behind false bs else if b ==
+    35 then comment_behind true bs else false
 
 -- the first sign may be another one where the text goes on: a name, or a `:`, at its end
 abbrev pub is_cut : List ℕ → Bool
 is_cut [] = true
 is_cut (b ∷ bs) =
-    if is_ascii_alphabetic b then prefix_len is_ascii_alphanumeric (b ∷ bs) == length (b ∷ bs) else b == 58 && length (b ∷ bs) == 1
+    if is_ascii_alphabetic b then prefix_len is_ascii_alphanumeric (b ∷ bs) == length (b ∷ bs) else b ==
+    58 && length (b ∷ bs) == 1
 
 -- what may follow: anything, or nothing at the end
 abbrev pub EndsAt : Bool → List ℕ → Type 0

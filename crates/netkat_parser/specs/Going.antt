@@ -6,7 +6,8 @@ use Rattle.netkat_parser.specs.declared.sign.Sign.TheVariants.{Plus, Semicolon}
 use Rattle.netkat_parser.specs.declared.stage.Operator.{Operator}
 use Rattle.netkat_parser.specs.declared.stage.Operator.TheVariants as operator
 use Rattle.netkat_parser.specs.Signs.{sign, run}
-use Rattle.netkat_parser.specs.Grammar.{Spot, Got, Read, Bad, step, gathered, sum_of, seq_of, negated, closed, starred, ended, IsRun, IsPair, AreSummands, AreFactors, IsUnary}
+use Rattle.netkat_parser.specs.Grammar.{Spot, Got, Read, Bad, step, gathered, sum_of, seq_of, negated, closed, starred}
+use Rattle.netkat_parser.specs.Grammar.{ended, IsRun, IsPair, AreSummands, AreFactors, IsUnary}
 
 -- What is open around a place, from the inside out: a `not`, or a bracket with the summands and factors in front of it.
 pub data Frame : Type 0 where
@@ -34,30 +35,34 @@ is_based (Bracketed ss qs ∷ fs) = is_inside fs
 abbrev pub MoreFactors : ℕ → Bool → List Term → Got Term → Got (List Term) → Type 0
 MoreFactors depth inside qs (Read p t) o =
     ((sign t.text ≢ Semicolon) × (o ≡ Read (qs ++ p ∷ []) t))
-    ⊎ ((sign t.text ≡ Semicolon) × (more : Got (List Term)) × AreFactors depth inside (step t) more × (o ≡ gathered (λ ps. qs ++ p ∷ ps) more))
+    ⊎ ((sign t.text ≡ Semicolon) × (more : Got (List Term)) × AreFactors depth inside (step t) more ×
+    (o ≡ gathered (λ ps. qs ++ p ∷ ps) more))
 MoreFactors depth inside qs (Bad e at) o = o ≡ Bad e at
 
 -- the summands of a policy likewise
 abbrev pub MoreSummands : ℕ → Bool → List Term → Got Term → Got (List Term) → Type 0
 MoreSummands depth inside ss (Read p t) o =
     ((sign t.text ≢ Plus) × (o ≡ Read (ss ++ p ∷ []) t))
-    ⊎ ((sign t.text ≡ Plus) × (more : Got (List Term)) × AreSummands depth inside (step t) more × (o ≡ gathered (λ ps. ss ++ p ∷ ps) more))
+    ⊎ ((sign t.text ≡ Plus) × (more : Got (List Term)) × AreSummands depth inside (step t) more ×
+    (o ≡ gathered (λ ps. ss ++ p ∷ ps) more))
 MoreSummands depth inside ss (Bad e at) o = o ≡ Bad e at
 
 -- the policy with these summands and factors in front, where the next operand has this outcome
 abbrev pub MakesPolicy : ℕ → Bool → List Term → List Term → Got Term → Got Term → Type 0
 MakesPolicy depth inside ss qs u o =
-    (a : Got (List Term)) × MoreFactors depth inside qs u a × (b : Got (List Term)) × MoreSummands depth inside ss (gathered seq_of a) b × (o ≡ gathered sum_of b)
+    (a : Got (List Term)) × MoreFactors depth inside qs u a × (b : Got (List Term)) ×
+    MoreSummands depth inside ss (gathered seq_of a) b × (o ≡ gathered sum_of b)
 
 -- the outcome of the whole text, where the next operand has this one
 abbrev pub Leads : List Frame → List Term → List Term → Got Term → Got Term → Type 0
 Leads [] ss qs u o = (w : Got Term) × MakesPolicy 0 false ss qs u w × (o ≡ ended w)
 Leads (Negated ∷ fs) ss qs u o = Leads fs ss qs (gathered negated u) o
 Leads (Bracketed ss' qs' ∷ fs) ss qs u o =
-    (w : Got Term) × MakesPolicy (depth_of fs + 1) (is_inside fs) ss qs u w × Leads fs ss' qs' (starred (is_inside fs) (closed (depth_of fs + 1) w)) o
+    (w : Got Term) × MakesPolicy (depth_of fs + 1) (is_inside fs) ss qs u w ×
+    Leads fs ss' qs' (starred (is_inside fs) (closed (depth_of fs + 1) w)) o
 
--- Where reading stands between two signs: an operand begins; a sign stands behind a field's name; a value stands behind it;
--- or an operand was read, which is an atom or not.
+-- Where reading stands between two signs: an operand begins; a sign stands behind a field's name; a value stands behind
+-- it; or an operand was read, which is an atom or not.
 pub data Phase : Type 0 where
   Operand : Phase
   Relation : Field → Phase
@@ -79,8 +84,10 @@ pub record Reach : Type 0 where
 -- the outcome of the whole text in a phase, where reading goes on at a spot
 abbrev pub ComesIn : Phase → List Frame → List Term → List Term → Spot → Got Term → Type 0
 ComesIn Operand fs ss qs s o = (u : Got Term) × IsUnary (depth_of fs) (is_inside fs) s u × Leads fs ss qs u o
-ComesIn (Relation f) fs ss qs s o = (u : Got Term) × IsPair (depth_of fs) (is_inside fs) f s (sign s.text) u × Leads fs ss qs (starred (is_inside fs) u) o
-ComesIn (Number f op) fs ss qs s o = (u : Got Term) × IsRun (depth_of fs) f (made op f) s (run s.text) u × Leads fs ss qs (starred (is_inside fs) u) o
+ComesIn (Relation f) fs ss qs s o = (u : Got Term) × IsPair (depth_of fs) (is_inside fs) f s (sign s.text) u ×
+    Leads fs ss qs (starred (is_inside fs) u) o
+ComesIn (Number f op) fs ss qs s o = (u : Got Term) × IsRun (depth_of fs) f (made op f) s (run s.text) u ×
+    Leads fs ss qs (starred (is_inside fs) u) o
 ComesIn (Behind p true) fs ss qs s o = Leads fs ss qs (starred (is_inside fs) (Read p s)) o
 ComesIn (Behind p false) fs ss qs s o = Leads fs ss qs (Read p s) o
 

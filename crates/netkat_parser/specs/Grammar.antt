@@ -4,19 +4,22 @@
 --   unary    = "not" unary | post
 --   post     = atom [ "*" ]
 --   atom     = "skip" | "drop" | "dup" | field "=" value | field ":=" value | "(" policy ")"
-use Rattle.std.specs.Prelude.{◌≡◌, ◌≢◌, ◌⊎◌, ⊤, ℕ, ◌+◌, ◌<◌, nat_le, Bool, true, false, not, ◌==◌, ◌&&◌, ◌||◌, List, [], ◌∷◌, ◌++◌, length, count_by, Option, None, Some, if◌then◌else◌}
+use Rattle.std.specs.Prelude.{◌≡◌, ◌≢◌, ◌⊎◌, ⊤, ℕ, ◌+◌, ◌<◌, nat_le, Bool, true, false, not, ◌==◌, ◌&&◌, ◌||◌, List, []}
+use Rattle.std.specs.Prelude.{◌∷◌, ◌++◌, length, count_by, Option, None, Some, if◌then◌else◌}
 use Rattle.std.specs.List.{list_any}
 use Rattle.nk_values.specs.declared.field.Field.{Field}
 use Rattle.nk_values.specs.declared.field.Field.TheVariants.{IpProto}
 use Rattle.nk_values.specs.Ranges.{place, IsLiteralOf}
-use Rattle.nk_syntax.specs.Terms.{Guard, Guards, One, Zero, Test, Or, And, no_guards, guard, Term, Terms, Filter, Assign, Sum, Seq, Dup, no_terms, term}
+use Rattle.nk_syntax.specs.Terms.{Guard, Guards, One, Zero, Test, Or, And, no_guards, guard, Term, Terms, Filter}
+use Rattle.nk_syntax.specs.Terms.{Assign, Sum, Seq, Dup, no_terms, term}
 use Rattle.nk_syntax.specs.Terms as to
 use Rattle.nk_syntax.specs.Views.{term_row}
 use Rattle.nk_values.specs.declared.text_fault.TextFault.{TextFault}
 use Rattle.nk_values.specs.declared.text_fault.TextFault.TheVariants as fault
 use Rattle.netkat_parser.specs.declared.sign.Sign.{Sign}
 use Rattle.netkat_parser.specs.declared.sign.Sign.TheVariants as to_sign
-use Rattle.netkat_parser.specs.declared.sign.Sign.TheVariants.{Name, Equals, Becomes, Plus, Semicolon, Star, Open, Close, End}
+use Rattle.netkat_parser.specs.declared.sign.Sign.TheVariants.{Name, Equals, Becomes, Plus, Semicolon, Star, Open}
+use Rattle.netkat_parser.specs.declared.sign.Sign.TheVariants.{Close, End}
 use Rattle.netkat_parser.specs.Signs.{sign, past, run, past_run, ahead}
 use Rattle.netkat_parser.specs.Numbers.{number}
 
@@ -98,7 +101,8 @@ protos named = count_by (λ pair. place pair.0 == place IpProto) named
 -- a pair that is not named yet would be the 2,001st, or the 101st with ipProto
 abbrev pub is_too_many : List (Field × ℕ) → Field → ℕ → Bool
 is_too_many named f n =
-    not (is_named named f n) && (nat_le 2000 (length named) || ((place f == place IpProto) && nat_le 100 (protos named)))
+    not (is_named named f n) &&
+    (nat_le 2000 (length named) || ((place f == place IpProto) && nat_le 100 (protos named)))
 
 -- the pairs with this one among them
 abbrev pub with_pair : List (Field × ℕ) → Field → ℕ → List (Field × ℕ)
@@ -176,22 +180,26 @@ Opens t depth s = (sign s.text ≡ t) × (depth < 200)
 -- Each with the number of brackets and nots open around it, and whether it stands inside a not.
 mutual
   pub data IsPolicy : ℕ → Bool → Spot → Got Term → Type 0 where
-    sum : (depth : ℕ) (inside : Bool) (s : Spot) (o : Got (List Term)) → AreSummands depth inside s o → IsPolicy depth inside s (gathered sum_of o)
+    sum : (depth : ℕ) (inside : Bool) (s : Spot) (o : Got (List Term)) → AreSummands depth inside s o →
+        IsPolicy depth inside s (gathered sum_of o)
 
   pub data AreSummands : ℕ → Bool → Spot → Got (List Term) → Type 0 where
     last_summand : (depth : ℕ) (inside : Bool) (s : Spot) (o : Got Term)
         → IsSequence depth inside s o → EndsBefore Plus o → AreSummands depth inside s (gathered (λ p. p ∷ []) o)
     more_summands : (depth : ℕ) (inside : Bool) (s : Spot) (p : Term) (t : Spot) (o : Got (List Term))
-        → IsSequence depth inside s (Read p t) → sign t.text ≡ Plus → AreSummands depth inside (step t) o → AreSummands depth inside s (gathered (λ ps. p ∷ ps) o)
+        → IsSequence depth inside s (Read p t) → sign t.text ≡ Plus → AreSummands depth inside (step t) o →
+        AreSummands depth inside s (gathered (λ ps. p ∷ ps) o)
 
   pub data IsSequence : ℕ → Bool → Spot → Got Term → Type 0 where
-    sequence : (depth : ℕ) (inside : Bool) (s : Spot) (o : Got (List Term)) → AreFactors depth inside s o → IsSequence depth inside s (gathered seq_of o)
+    sequence : (depth : ℕ) (inside : Bool) (s : Spot) (o : Got (List Term)) → AreFactors depth inside s o →
+        IsSequence depth inside s (gathered seq_of o)
 
   pub data AreFactors : ℕ → Bool → Spot → Got (List Term) → Type 0 where
     last_factor : (depth : ℕ) (inside : Bool) (s : Spot) (o : Got Term)
         → IsUnary depth inside s o → EndsBefore Semicolon o → AreFactors depth inside s (gathered (λ p. p ∷ []) o)
     more_factors : (depth : ℕ) (inside : Bool) (s : Spot) (p : Term) (t : Spot) (o : Got (List Term))
-        → IsUnary depth inside s (Read p t) → sign t.text ≡ Semicolon → AreFactors depth inside (step t) o → AreFactors depth inside s (gathered (λ ps. p ∷ ps) o)
+        → IsUnary depth inside s (Read p t) → sign t.text ≡ Semicolon → AreFactors depth inside (step t) o →
+        AreFactors depth inside s (gathered (λ ps. p ∷ ps) o)
 
   pub data IsUnary : ℕ → Bool → Spot → Got Term → Type 0 where
     negation : (depth : ℕ) (inside : Bool) (s : Spot) (o : Got Term)

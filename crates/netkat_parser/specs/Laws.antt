@@ -16,13 +16,15 @@ OneOutcome = (text : List ℕ) (o o' : Got Term) → IsReading text o → IsRead
 
 -- Each text has an outcome: it is read as a policy, or has a first fault.
 abbrev pub SomeOutcome : Type 0
-SomeOutcome = (begin : Position) (text : List ℕ) → ((p : Term) × IsText text p) ⊎ ((f : ParseFault) × HasFault begin text f)
+SomeOutcome = (begin : Position) (text : List ℕ) → ((p : Term) × IsText text p) ⊎
+    ((f : ParseFault) × HasFault begin text f)
 
 -- A text has at most one reading as a policy.
 abbrev pub OneReading : Type 0
 OneReading = (text : List ℕ) (p q : Term) → IsText text p → IsText text q → p ≡ q
 
--- The text that is printed for a term within the limits, whose numbers are literals of their fields, is read as the term.
+-- The text that is printed for a term within the limits, whose numbers are literals of their fields, is read as the
+-- term.
 abbrev pub ReadBack : Type 0
 ReadBack = (p : Term) → HasLiterals p → IsPrintable p → IsText (term_text p) p
 

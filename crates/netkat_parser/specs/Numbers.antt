@@ -1,5 +1,6 @@
 -- The forms of a value.
-use Rattle.std.specs.Prelude.{◌≡◌, ℕ, zero, suc, ◌+◌, ◌*◌, ◌<◌, ◌==◌, nat_eq, nat_le, ◌&&◌, List, drop, length, codes, Option, None, Some, IfSome, if◌then◌else◌, option_map, option_and_then}
+use Rattle.std.specs.Prelude.{◌≡◌, ℕ, zero, suc, ◌+◌, ◌*◌, ◌<◌, ◌==◌, nat_eq, nat_le, ◌&&◌, List, drop, length, codes}
+use Rattle.std.specs.Prelude.{Option, None, Some, IfSome, if◌then◌else◌, option_map, option_and_then}
 use Rattle.std.specs.List.{list_all, starts_with, before_first, after_first}
 use Rattle.std.specs.Char.{is_digit, is_ascii_digit}
 use Rattle.std.specs.Str.Parse.{digits_value}
@@ -67,7 +68,8 @@ address_form Ip4Src text = dotted_form text
 address_form Ip4Dst text = dotted_form text
 address_form _ text = None
 
--- The number that a run writes for a field. No run that begins with `0x`, and none of digits alone, has an address's form.
+-- The number that a run writes for a field. No run that begins with `0x`, and none of digits alone, has an address's
+-- form.
 abbrev pub number : Field → List ℕ → Option ℕ
 number f text =
     if starts_with nat_eq text (codes "0x") then hexadecimal_form (drop 2 text) else

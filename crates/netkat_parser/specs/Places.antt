@@ -6,7 +6,8 @@ use Rattle.netkat_parser.specs.Grammar.{Bad, IsReading}
 
 -- the place of the byte behind one; 10 is LF
 abbrev pub next_place : Position → ℕ → Position
-next_place p b = if b == 10 then record { line = p.line + 1; column = 1 } else record { line = p.line; column = p.column + 1 }
+next_place p b = if b ==
+    10 then record { line = p.line + 1; column = 1 } else record { line = p.line; column = p.column + 1 }
 
 -- the place behind a text that begins at a place
 abbrev pub place_behind : Position → List ℕ → Position

@@ -2,7 +2,8 @@
 use Rattle.std.specs.Prelude.{ℕ, ◌+◌, ◌≤◌, max, List, [], length, ⊤}
 use Rattle.nk_values.specs.declared.field.Field.{Field}
 use Rattle.nk_values.specs.Ranges.{IsLiteralOf}
-use Rattle.nk_syntax.specs.Terms.{Guard, Guards, One, Zero, Test, Or, And, Not, no_guards, guard, Term, Terms, Filter, Assign, Sum, Seq, Star, Dup, no_terms, term}
+use Rattle.nk_syntax.specs.Terms.{Guard, Guards, One, Zero, Test, Or, And, Not, no_guards, guard, Term, Terms, Filter}
+use Rattle.nk_syntax.specs.Terms.{Assign, Sum, Seq, Star, Dup, no_terms, term}
 use Rattle.netkat_parser.specs.Grammar.{with_pair, protos}
 
 -- each number is a literal of its field

@@ -21,8 +21,8 @@ use Rattle.netkat_parser.specs.Going.{Reach, Comes}
 use Rattle.netkat_parser.specs.Cuts.{EndsAt}
 use Rattle.netkat_parser.specs.Views.{view_of, Shows}
 
--- No fault was found in a text that began at a place: whatever may follow, what comes of it behind what is pending is what the
--- grammar gives of the text with it. At the end nothing may follow.
+-- No fault was found in a text that began at a place: whatever may follow, what comes of it behind what is pending is
+-- what the grammar gives of the text with it. At the end nothing may follow.
 pub record IsOpen (end : Bool) (begin : Position) (r : PolicyReader) (text : List ℕ) : Type 0 where
   pub front : List ℕ
   pub parts : text ≡ front ++ r.pending.items
@@ -30,7 +30,8 @@ pub record IsOpen (end : Bool) (begin : Position) (r : PolicyReader) (text : Lis
   pub reach : Reach
   pub shows : Shows (view_of r.reading) reach
   pub goes : (rest : List ℕ) (o : Got Term) → EndsAt end rest
-      → Comes reach (spot (ahead r.in_comment (r.pending.items ++ rest)) (pairs r.reading.named)) o → IsReading (text ++ rest) o
+      → Comes reach (spot (ahead r.in_comment (r.pending.items ++ rest)) (pairs r.reading.named)) o →
+      IsReading (text ++ rest) o
 
 -- the text has this first fault, whatever follows
 abbrev pub IsFaulty : Position → List ℕ → ParseFault → Type 0
@@ -40,8 +41,8 @@ abbrev pub StandsBy : Option ParseFault → Position → PolicyReader → List �
 StandsBy None begin r text = IsOpen false begin r text
 StandsBy (Some f) begin r text = IsFaulty begin text f
 
--- The reader stands for a text that began at a place: whatever follows, going on over it gives what the grammar gives of the text
--- followed by it.
+-- The reader stands for a text that began at a place: whatever follows, going on over it gives what the grammar gives
+-- of the text followed by it.
 abbrev pub StandsFor : Position → PolicyReader → List ℕ → Type 0
 StandsFor begin r text = StandsBy r.fault begin r text
 
@@ -63,6 +64,8 @@ AnswersFor begin text (Err error.Memory) = ⊤
 abbrev pub Settles : Bool → Position → List ℕ → PolicyReader → Pause → Type 0
 Settles end begin text r pause.Wait = IsOpen end begin r text
 Settles end begin text r (pause.Halt halt.Memory) = IsOpen end begin r text
-Settles end begin text r (pause.Halt halt.Done) = IsOpen end begin r text × ((rest : List ℕ) → EndsAt end rest → sign (ahead r.in_comment (r.pending.items ++ rest)) ≡ End)
+Settles end begin text r (pause.Halt halt.Done) = IsOpen end begin r text ×
+    ((rest : List ℕ) → EndsAt end rest → sign (ahead r.in_comment (r.pending.items ++ rest)) ≡ End)
 Settles end begin text r (pause.Halt (halt.Fault f)) =
-    (rest : List ℕ) → EndsAt end rest → HasFault begin (text ++ rest) (record { fault = f; line = r.place.line; column = r.place.column })
+    (rest : List ℕ) → EndsAt end rest →
+    HasFault begin (text ++ rest) (record { fault = f; line = r.place.line; column = r.place.column })

@@ -1,12 +1,15 @@
--- From bytes to signs, the tokens but for values: what stands between them, marks, names, and the runs that values are read from.
-use Rattle.std.specs.Prelude.{◌≡◌, ◌<◌, ℕ, Bool, true, false, not, ◌==◌, ◌&&◌, ◌||◌, List, [], ◌∷◌, drop, slice_index, codes, Option, None, Some, if◌then◌else◌}
+-- From bytes to signs, the tokens but for values: what stands between them, marks, names, and the runs that values are
+-- read from.
+use Rattle.std.specs.Prelude.{◌≡◌, ◌<◌, ℕ, Bool, true, false, not, ◌==◌, ◌&&◌, ◌||◌, List, [], ◌∷◌, drop, slice_index}
+use Rattle.std.specs.Prelude.{codes, Option, None, Some, if◌then◌else◌}
 use Rattle.std.specs.List.{find, prefix_len, take_while}
 use Rattle.std.specs.Char.{is_ascii_alphabetic, is_ascii_alphanumeric}
 use Rattle.std.specs.Str.{bytes_eq}
 use Rattle.nk_values.specs.declared.field.Field.{Field}
 use Rattle.nk_values.specs.Names.{name_of, all_fields}
 use Rattle.netkat_parser.specs.declared.sign.Sign.{Sign}
-use Rattle.netkat_parser.specs.declared.sign.Sign.TheVariants.{Skip, Drop, Dup, Not, Name, Equals, Becomes, Plus, Semicolon, Star, Open, Close, End, Unlisted, Strange}
+use Rattle.netkat_parser.specs.declared.sign.Sign.TheVariants.{Skip, Drop, Dup, Not, Name, Equals, Becomes, Plus}
+use Rattle.netkat_parser.specs.declared.sign.Sign.TheVariants.{Semicolon, Star, Open, Close, End, Unlisted, Strange}
 
 -- calls at bytes answer as the test does
 abbrev pub DecidesAs : (ℕ → Bool → Type 0) → (ℕ → Bool) → Type 0
@@ -16,7 +19,8 @@ DecidesAs post test = (b : ℕ) (x : Bool) → b < 256 → post b x → x ≡ te
 abbrev pub is_blank : ℕ → Bool
 is_blank b = b == 32 || b == 9 || b == 13 || b == 10
 
--- what stands behind blanks and comments, or behind the rest of a comment; a comment goes from `#` to the end of its line
+-- what stands behind blanks and comments, or behind the rest of a comment; a comment goes from `#` to the end of its
+-- line
 abbrev pub ahead : Bool → List ℕ → List ℕ
 ahead in_comment [] = []
 ahead true (b ∷ bs) = ahead (not (b == 10)) bs

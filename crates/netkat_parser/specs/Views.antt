@@ -1,5 +1,6 @@
 -- A reader's state and the moves that it makes, sign by sign.
-use Rattle.std.specs.Prelude.{◌≡◌, ◌≢◌, ℕ, ◌+◌, length, Bool, true, false, List, [], ◌∷◌, reverse, Some, Result, Ok, Err}
+use Rattle.std.specs.Prelude.{◌≡◌, ◌≢◌, ℕ, ◌+◌, length, Bool, true, false, List, [], ◌∷◌, reverse, Some, Result, Ok}
+use Rattle.std.specs.Prelude.{Err}
 use Rattle.nk_values.specs.declared.field.Field.{Field}
 use Rattle.nk_values.specs.declared.text_fault.TextFault.{TextFault}
 use Rattle.nk_values.specs.declared.lit.Lit.{Lit}
@@ -24,7 +25,8 @@ use Rattle.netkat_parser.specs.Numbers.{number}
 use Rattle.netkat_parser.specs.Cuts.{relation}
 use Rattle.netkat_parser.specs.Answers.{spot}
 use Rattle.netkat_parser.specs.Pairs.{pairs}
-use Rattle.netkat_parser.specs.Going.{Frame, Negated, Bracketed, is_inside, is_based, Phase, Operand, Relation, Number, Behind, Reach, Comes}
+use Rattle.netkat_parser.specs.Going.{Frame, Negated, Bracketed, is_inside, is_based, Phase, Operand, Relation, Number}
+use Rattle.netkat_parser.specs.Going.{Behind, Reach, Comes}
 use Rattle.netkat_parser.specs.Showing.{IsOperand, AreChain}
 
 -- a reader's state, what is open from the inside out
@@ -36,14 +38,35 @@ pub record View : Type 0 where
   pub chain : Chain
 
 abbrev pub view_of : Reading → View
-view_of r = record { named = pairs r.named; stage = r.stage; levels = reverse r.levels.items; inside = r.inside; chain = r.chain }
+view_of r = record {
+  named = pairs r.named;
+  stage = r.stage;
+  levels = reverse r.levels.items;
+  inside =
+      r.inside;
+  chain = r.chain;
+}
 
 -- the same at another stage, and with one more level inside
 abbrev pub at : Reading → Stage → View
-at r s = record { named = pairs r.named; stage = s; levels = reverse r.levels.items; inside = r.inside; chain = r.chain }
+at r s = record {
+  named = pairs r.named;
+  stage = s;
+  levels = reverse r.levels.items;
+  inside = r.inside;
+  chain =
+      r.chain;
+}
 
 abbrev pub within : Reading → Stage → Level → View
-within r s l = record { named = pairs r.named; stage = s; levels = l ∷ reverse r.levels.items; inside = r.inside; chain = r.chain }
+within r s l = record {
+  named = pairs r.named;
+  stage = s;
+  levels = l ∷ reverse r.levels.items;
+  inside =
+      r.inside;
+  chain = r.chain;
+}
 
 -- no assignment is read inside a `not`
 abbrev pub MayStand : Bool → Operator → Type 0
@@ -81,7 +104,8 @@ first_reach = record { phase = Operand; frames = []; summands = []; factors = []
 -- the sign was taken, which is not the end: what comes behind it comes from it on
 abbrev pub TakesSign : View → Sign → View → Type 0
 TakesSign old g new = (g ≢ End) × ((x : Reach) → Shows old x → (y : Reach) × Shows new y
-    × ((text : List ℕ) (o : Got Term) → sign text ≡ g → Comes y (spot (past text) new.named) o → Comes x (spot text old.named) o))
+    × ((text : List ℕ) (o : Got Term) → sign text ≡ g → Comes y (spot (past text) new.named) o →
+    Comes x (spot text old.named) o))
 
 -- where a value is to come, no byte of one stands
 abbrev pub HasNoRun : Stage → List ℕ → Type 0
@@ -90,12 +114,16 @@ HasNoRun _ text = Unit {0}
 
 -- a `not` ended in front of the sign: one level less is open
 abbrev pub EndsNot : View → Sign → View → Type 0
-EndsNot old g new = (length new.levels + 1 ≡ length old.levels) × ((text : List ℕ) → HasNoRun old.stage text → HasNoRun new.stage text) × ((x : Reach) → Shows old x → (y : Reach) × Shows new y
-    × ((text : List ℕ) (o : Got Term) → sign text ≡ g → Comes y (spot text new.named) o → Comes x (spot text old.named) o))
+EndsNot old g new = (length new.levels + 1 ≡ length old.levels) ×
+    ((text : List ℕ) → HasNoRun old.stage text → HasNoRun new.stage text) ×
+    ((x : Reach) → Shows old x → (y : Reach) × Shows new y
+    × ((text : List ℕ) (o : Got Term) → sign text ≡ g → Comes y (spot text new.named) o →
+    Comes x (spot text old.named) o))
 
 -- the sign has this fault
 abbrev pub StopsAt : View → Sign → TextFault → Type 0
-StopsAt old g f = (x : Reach) → Shows old x → (text : List ℕ) → sign text ≡ g → HasNoRun old.stage text → Comes x (spot text old.named) (Bad f text)
+StopsAt old g f = (x : Reach) → Shows old x → (text : List ℕ) → sign text ≡ g → HasNoRun old.stage text →
+    Comes x (spot text old.named) (Bad f text)
 
 -- the state is as it was
 abbrev pub KeepsView : View → View → Type 0
@@ -108,7 +136,8 @@ IsWhole v = (pol : Pol) × (atom : Bool) × (v.stage ≡ stage.Behind pol atom) 
 -- what comes from one state comes from the other, where the sign is next
 abbrev pub Reaches : View → Sign → View → Type 0
 Reaches old g new = (x : Reach) → Shows old x → (y : Reach) × Shows new y
-    × ((text : List ℕ) (o : Got Term) → sign text ≡ g → Comes y (spot text new.named) o → Comes x (spot text old.named) o)
+    × ((text : List ℕ) (o : Got Term) → sign text ≡ g → Comes y (spot text new.named) o →
+    Comes x (spot text old.named) o)
 
 -- at most nots ended in front of the sign
 abbrev pub FollowsNots : View → Sign → View → Type 0
@@ -124,10 +153,12 @@ Moves old g new (Err halt.Memory) = KeepsView old new
 -- the value was taken, which these bytes write
 abbrev pub TakesNumber : View → List ℕ → View → Type 0
 TakesNumber old bs new = (x : Reach) → Shows old x → (y : Reach) × Shows new y
-    × ((text : List ℕ) (o : Got Term) → run text ≡ bs → Comes y (spot (past_run text) new.named) o → Comes x (spot text old.named) o)
+    × ((text : List ℕ) (o : Got Term) → run text ≡ bs → Comes y (spot (past_run text) new.named) o →
+    Comes x (spot text old.named) o)
 
 abbrev pub StopsAtRun : View → List ℕ → TextFault → Type 0
-StopsAtRun old bs f = (x : Reach) → Shows old x → (text : List ℕ) → run text ≡ bs → Comes x (spot text old.named) (Bad f text)
+StopsAtRun old bs f = (x : Reach) → Shows old x → (text : List ℕ) → run text ≡ bs →
+    Comes x (spot text old.named) (Bad f text)
 
 abbrev pub TakesRun : {U : Type 0} → View → List ℕ → View → Result U Halt → Type 0
 TakesRun old bs new (Ok u) = TakesNumber old bs new
@@ -137,8 +168,10 @@ TakesRun old bs new (Err halt.Memory) = KeepsView old new
 
 -- the pair of field and value was taken
 abbrev pub TakesPair : View → Operator → Lit → View → Type 0
-TakesPair old op l new = (bs : List ℕ) → number (lit_field l) bs ≡ Some (lit_value l) → (x : Reach) → Shows old x → (y : Reach) × Shows new y
-    × ((text : List ℕ) (o : Got Term) → sign text ≡ Name (lit_field l) → sign (past text) ≡ relation op → run (past (past text)) ≡ bs
+TakesPair old op l new = (bs : List ℕ) → number (lit_field l) bs ≡ Some (lit_value l) → (x : Reach) → Shows old x →
+    (y : Reach) × Shows new y
+    × ((text : List ℕ) (o : Got Term) → sign text ≡ Name (lit_field l) → sign (past text) ≡ relation op →
+    run (past (past text)) ≡ bs
     → Comes y (spot (past_run (past (past text))) new.named) o → Comes x (spot text old.named) o)
 
 -- no `not` ends in front of the sign, and the sign ends neither the bracket nor the text
@@ -149,7 +182,8 @@ GoesOn (level.Bracket c ∷ ls) g = g ≢ Close
 
 -- where the text ends here, it is read as this policy
 abbrev pub GivesWhole : View → Term → Type 0
-GivesWhole v p = (x : Reach) → Shows v x → (text : List ℕ) → sign text ≡ End → Comes x (spot text v.named) (Read p (spot text v.named))
+GivesWhole v p = (x : Reach) → Shows v x → (text : List ℕ) → sign text ≡ End →
+    Comes x (spot text v.named) (Read p (spot text v.named))
 
 -- the sign was taken behind all nots that end in front of it
 abbrev pub MovesOn : {U : Type 0} → View → Sign → View → Result U Halt → Type 0

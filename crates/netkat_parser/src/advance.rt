@@ -31,7 +31,8 @@ pub fn advance(
     end: bool,
 ) -> (usize, bool, Pause)
     ensures within { result.0 ≤ length text.now }
-    ensures goes { Advances (view_of reading.old) in_comment text.now end (view_of reading.new) result.0 result.1 result.2 }
+    ensures goes { Advances (view_of reading.old) in_comment text.now end (view_of reading.new) result.0 result.1
+        result.2 }
 {
     let mut at = 0;
     let mut comment = in_comment;

@@ -69,7 +69,8 @@ impl Operands {
     #[inline(always)]
     fn push(&mut self, pol: Pol)
         requires { HasOperandRoom self.old }
-        ensures { (i : Bool) (ps : List Term) (p : Term) → AreOperands i self.old ps → IsOperand i pol p → AreOperands i self.new (ps ++ p ∷ []) }
+        ensures { (i : Bool) (ps : List Term) (p : Term) → AreOperands i self.old ps → IsOperand i pol p →
+            AreOperands i self.new (ps ++ p ∷ []) }
     {
         match self {
             Operands::Policies(pols) => put(pols, pol),
@@ -140,7 +141,8 @@ impl Chain {
     #[inline(always)]
     pub fn factor(&mut self, pol: Pol)
         requires { HaveRoom self.old }
-        ensures { (i : Bool) (ss qs : List Term) (p : Term) → AreChain i self.old ss qs → IsOperand i pol p → AreChain i self.new ss (qs ++ p ∷ []) }
+        ensures { (i : Bool) (ss qs : List Term) (p : Term) → AreChain i self.old ss qs → IsOperand i pol p →
+            AreChain i self.new ss (qs ++ p ∷ []) }
     {
         self.factors.push(pol);
     }

@@ -10,9 +10,9 @@ pub fn one_reading()
     ensures reading { OneReading }
 {}
 
-/// The text that is printed for a policy is read as the policy, under four premises. Lists have two or more members, and
-/// filters hold `skip`, `drop`, a test or a `not`. The printed brackets and nots nest at most 200 deep. At most 2,000 pairs
-/// of field and value are named, at most 100 of them with ipProto.
+/// The text that is printed for a policy is read as the policy, under four premises. Lists have two or more members,
+/// and filters hold `skip`, `drop`, a test or a `not`. The printed brackets and nots nest at most 200 deep. At most
+/// 2,000 pairs of field and value are named, at most 100 of them with ipProto.
 pub fn read_back()
     ensures term { ReadBack }
     ensures policy { ReadBackPol }

@@ -1,7 +1,8 @@
 //! The values that a policy names.
 //!
 //! Layer: texts that are read; private. Called by `reading`.
-ghost use Rattle.std.specs.Prelude.{◌≡◌, [], ◌==◌, ◌||◌, ◌&&◌, not, nat_le, length, false, ◌++◌, ◌∷◌, IfOk, OnOk, OnErr, if◌then◌else◌};
+ghost use Rattle.std.specs.Prelude.{◌≡◌, [], ◌==◌, ◌||◌, ◌&&◌, not, nat_le, length, false, ◌++◌, ◌∷◌, IfOk, OnOk};
+ghost use Rattle.std.specs.Prelude.{OnErr, if◌then◌else◌};
 ghost use Rattle.nk_values.specs.Lits.{lit_field, lit_value};
 ghost use Rattle.nk_values.specs.Ranges.{place};
 ghost use Rattle.nk_values.specs.declared.field.Field.TheVariants.{IpProto};
@@ -58,7 +59,8 @@ impl Named {
 
     // Whether a new pair of this field is too many.
     fn is_full(&self, field: Field) -> bool
-        ensures { result ≡ (nat_le 2000 (length (pairs self.now)) || ((place field == place IpProto) && nat_le 100 (protos (pairs self.now)))) }
+        ensures { result ≡ (nat_le 2000 (length (pairs self.now)) ||
+            ((place field == place IpProto) && nat_le 100 (protos (pairs self.now)))) }
     {
         self.lits.len() >= MOST_PAIRS || (is_proto(field) && self.protos() >= MOST_PROTOS)
     }

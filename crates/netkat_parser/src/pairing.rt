@@ -1,7 +1,8 @@
 //! Reading goes on by a pair and the sign after it.
 //!
 //! Layer: texts that are read; private. Adds calls to `Reading`.
-ghost use Rattle.std.specs.Prelude.{◌≡◌, ◌≢◌, ◌≤◌, Bool, true, false, Ok, length, drop, reverse, IsTrue, IfSome, IfNone};
+ghost use Rattle.std.specs.Prelude.{◌≡◌, ◌≢◌, ◌≤◌, Bool, true, false, Ok, length, drop, reverse, IsTrue, IfSome};
+ghost use Rattle.std.specs.Prelude.{IfNone};
 ghost use Rattle.netkat_parser.specs.declared.sign.Sign.{Sign as Token};
 ghost use Rattle.netkat_parser.specs.declared.sign.Sign.TheVariants.{End, Close};
 ghost use Rattle.netkat_parser.specs.declared.stage.Operator.TheVariants as to;
@@ -21,7 +22,8 @@ impl Reading {
     /// Takes a pair and a `;` or `+` after it, if they stand at the front, and tells how many bytes that were. A pair
     /// at fault is not taken, and then nothing changes.
     pub fn pair(&mut self, alloc: Global, text: &[u8]) -> Option<usize>
-        ensures some { IfSome result (λ n. (end : Bool) → Steps (view_of self.old) text.now end (view_of self.new) (Ok n)) }
+        ensures some { IfSome result
+            (λ n. (end : Bool) → Steps (view_of self.old) text.now end (view_of self.new) (Ok n)) }
         ensures none { IfNone result (view_of self.new ≡ view_of self.old) }
     {
         match &self.stage {
@@ -37,7 +39,8 @@ impl Reading {
     // The operand that a pair is, which is named now. None if the pair is at fault or memory runs out.
     fn operand_of(&mut self, pair: Pair) -> Option<Pol>
         requires { self.old.stage ≡ stage.Operand }
-        ensures some { IfSome result (λ pol. TakesPair (view_of self.old) pair.operator pair.lit (at self.new (stage.Behind pol true))) }
+        ensures some { IfSome result
+            (λ pol. TakesPair (view_of self.old) pair.operator pair.lit (at self.new (stage.Behind pol true))) }
         ensures none { IfNone result (view_of self.new ≡ view_of self.old) }
         ensures stage { self.new.stage ≡ stage.Operand }
     {
@@ -65,7 +68,9 @@ impl Reading {
     fn follow(&mut self, alloc: Global, pol: Pol, text: &[u8]) -> usize
         requires { self.old.stage ≡ stage.Operand }
         ensures within { result ≤ length text.now }
-        ensures leaves { (end : Bool) → Leaves (at self.old (stage.Behind pol true)) false text.now end (view_of self.new) false (drop result text.now) }
+        ensures leaves { (end : Bool) →
+            Leaves (at self.old (stage.Behind pol true)) false text.now end (view_of self.new) false
+            (drop result text.now) }
     {
         let joins = self.chain.reserve().is_ok() && self.goes_on();
         match sign_ahead(text) {

@@ -27,17 +27,19 @@ use std::alloc::Global;
 /// atom     = "skip" | "drop" | "dup" | field "=" value | field ":=" value | "(" policy ")"
 /// ```
 ///
-/// A value is 1 to 20 decimal digits, or `0x` and 1 to 16 hexadecimal ones. For ethSrc and ethDst it may also be six pairs
-/// of hexadecimal digits joined by `:`, and for ip4Src and ip4Dst four numbers of 1 to 3 digits, each at most 255, joined
-/// by `.`.
+/// A value is 1 to 20 decimal digits, or `0x` and 1 to 16 hexadecimal ones. For ethSrc and ethDst it may also be six
+/// pairs of hexadecimal digits joined by `:`, and for ip4Src and ip4Dst four numbers of 1 to 3 digits, each at most
+/// 255, joined by `.`.
 pub fn parse_policy(alloc: Global, text: &[u8]) -> Result<Pol, ParseError>
     ensures read { IfOk result (λ pol. IsText text.now (term_of pol)) }
     ensures fault { (f : Located) → result ≡ Err (ParseError.Fault f) → HasFault text_start text.now f }
 
     // Both the other way round: unless memory runs out, what has a reading is read as it, and a
     // text with a fault is refused with it.
-    ensures each_read { (p : Term) → IsText text.now p → MatchResult result (λ pol. term_of pol ≡ p) (λ e. e ≡ ParseError.Memory) }
-    ensures each_fault { (f : Located) → HasFault text_start text.now f → IsErrAnd result (λ e. (e ≡ ParseError.Fault f) ⊎ (e ≡ ParseError.Memory)) }
+    ensures each_read { (p : Term) → IsText text.now p →
+        MatchResult result (λ pol. term_of pol ≡ p) (λ e. e ≡ ParseError.Memory) }
+    ensures each_fault { (f : Located) → HasFault text_start text.now f →
+        IsErrAnd result (λ e. (e ≡ ParseError.Fault f) ⊎ (e ≡ ParseError.Memory)) }
 {
     parse_policy_at(alloc, text, Position { line: 1, column: 1 })
 }
@@ -49,8 +51,10 @@ pub fn parse_policy_at(alloc: Global, text: &[u8], begin: Position) -> Result<Po
     requires columns { begin.column + length text.now < 2 ^ 64 }
     ensures read { IfOk result (λ pol. IsText text.now (term_of pol)) }
     ensures fault { (f : Located) → result ≡ Err (ParseError.Fault f) → HasFault begin text.now f }
-    ensures each_read { (p : Term) → IsText text.now p → MatchResult result (λ pol. term_of pol ≡ p) (λ e. e ≡ ParseError.Memory) }
-    ensures each_fault { (f : Located) → HasFault begin text.now f → IsErrAnd result (λ e. (e ≡ ParseError.Fault f) ⊎ (e ≡ ParseError.Memory)) }
+    ensures each_read { (p : Term) → IsText text.now p →
+        MatchResult result (λ pol. term_of pol ≡ p) (λ e. e ≡ ParseError.Memory) }
+    ensures each_fault { (f : Located) → HasFault begin text.now f →
+        IsErrAnd result (λ e. (e ≡ ParseError.Fault f) ⊎ (e ≡ ParseError.Memory)) }
 {
     let mut reader = PolicyReader::starting(alloc, begin);
     reader.feed(alloc, text)?;

@@ -47,8 +47,11 @@ impl PolicyReader {
     /// Reads on over these bytes. After an `Err` they are not read, and the reader stands for the text that it
     /// stood for. A text of 2^64 bytes or more is out of memory too.
     pub fn feed(&mut self, alloc: Global, piece: &[u8]) -> Result<(), AllocError>
-        ensures ok { OnOk result ((begin : Start) (text : List ℕ) → StandsFor begin self.old text → StandsFor begin self.new (text ++ piece.now)) }
-        ensures err { OnErr result ((begin : Start) (text : List ℕ) → StandsFor begin self.old text → StandsFor begin self.new text) }
+        ensures ok { OnOk result
+            ((begin : Start) (text : List ℕ) → StandsFor begin self.old text →
+            StandsFor begin self.new (text ++ piece.now)) }
+        ensures err { OnErr result
+            ((begin : Start) (text : List ℕ) → StandsFor begin self.old text → StandsFor begin self.new text) }
     {
         if self.pending.len() >= self.look {
             self.look(alloc)?;
@@ -74,7 +77,8 @@ impl PolicyReader {
     /// The same of a reader that stays, if nothing follows. After out of memory it can be asked again.
     pub fn close(&mut self, alloc: Global) -> Result<Pol, ParseError>
         ensures answer { (begin : Start) (text : List ℕ) → EndsFor begin self.old text → AnswersFor begin text result }
-        ensures again { result ≡ Err Error.Memory → (begin : Start) (text : List ℕ) → EndsFor begin self.old text → EndsFor begin self.new text }
+        ensures again { result ≡ Err Error.Memory → (begin : Start) (text : List ℕ) → EndsFor begin self.old text →
+            EndsFor begin self.new text }
     {
         if let Some(fault) = self.fault {
             return Err(ParseError::Fault(fault));
@@ -94,8 +98,11 @@ impl PolicyReader {
 
     // Holds these bytes too. After a fault they do not count.
     fn add(&mut self, piece: &[u8]) -> Result<(), AllocError>
-        ensures ok { OnOk result ((begin : Start) (text : List ℕ) → StandsFor begin self.old text → StandsFor begin self.new (text ++ piece.now)) }
-        ensures err { OnErr result ((begin : Start) (text : List ℕ) → StandsFor begin self.old text → StandsFor begin self.new text) }
+        ensures ok { OnOk result
+            ((begin : Start) (text : List ℕ) → StandsFor begin self.old text →
+            StandsFor begin self.new (text ++ piece.now)) }
+        ensures err { OnErr result
+            ((begin : Start) (text : List ℕ) → StandsFor begin self.old text → StandsFor begin self.new text) }
     {
         if self.fault.is_some() {
             return Ok(());
@@ -128,7 +135,8 @@ impl PolicyReader {
 
     // Reads what is whole of what is pending, and tells why it stops there.
     fn settle(&mut self, alloc: Global, end: bool) -> Pause
-        ensures settles { (begin : Start) (text : List ℕ) → IsOpen end begin self.old text → Settles end begin text self.new result }
+        ensures settles { (begin : Start) (text : List ℕ) → IsOpen end begin self.old text →
+            Settles end begin text self.new result }
         ensures whole { result ≡ pause.Halt halt.Done → IsWhole (view_of self.new.reading) }
         ensures wait { result ≡ pause.Wait → end ≡ false }
         ensures fault { self.new.fault ≡ self.old.fault }

@@ -3,7 +3,8 @@
 //! Layer: texts that are read; private. Called by many modules.
 ghost use Rattle.std.specs.Prelude.{◌≡◌, ◌<◌, Bool, true, false, [], length, OnOk};
 ghost use Rattle.netkat_parser.specs.declared.stage.Stage.TheVariants as stage;
-ghost use Rattle.netkat_parser.specs.Views.{view_of, at, first_reach, Shows, Moves, MovesOn, IsWhole, GivesWhole, KeepsView};
+ghost use Rattle.netkat_parser.specs.Views.{view_of, at, first_reach, Shows, Moves, MovesOn, IsWhole, GivesWhole};
+ghost use Rattle.netkat_parser.specs.Views.{KeepsView};
 ghost use Rattle.netkat_parser.specs.Showing.{HaveRoom};
 ghost use Rattle.nk_syntax.specs.Views.{term_of};
 ghost use Rattle.netkat_parser.specs.declared.sign.Sign.{Sign};

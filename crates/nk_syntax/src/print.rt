@@ -70,7 +70,8 @@ fn print_preds(
     between: &str,
     preds: &[Pred],
 ) -> Result<(), AllocError>
-    ensures { OnOk result (string_bytes out.new ≡ string_bytes out.old ++ guards_text between.now (guard_row (map guard_of preds.now))) }
+    ensures { OnOk result (string_bytes out.new ≡ string_bytes out.old ++ guards_text between.now
+        (guard_row (map guard_of preds.now))) }
 {
     let Some((first, more)) = preds.split_first() else {
         return Ok(());
@@ -118,7 +119,8 @@ fn print_pols(
     between: &str,
     pols: &[Pol],
 ) -> Result<(), AllocError>
-    ensures { OnOk result (string_bytes out.new ≡ string_bytes out.old ++ terms_text between.now (term_row (map term_of pols.now))) }
+    ensures { OnOk result (string_bytes out.new ≡ string_bytes out.old ++ terms_text between.now
+        (term_row (map term_of pols.now))) }
 {
     let Some((first, more)) = pols.split_first() else {
         return Ok(());
@@ -133,7 +135,8 @@ fn print_pols(
 
 // Puts a field, a sign and a number at the end.
 fn print_pair(alloc: Global, out: &mut String, lit: &Lit, sign: &str) -> Result<(), AllocError>
-    ensures { OnOk result (string_bytes out.new ≡ string_bytes out.old ++ pair_text (lit_field lit.now) sign.now (lit_value lit.now)) }
+    ensures { OnOk result (string_bytes out.new ≡ string_bytes out.old ++ pair_text (lit_field lit.now) sign.now
+        (lit_value lit.now)) }
 {
     out.push_str(lit.field().name())?;
     out.push_str(sign)?;

@@ -18,8 +18,8 @@ pub struct Outcome {
     pub text: String,
 }
 
-/// How many bytes a read or a write moves at most, and what is to fail. Reads, writes, pairs of ends and starts of threads
-/// go by their numbers from 1, so that 0 is none. Messages on links go by what becomes of them.
+/// How many bytes a read or a write moves at most, and what is to fail. Reads, writes, pairs of ends and starts of
+/// threads go by their numbers from 1, so that 0 is none. Messages on links go by what becomes of them.
 #[derive(Drop)]
 pub struct Failing {
     pub piece: usize,

@@ -1,5 +1,5 @@
-//! Runs in which one worker is held until another has gone on: no fixed order of the workers passes all of them. Workers
-//! 1 and 2 are the sessions, 3 and 4 the switches, 5 brings the first packet in.
+//! Runs in which one worker is held until another has gone on: no fixed order of the workers passes all of them.
+//! Workers 1 and 2 are the sessions, 3 and 4 the switches, 5 brings the first packet in.
 //!
 //! Layer: tests; private. Called by the root of the crate.
 use crate::calls::{Failing, call, words};

@@ -1,24 +1,27 @@
-//! Runs nkctl on each case of standard input, with all that it is given in memory, and prints how each call ended and what
-//! it wrote.
+//! Runs nkctl on each case of standard input, with all that it is given in memory, and prints how each call ended and
+//! what it wrote.
 //!
-//! A case is a head line `== WORDS`, with the words of the command line, and the lines of a document after it. What is to
-//! fail stands in the head line, after commas:
+//! A case is a head line `== WORDS`, with the words of the command line, and the lines of a document after it. What is
+//! to fail stands in the head line, after commas:
 //!
 //! - `pieces of 8`: at most 8 bytes a read and a write. `read 3 fails`, `write 2 fails`: that call does.
-//! - `pair 1 fails`, `thread 2 fails`: that pair of ends is not made, or that thread not started, of a run. `no threads`:
-//!   it is a call that can have none.
-//! - `link 2: message 3 from the switch fails`, or `to the switch`: that send fails. Instead it `comes twice`, `is 01130008`
-//!   or `is cut to 01130008`; `is 01130008 and 100 zeros` has 100 bytes more. Link 2 is that of the second switch, and of
-//!   two switches link 4 is that of its second session.
+//! - `pair 1 fails`, `thread 2 fails`: that pair of ends is not made, or that thread not started, of a run. `no
+//!   threads`: it is a call that can have none.
+//! - `link 2: message 3 from the switch fails`, or `to the switch`: that send fails. Instead it `comes twice`, `is
+//!   01130008` or `is cut to 01130008`; `is 01130008 and 100 zeros` has 100 bytes more. Link 2 is that of the second
+//!   switch, and of two switches link 4 is that of its second session.
 //!
-//! A document line `%100 TEXT` stands for 100 lines TEXT, in each of which `{}` is the line's number from 1 and `{+}` the
-//! next one; `~100 TEXT` for TEXT 100 times in one line, which is not ended. Of a long output the number of lines is
-//! printed, and the last one; after one that stops within a line stands `(cut)`. A line `## TITLE` is printed as it is.
+//! A document line `%100 TEXT` stands for 100 lines TEXT, in each of which `{}` is the line's number from 1 and `{+}`
+//! the next one; `~100 TEXT` for TEXT 100 times in one line, which is not ended. Of a long output the number of lines
+//! is printed, and the last one; after one that stops within a line stands `(cut)`. A line `## TITLE` is printed as it
+//! is.
 //!
-//! Of `run` and `watch` only what is the same in all runs is printed: the lines on the phase and on a halt or a fault, and
-//! how many packets came in. If it is done, the number of lost sessions follows, and of `watch` that all events were seen.
+//! Of `run` and `watch` only what is the same in all runs is printed: the lines on the phase and on a halt or a fault,
+//! and how many packets came in. If it is done, the number of lost sessions follows, and of `watch` that all events
+//! were seen.
 //!
-//! A line `:: TABLE` names a table of calls. Below it is printed that all is as it must be, or the first case that is not:
+//! A line `:: TABLE` names a table of calls. Below it is printed that all is as it must be, or the first case that is
+//! not:
 //!
 //! - `links`: each call on a link of a run fails, counted in the order made, until none is left that could;
 //! - `returns`: the same in a document that lets lost switches return;

@@ -43,8 +43,8 @@ impl Runs {
     }
 }
 
-/// So many runs over links that fail at random. Each is done, and its events are a schedule of the document with the same
-/// report.
+/// So many runs over links that fail at random. Each is done, and its events are a schedule of the document with the
+/// same report.
 pub fn random<
     R: Wait + Clock + Threads + AllocGlobal + Copy + Clone + Drop + Send + Sync + 'static,
 >(rt: R, count: usize) -> Result<Option<usize>, AllocError> {

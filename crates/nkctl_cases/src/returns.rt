@@ -22,8 +22,8 @@ pub fn document(alloc: Global, rejoins: u32) -> Result<String, AllocError> {
     format!(in alloc; "{HEAD}rejoins {rejoins}\n{REST}")
 }
 
-/// Whether a run ended by itself with all updates done, all packets of one policy each, and every lost switch there again
-/// or quiet: no more returns than losses.
+/// Whether a run ended by itself with all updates done, all packets of one policy each, and every lost switch there
+/// again or quiet: no more returns than losses.
 pub fn is_done(alloc: Global, outcome: &Outcome) -> Result<bool, AllocError> {
     let text = outcome.text.as_str();
     let ended = outcome.status == Status::Done && line_of(text, "phase ") == "phase idle 3";

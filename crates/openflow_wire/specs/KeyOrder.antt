@@ -19,14 +19,17 @@ length_or_zero (Some p) = p.length
 -- the numbers of a match, in the order in which they are written
 abbrev pub match_numbers : Pattern → List ℕ
 match_numbers p =
-    wildcards p ∷ number_or_zero p.in_port ∷ number_or_zero p.dl_src ∷ number_or_zero p.dl_dst ∷ number_or_zero p.dl_vlan ∷ number_or_zero p.dl_vlan_pcp
-    ∷ number_or_zero p.dl_type ∷ number_or_zero p.nw_tos ∷ number_or_zero p.nw_proto ∷ address_or_zero p.nw_src ∷ address_or_zero p.nw_dst
+    wildcards p ∷ number_or_zero p.in_port ∷ number_or_zero p.dl_src ∷ number_or_zero p.dl_dst ∷ number_or_zero
+    p.dl_vlan ∷ number_or_zero p.dl_vlan_pcp
+    ∷ number_or_zero p.dl_type ∷ number_or_zero p.nw_tos ∷ number_or_zero p.nw_proto ∷ address_or_zero p.nw_src ∷
+    address_or_zero p.nw_dst
     ∷ number_or_zero p.tp_src ∷ number_or_zero p.tp_dst ∷ []
 
--- The numbers of a key, of which the first that differ decide. The last three are told by the others wherever the row can be
--- written; with them no two keys have the same numbers.
+-- The numbers of a key, of which the first that differ decide. The last three are told by the others wherever the row
+-- can be written; with them no two keys have the same numbers.
 unfoldable pub key_numbers : Row → List ℕ
-key_numbers r = (65535 - r.priority) ∷ (match_numbers r.pattern ++ length_or_zero r.pattern.nw_src ∷ length_or_zero r.pattern.nw_dst ∷ r.priority ∷ [])
+key_numbers r = (65535 - r.priority) ∷
+    (match_numbers r.pattern ++ length_or_zero r.pattern.nw_src ∷ length_or_zero r.pattern.nw_dst ∷ r.priority ∷ [])
 
 abbrev pub key_cmp : Row → Row → Ordering
 key_cmp = on key_numbers (slice_cmp nat_cmp)
@@ -37,7 +40,8 @@ key_bytes r = be 2 (65535 - r.priority) ++ match_bytes r.pattern
 
 -- of rows that can be written, the order is that of their bytes
 abbrev pub KeysAreBytes : (Row → Type 0) → Type 0
-KeysAreBytes IsWritten = (a b : Row) → IsWritten a → IsWritten b → key_cmp a b ≡ slice_cmp nat_cmp (key_bytes a) (key_bytes b)
+KeysAreBytes IsWritten = (a b : Row) → IsWritten a → IsWritten b →
+    key_cmp a b ≡ slice_cmp nat_cmp (key_bytes a) (key_bytes b)
 
 -- ---- rows in the order of their keys
 

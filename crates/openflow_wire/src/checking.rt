@@ -5,7 +5,8 @@ ghost use Rattle.std.specs.Prelude.{ℕ, OnOk, IfErr};
 ghost use Rattle.openflow_wire.specs.declared.message.Message.{Message};
 ghost use Rattle.openflow_wire.specs.Spelling.{Spells};
 ghost use Rattle.openflow_wire.specs.Faults.{IsFirstFault};
-ghost use Rattle.openflow_wire.specs.Reading.{ChecksAs, actions_of, change_of, error_of, bare, features_of, request_of, reply_of, body_of, reads};
+ghost use Rattle.openflow_wire.specs.Reading.{ChecksAs, actions_of, change_of, error_of, bare, features_of, request_of};
+ghost use Rattle.openflow_wire.specs.Reading.{reply_of, body_of, reads};
 
 use crate::action_lists::are_whole;
 use crate::fault::WireFault;

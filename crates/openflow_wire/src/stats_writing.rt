@@ -5,7 +5,8 @@ ghost use Rattle.std.specs.Prelude.{◌≡◌, ◌+◌, ◌<◌, ◌≤◌, ◌^
 ghost use Rattle.std.specs.List.{AllByRecursion};
 ghost use Rattle.nk_values.specs.Fitting.{FitsPattern};
 ghost use Rattle.openflow_wire.specs.FlowStats.{FitsEntry, entry_len, entries_len};
-ghost use Rattle.openflow_wire.specs.Writing.{PutsBytes, entry_bytes, entry_head, entries_bytes, more_flag, request_bytes, reply_bytes};
+ghost use Rattle.openflow_wire.specs.Writing.{PutsBytes, entry_bytes, entry_head, entries_bytes, more_flag};
+ghost use Rattle.openflow_wire.specs.Writing.{request_bytes, reply_bytes};
 
 use crate::flow_stats::FlowStats;
 use crate::mod_writing::{actions_wire_len, put_actions};

@@ -1,6 +1,7 @@
 -- What clauses see of a net in memory and its ends.
 use Rattle.std.specs.Arc.{arc_value}
-use Rattle.std.specs.Prelude.{◌≡◌, ℕ, ◌+◌, ◌≤◌, ◌⊎◌, ◌++◌, Bool, true, false, List, [], ◌∷◌, map, Option, None, Some, Contains, vec_len, vec_capacity}
+use Rattle.std.specs.Prelude.{◌≡◌, ℕ, ◌+◌, ◌≤◌, ◌⊎◌, ◌++◌, Bool, true, false, List, [], ◌∷◌, map, Option, None, Some}
+use Rattle.std.specs.Prelude.{Contains, vec_len, vec_capacity}
 use Rattle.outside_net.specs.Told.{told_if, next_count}
 use Rattle.outside_net.specs.Troubles.{calls_failing, Spoils}
 use Rattle.outside_net.specs.declared.trouble.Effect.{Effect}

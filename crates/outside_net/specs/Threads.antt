@@ -22,7 +22,8 @@ threads_joined s = s.joined
 
 -- A thread that it was given is held, or it is joined at once.
 abbrev pub TakesThread : {R : Type 0} → ThreadSpawner R → ThreadSpawner R → Type 0
-TakesThread old new = ((threads_held new ≡ threads_held old + 1) × (threads_joined new ≡ threads_joined old)) ⊎ ((threads_held new ≡ threads_held old) × (threads_joined new ≡ next_count (threads_joined old)))
+TakesThread old new = ((threads_held new ≡ threads_held old + 1) × (threads_joined new ≡ threads_joined old)) ⊎
+    ((threads_held new ≡ threads_held old) × (threads_joined new ≡ next_count (threads_joined old)))
 
 -- ---- starts that are refused
 

@@ -38,7 +38,8 @@ impl<T: Spawner> Spawner for RefusingSpawner<T> {
     ghost use Rattle.outside_io.specs.Causes.{Rose};
     ghost use Rattle.outside_net.specs.Causes.{StartCause};
     ghost use Rattle.outside_net.specs.Told.{next_count};
-    ghost use Rattle.outside_net.specs.Threads.{refusing_faults, refusing_inner, refusing_starts, refusing_failing, StartIsToFail};
+    ghost use Rattle.outside_net.specs.Threads.{refusing_faults, refusing_inner, refusing_starts, refusing_failing};
+    ghost use Rattle.outside_net.specs.Threads.{StartIsToFail};
 
     type Handle = T::Handle;
 
@@ -57,8 +58,10 @@ impl<T: Spawner> Spawner for RefusingSpawner<T> {
         ensures cause { StartCause (refusing_faults self.old) (refusing_faults self.new) result }
         ensures room { OnOk result (0 < T.room (refusing_inner self.new)) }
         ensures held { T.held (refusing_inner self.new) ≡ T.held (refusing_inner self.old) }
-        ensures refuses { StartIsToFail self.old → (result ≡ Err StartFault.NoThread) × (refusing_inner self.new ≡ refusing_inner self.old) }
-        ensures passes { ¬ (StartIsToFail self.old) → StartCause (T.faults (refusing_inner self.old)) (T.faults (refusing_inner self.new)) result }
+        ensures refuses { StartIsToFail self.old → (result ≡ Err StartFault.NoThread) ×
+            (refusing_inner self.new ≡ refusing_inner self.old) }
+        ensures passes { ¬ (StartIsToFail self.old) →
+            StartCause (T.faults (refusing_inner self.old)) (T.faults (refusing_inner self.new)) result }
         ensures starts { refusing_starts self.new ≡ next_count (refusing_starts self.old) }
         ensures failing { refusing_failing self.new ≡ refusing_failing self.old }
     {
@@ -82,7 +85,8 @@ impl<T: Spawner> Spawner for RefusingSpawner<T> {
     }
 
     fn count(&mut self)
-        ensures faults { (refusing_faults self.old ≤ refusing_faults self.new) × Rose (refusing_faults self.old) (refusing_faults self.new) }
+        ensures faults { (refusing_faults self.old ≤ refusing_faults self.new) ×
+            Rose (refusing_faults self.old) (refusing_faults self.new) }
         ensures held { T.held (refusing_inner self.new) ≡ T.held (refusing_inner self.old) }
         ensures inner { refusing_inner self.new ≡ refusing_inner self.old }
         ensures starts { refusing_starts self.new ≡ refusing_starts self.old }

@@ -9,8 +9,8 @@ pub fn hops_keep_futures()
     ensures { HopsKeepFutures }
 {}
 
-/// If the rows of its port answer a copy as the policy does, a hop finishes no history twice. Then also no copy that goes
-/// on has its history in the past of another's or of a finished one.
+/// If the rows of its port answer a copy as the policy does, a hop finishes no history twice. Then also no copy that
+/// goes on has its history in the past of another's or of a finished one.
 pub fn hops_part()
     ensures { HopsPart }
 {}

@@ -1,4 +1,5 @@
-//! The order of a port's rows by a destination: where a search for the first row that hits may begin. `ordered` asks it.
+//! The order of a port's rows by a destination: where a search for the first row that hits may begin. `ordered` asks
+//! it.
 //!
 //! Layer: rows and packets; private. Called by `ordered`.
 ghost use Rattle.std.specs.Prelude.{◌≡◌, List, IfOk, length};

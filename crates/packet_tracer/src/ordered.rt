@@ -48,7 +48,9 @@ impl<'a> OrderedRows<'a> {
     /// The first row of the port at a place that hits a packet there.
     pub(crate) fn first_hit(&self, place: usize, header: &Header, tag: Tag) -> Option<&Row>
         requires { place < length self.now.ports }
-        ensures { IsSomeAnd (slice_get self.now.ports place) (λ p. option_map (λ r. r.now) result ≡ first (record { port = p.pt; header = header.now; tag = tag }) p.rows) }
+        ensures { IsSomeAnd (slice_get self.now.ports place)
+            (λ p. option_map (λ r. r.now) result ≡ first (record { port = p.pt; header = header.now; tag = tag })
+            p.rows) }
     {
         let port = &self.rows.ports.as_slice()[place];
         let start = self.orders[place].start(header);

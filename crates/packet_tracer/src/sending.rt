@@ -19,7 +19,8 @@ pub(crate) fn sent_by(
     header: &Header,
     tag: Tag,
 ) -> Result<Vec<Sent>, AllocError>
-    ensures { IfOk result (λ v. v.items ≡ sent_by (option_map (λ r. r.now) row.entry) (record { port = port; header = header.now; tag = tag })) }
+    ensures { IfOk result (λ v. v.items ≡ sent_by (option_map (λ r. r.now) row.entry)
+        (record { port = port; header = header.now; tag = tag })) }
 {
     match row {
         None => Ok(Vec::new(alloc)),

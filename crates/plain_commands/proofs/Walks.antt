@@ -5,7 +5,7 @@ use Rattle.document_text.specs.Terms.{Term}
 use Rattle.document_text.specs.declared.document.PacketLine.{PacketLine}
 use Rattle.document_text.specs.Documents.{Doc}
 use Rattle.packet_tracer.specs.declared.flight.Walk.{Walk}
-use Rattle.report_text.specs.Traces.{Adds, AreTexts, IsPacketText, IsPolicyText, IsTraceText}
+use Rattle.report_text.specs.Traces.{AddsText, AreTexts, IsPacketText, IsPolicyText, IsTraceText}
 use Rattle.value_text.specs.Values.{line}
 use Rattle.policy_rows.specs.declared.version.Version.{Version}
 use Rattle.program_answer.specs.declared.status.Status.TheVariants.{Done}
@@ -30,7 +30,7 @@ traces_of_texts d k (p ∷ ps) text t =
     (t.2.0 ∷ r.0, (t.2.1, r.1), (t.0, t.1, t.2.2, r.2, t.4))
 
 -- a policy's line, and the texts of its packets
-pub policy_text : (d : Doc) (n : ℕ) (p : Term) (old now new : List ℕ) → now ≡ old ++ line (codes "policy " ++ decimal n) → Adds (AreTexts (IsPacketLineText d p) 0 d.packets) now new → Adds (IsTracedPolicyText d n p) old new
+pub policy_text : (d : Doc) (n : ℕ) (p : Term) (old now new : List ℕ) → now ≡ old ++ line (codes "policy " ++ decimal n) → AddsText (AreTexts (IsPacketLineText d p) 0 d.packets) now new → AddsText (IsTracedPolicyText d n p) old new
 policy_text d n p old now new e a =
     let r = walks_of_texts d p 0 d.packets a.text a.is in
     record {

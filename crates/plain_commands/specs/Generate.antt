@@ -7,7 +7,8 @@ use Rattle.workload_gen.specs.Laws.{IsRunOf}
 use Rattle.world_core.specs.declared.event.Event.{Event}
 use Rattle.world_core.specs.Worlds.{WorldValue}
 
--- The number's document was driven to its end by drawn events: the text counts its switches, policies and packets, these events, and the histories that were finished.
+-- The number's document was driven to its end by drawn events: the text counts its switches, policies and packets,
+-- these events, and the histories that were finished.
 pub record IsWorkload (n : ℕ) (text : List ℕ) : Type 0 where
   pub packets : ℕ
   pub world : WorldValue

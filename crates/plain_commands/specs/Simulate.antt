@@ -17,14 +17,16 @@ use Rattle.program_answer.specs.Statuses.{report_status}
 use Rattle.program_answer.specs.Worlds.{start_of}
 use Rattle.plain_commands.specs.Schedules.{CarriedOut, StopsAt}
 
--- The whole schedule is carried out with these events and comes to this world, in which each packet that came in is handled by one policy. It begins in a world that keeps what all do.
+-- The whole schedule is carried out with these events and comes to this world, in which each packet that came in is
+-- handled by one policy. It begins in a world that keeps what all do.
 pub record IsOutcomeOf (d : Doc) (versions : List Version) (events : List Event) (world : WorldValue) : Type 0 where
   pub kept : IsKept (start_of d versions)
   pub done : CarriedOut d.layout.switches d.packets (start_of d versions) d.schedule events world
   pub runs : Runs (start_of d versions) events world
   pub good : AreGood world
 
--- The text is the report of the events of the whole schedule and of the world then; `halts` says whether the updates stand still then.
+-- The text is the report of the events of the whole schedule and of the world then; `halts` says whether the updates
+-- stand still then.
 pub record IsSimulationOf (halts : Bool) (d : Doc) (versions : List Version) (text : List ℕ) : Type 0 where
   pub events : List Event
   pub world : WorldValue
@@ -59,7 +61,8 @@ pub record IsScheduleRefusal (xs : List ℕ) (f : Fault) : Type 0 where
 abbrev pub IsSimulateRefused : List ℕ → Fault → Type 0
 IsSimulateRefused xs f = IsInputRefused xs f ⊎ IsScheduleRefusal xs f
 
--- The source was read to its end, and the text is the report of its schedule: Halted if the updates stand still then, and Done if not.
+-- The source was read to its end, and the text is the report of its schedule: Halted if the updates stand still then,
+-- and Done if not.
 pub record IsSimulateAnswer (source : SourceSeen) (status : Status) (text : List ℕ) : Type 0 where
   pub halts : Bool
   pub status_is : status ≡ report_status halts
@@ -69,12 +72,15 @@ pub record IsSimulateAnswer (source : SourceSeen) (status : Status) (text : List
 
 -- It has one report, and one way to end.
 abbrev pub OneReport : Type 0
-OneReport = (d : Doc) (versions : List Version) (halts stands : Bool) (text other : List ℕ) → IsSimulationOf halts d versions text → IsSimulationOf stands d versions other → (halts ≡ stands) × (text ≡ other)
+OneReport = (d : Doc) (versions : List Version) (halts stands : Bool) (text other : List ℕ) →
+    IsSimulationOf halts d versions text → IsSimulationOf stands d versions other → (halts ≡ stands) × (text ≡ other)
 
 -- It stops at one line.
 abbrev pub OneStop : Type 0
-OneStop = (d : Doc) (versions : List Version) (line other : ℕ) → StopsIn d versions line → StopsIn d versions other → line ≡ other
+OneStop = (d : Doc) (versions : List Version) (line other : ℕ) → StopsIn d versions line → StopsIn d versions other →
+    line ≡ other
 
 -- And where it stops it has no report.
 abbrev pub NotBoth : Type 0
-NotBoth = (d : Doc) (versions : List Version) (halts : Bool) (text : List ℕ) (line : ℕ) → IsSimulationOf halts d versions text → StopsIn d versions line → ⊥
+NotBoth = (d : Doc) (versions : List Version) (halts : Bool) (text : List ℕ) (line : ℕ) →
+    IsSimulationOf halts d versions text → StopsIn d versions line → ⊥

@@ -24,7 +24,8 @@ pub record IsSimulatedAs (d : Document) (versions : List Version) (a : Answer) :
 -- the fault of the first line whose event cannot happen; nothing is said of memory
 abbrev pub TellsStop : List DeclaredSwitch → List PacketLine → WorldValue → List ScheduleLine → AnswerError → Type 0
 TellsStop sites packets w schedule error.Memory = Unit {0}
-TellsStop sites packets w schedule (error.Fault f) = (line : ℕ) × (f ≡ fault.NotEnabled line) × StopsAt sites packets w schedule line
+TellsStop sites packets w schedule (error.Fault f) = (line : ℕ) × (f ≡ fault.NotEnabled line) ×
+    StopsAt sites packets w schedule line
 
 -- the line at which the whole schedule stops; nothing is said of memory
 abbrev pub TellsStopIn : Document → List Version → AnswerError → Type 0

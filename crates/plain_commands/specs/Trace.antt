@@ -16,7 +16,8 @@ use Rattle.program_answer.specs.Input.{IsAcceptedAs}
 
 -- what becomes of a packet under a policy: its complete histories within the hop limit, and its copies in flight there
 abbrev pub IsWalkOf : Doc → Term → PacketLine → Walk → Type 0
-IsWalkOf d p line walk = IsWalk (wiring d.layout) p line.packet line.tag d.settings.hops walk.finished.items walk.in_flight.items
+IsWalkOf d p line walk =
+    IsWalk (wiring d.layout) p line.packet line.tag d.settings.hops walk.finished.items walk.in_flight.items
 
 -- of each packet
 abbrev pub AreWalksOf : Doc → Term → List PacketLine → List Walk → Type 0

@@ -15,7 +15,8 @@ use std::alloc::Global;
 
 /// The rows of all policies of a source's document.
 pub fn rules_answer<S: Source>(alloc: Global, source: &mut S) -> Result<Answer, AnswerError>
-    ensures answer { IfOk result (λ a. IsRulesAnswer (source_of S.left S.faults source.old source.new) a.status a.text) }
+    ensures answer { IfOk result
+        (λ a. IsRulesAnswer (source_of S.left S.faults source.old source.new) a.status a.text) }
     ensures stops { IfErr result (Stops IsInputRefused (source_of S.left S.faults source.old source.new)) }
     ensures at_most { TakesAtMost 4194305 (S.left source.old) (S.left source.new) }
 {

@@ -22,7 +22,8 @@ pub fn carry_out(
     packets: &[PacketLine],
     schedule: &[ScheduleLine],
 ) -> Result<Events, AnswerError>
-    ensures done { IfOk result (λ events. CarriedOut world.old.topology.switches packets.now world.old schedule.now events.items world.new) }
+    ensures done { IfOk result
+        (λ events. CarriedOut world.old.topology.switches packets.now world.old schedule.now events.items world.new) }
     ensures stop { IfErr result (TellsStop world.old.topology.switches packets.now world.old schedule.now) }
 {
     let mut events = Events::new(alloc);
@@ -46,9 +47,12 @@ fn carry(
     order: ScheduleStep,
     events: &mut Events,
 ) -> Result<(), StepFault>
-    ensures done { OnOk result ((more : List EventValue) × Does world.old.topology.switches packets.now order world.old more world.new × (events.new.items ≡ events.old.items ++ more)) }
+    ensures done { OnOk result
+        ((more : List EventValue) × Does world.old.topology.switches packets.now order world.old more world.new ×
+        (events.new.items ≡ events.old.items ++ more)) }
     ensures topology { OnOk result (world.new.topology ≡ world.old.topology) }
-    ensures refused { result ≡ Err faults.NotEnabled → CannotHappen world.old.topology.switches packets.now order world.old }
+    ensures refused { result ≡ Err faults.NotEnabled →
+        CannotHappen world.old.topology.switches packets.now order world.old }
 {
     match order {
         ScheduleStep::Settle => world.settle(alloc, events)?,

@@ -1,5 +1,5 @@
-//! `nkctl simulate`: the report of a schedule, in which the switches are taken from one policy to the next while packets
-//! cross the network (SIGCOMM 2012, section 5).
+//! `nkctl simulate`: the report of a schedule, in which the switches are taken from one policy to the next while
+//! packets cross the network (SIGCOMM 2012, section 5).
 //!
 //! Layer: the program; public. Called by controller_program.
 ghost use Rattle.std.specs.Prelude.{IfOk, IfErr};
@@ -21,7 +21,8 @@ use std::alloc::Global;
 
 /// The report of the schedule of a source's document, or the first line whose event cannot happen.
 pub fn simulate_answer<S: Source>(alloc: Global, source: &mut S) -> Result<Answer, AnswerError>
-    ensures answer { IfOk result (λ a. IsSimulateAnswer (source_of S.left S.faults source.old source.new) a.status a.text) }
+    ensures answer { IfOk result
+        (λ a. IsSimulateAnswer (source_of S.left S.faults source.old source.new) a.status a.text) }
     ensures stops { IfErr result (Stops IsSimulateRefused (source_of S.left S.faults source.old source.new)) }
     ensures at_most { TakesAtMost 4194305 (S.left source.old) (S.left source.new) }
 {

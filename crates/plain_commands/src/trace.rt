@@ -11,7 +11,7 @@ ghost use Rattle.program_answer.specs.Called.{source_of};
 ghost use Rattle.program_answer.specs.Input.{IsInputRefused, policies_of};
 ghost use Rattle.program_answer.specs.Sound.{IsSound, IsSoundPacket};
 ghost use Rattle.program_answer.specs.Versions.{AreVersions};
-ghost use Rattle.report_text.specs.Traces.{Adds, AreTexts};
+ghost use Rattle.report_text.specs.Traces.{AddsText, AreTexts};
 ghost use Rattle.plain_commands.specs.Trace.{IsTraceAnswer, IsWalkOf, IsPacketLineText, IsTracedPolicyText};
 
 use document_text::PacketLine;
@@ -25,7 +25,8 @@ use value_text::{Text, put_policy_line, put_walk};
 
 /// What becomes of all packets of a source's document under each of its policies.
 pub fn trace_answer<S: Source>(alloc: Global, source: &mut S) -> Result<Answer, AnswerError>
-    ensures answer { IfOk result (λ a. IsTraceAnswer (source_of S.left S.faults source.old source.new) a.status a.text) }
+    ensures answer { IfOk result
+        (λ a. IsTraceAnswer (source_of S.left S.faults source.old source.new) a.status a.text) }
     ensures stops { IfErr result (Stops IsInputRefused (source_of S.left S.faults source.old source.new)) }
     ensures at_most { TakesAtMost 4194305 (S.left source.old) (S.left source.new) }
 {
@@ -44,8 +45,10 @@ fn traces(
     versions: &[Version],
 ) -> Result<String, AllocError>
     requires sound { IsSound (doc_of document.now) }
-    requires versions { AreVersions document.now.topology document.now.settings 0 (policies_of document.now) versions.now }
-    ensures { IfOk result (λ out. AreTexts (IsTracedPolicyText (doc_of document.now)) 0 (policies_of document.now) (string_bytes out)) }
+    requires versions { AreVersions document.now.topology document.now.settings 0 (policies_of document.now)
+        versions.now }
+    ensures { IfOk result (λ out. AreTexts (IsTracedPolicyText (doc_of document.now)) 0 (policies_of document.now)
+        (string_bytes out)) }
 {
     let mut out = String::new(alloc);
     for (before, version) in versions.iter().enumerate() {
@@ -65,7 +68,7 @@ fn put_policy(
     requires sound { IsSound (doc_of document.now) }
     requires means { (p : Term) × RowsMean rows.now p document.now.topology }
     ensures { (p : Term) → RowsMean rows.now p document.now.topology →
-        OnOk result (Adds (IsTracedPolicyText (doc_of document.now) policy p) (string_bytes out.old) (string_bytes out.new)) }
+        OnOk result (AddsText (IsTracedPolicyText (doc_of document.now) policy p) (string_bytes out.old) (string_bytes out.new)) }
 {
     put_policy_line(out, policy)?;
     let ordered = OrderedRows::new(alloc, rows)?;
@@ -82,7 +85,7 @@ fn put_packets(
     requires sound { IsSound (doc_of document.now) }
     requires means { (p : Term) × RowsMean rows.now p document.now.topology }
     ensures { (p : Term) → RowsMean rows.now p document.now.topology →
-        OnOk result (Adds (AreTexts (IsPacketLineText (doc_of document.now) p) 0 document.now.packets.items) (string_bytes out.old) (string_bytes out.new)) }
+        OnOk result (AddsText (AreTexts (IsPacketLineText (doc_of document.now) p) 0 document.now.packets.items) (string_bytes out.old) (string_bytes out.new)) }
 {
     for (before, line) in document.packets().iter().enumerate() {
         let walk = walk_of(alloc, document, rows, line)?;
@@ -101,7 +104,8 @@ fn walk_of(
     requires means { (p : Term) × RowsMean rows.now p document.now.topology }
     requires packet { IsSoundPacket document.now.topology line.now }
     requires hops { 0 < document.now.settings.hops }
-    ensures { (p : Term) → RowsMean rows.now p document.now.topology → IfOk result (IsWalkOf (doc_of document.now) p line.now) }
+    ensures { (p : Term) → RowsMean rows.now p document.now.topology →
+        IfOk result (IsWalkOf (doc_of document.now) p line.now) }
 {
     let hops = u64::from(document.settings().hops);
     walk(

@@ -1,18 +1,18 @@
 //! Diagrams of policies: how many tests each has and what it makes of each packet that was asked, or its first fault.
 //!
-//! A heading drops the packets that were asked. A line that begins with `>` asks for one packet more: at port 1 of switch 1,
-//! of type 2054, with zeros elsewhere, but for the assignments in the line.
+//! A heading drops the packets that were asked. A line that begins with `>` asks for one packet more: at port 1 of
+//! switch 1, of type 2054, with zeros elsewhere, but for the assignments in the line.
 //!
 //! - `steps N` stands for the star of the sum of `ethDst=i; ethDst:=i+1` for i from 1 to N.
 //! - `steps N in TEST` has `TEST;` before each of these.
 //! - `rectangle N` is for the packets of TCP with one of N numbers in each of four fields, which go to port 2.
 //! - `steps N in rectangle M` has the steps for such packets.
-//! - `star of rectangle N` lets them go from port 1 any number of times, and on to ports that set the four fields. Beside
-//!   them are sums at other ports, which set ethDst by the numbers of one field each.
+//! - `star of rectangle N` lets them go from port 1 any number of times, and on to ports that set the four fields.
+//!   Beside them are sums at other ports, which set ethDst by the numbers of one field each.
 //!
-//! The diagrams of rectangles share their parts: their tests are not counted, since each path has its own. What is made of a
-//! packet is told as a policy: the assignments that make each of its packets, `skip` for the packet itself and `drop` for
-//! none. If they are more than nine, the line says how many. A packet that is made twice is told twice.
+//! The diagrams of rectangles share their parts: their tests are not counted, since each path has its own. What is made
+//! of a packet is told as a policy: the assignments that make each of its packets, `skip` for the packet itself and
+//! `drop` for none. If they are more than nine, the line says how many. A packet that is made twice is told twice.
 //!
 //! Layer: tests; private. Called by the root of the crate.
 use crate::policies::{packet_of, rectangle, rectangle_tests, star_of_rectangle, steps};

@@ -1,7 +1,7 @@
 //! Reads cases of policies from standard input, one a line, and prints what is told of each.
 //!
-//! A line that begins with `===` begins a part: policies that are read, paths of diagrams, or diagrams of policies. Each
-//! part's file says what its lines are. A line that begins with `==` is a heading.
+//! A line that begins with `===` begins a part: policies that are read, paths of diagrams, or diagrams of policies.
+//! Each part's file says what its lines are. A line that begins with `==` is a heading.
 //!
 //! Layer: tests; nothing calls it.
 #![tactic(auto)]

@@ -75,9 +75,10 @@ pub fn rectangle_tests(alloc: Global, count: u64) -> Result<String, AllocError> 
     Ok(text)
 }
 
-/// The text of the star of a rectangle at port 1. Its packets go on to ports 2 to 5, each of which sets one of the four fields to
-/// 1. Beside them stand sums that set ethDst by the numbers of the four fields, each sum at a port of its own that no turn leads
-/// to from port 1.
+/// The text of the star of a rectangle at port 1. Its packets go on to ports 2 to 5, each of which sets one of the four
+/// fields to
+/// 1. Beside them stand sums that set ethDst by the numbers of the four fields, each sum at a port of its own that no
+///   turn leads to from port 1.
 pub fn star_of_rectangle(alloc: Global, count: u64) -> Result<String, AllocError> {
     let tests = rectangle_tests(alloc, count)?;
     let mut text = format!(in alloc; "(pt=1; {tests}; pt:=2")?;

@@ -1,14 +1,16 @@
 //! Policies that are read and printed again. Faults are told by their line and column, number and name.
 //!
-//! In a policy `\n`, `\r` and `\t` stand for LF, CR and a tab. What is printed is read and printed once more, and has to be
-//! the same. So has what is printed of a policy that comes byte by byte, and of one that is cut in two, at each place.
+//! In a policy `\n`, `\r` and `\t` stand for LF, CR and a tab. What is printed is read and printed once more, and has
+//! to be the same. So has what is printed of a policy that comes byte by byte, and of one that is cut in two, at each
+//! place.
 //!
 //! Layer: tests; private. Called by the root of the crate.
 use netkat_parser::{ParseError, PolicyReader, parse_policy};
 use nk_syntax::Pol;
 use std::alloc::{AllocError, Global};
 
-/// What is told of a policy: it as it is printed, or its first fault; and the first cut at which the answer is another one.
+/// What is told of a policy: it as it is printed, or its first fault; and the first cut at which the answer is another
+/// one.
 pub fn answer(alloc: Global, line: &str) -> Result<String, AllocError> {
     let policy = unescaped(alloc, line)?;
     let answer = twice(alloc, &policy)?;

@@ -30,10 +30,13 @@ pub record AreApartBy (p q : Term) (x : Apart) : Type 0 where
   pub shaped : IsWellShaped x.packet
   pub alone : GivesAlone x.side p q x.packet x.output
 
--- Each well-shaped packet has the same complete histories in each topology, and the same open ones after each number of hops.
+-- Each well-shaped packet has the same complete histories in each topology, and the same open ones after each number of
+-- hops.
 pub record HaveSameHistories (p q : Term) : Type 0 where
-  pub complete : (w : Wiring) (packet : Packet) (tag : Option ℕ) (h : Trail) → IsWiring w → IsWellShaped packet → IsComplete w p packet tag h ↔ IsComplete w q packet tag h
-  pub in_flight : (w : Wiring) (packet : Packet) (tag : Option ℕ) (hops : ℕ) (h : Trail) → IsWiring w → IsWellShaped packet → IsOpen w p packet tag hops h ↔ IsOpen w q packet tag hops h
+  pub complete : (w : Wiring) (packet : Packet) (tag : Option ℕ) (h : Trail) → IsWiring w → IsWellShaped packet →
+      IsComplete w p packet tag h ↔ IsComplete w q packet tag h
+  pub in_flight : (w : Wiring) (packet : Packet) (tag : Option ℕ) (hops : ℕ) (h : Trail) → IsWiring w →
+      IsWellShaped packet → IsOpen w p packet tag hops h ↔ IsOpen w q packet tag hops h
 
 -- neither policy has a `dup` or a deep star
 pub record HaveMeaning (p q : Term) : Type 0 where

@@ -23,14 +23,16 @@ use std::alloc::Global;
 /// the same results under both. Then plain policies also give it the same histories in each topology
 /// (POPL 2014, section 3).
 ///
-/// Whether a switch can follow the policies is not asked. A policy is refused for a `dup`, or else for its first star that
-/// is deep, the first policy before the second.
+/// Whether a switch can follow the policies is not asked. A policy is refused for a `dup`, or else for its first star
+/// that is deep, the first policy before the second.
 pub fn compare(alloc: Global, p: &Pol, q: &Pol) -> Result<Option<Apart>, CompareError>
     requires few_p { AreFewNamed (TermNames (term_of p.now)) }
     requires few_q { AreFewNamed (TermNames (term_of q.now)) }
     ensures equal { IfOk result (λ o. (o ≡ None) ↔ HaveSameResults (term_of p.now) (term_of q.now)) }
     ensures apart { IfOk result (λ o. IfSome o (AreApartBy (term_of p.now) (term_of q.now))) }
-    ensures histories { IfOk result (λ o. o ≡ None → IsPlain (term_of p.now) → IsPlain (term_of q.now) → HaveSameHistories (term_of p.now) (term_of q.now)) }
+    ensures histories { IfOk result
+        (λ o. o ≡ None → IsPlain (term_of p.now) → IsPlain (term_of q.now) →
+        HaveSameHistories (term_of p.now) (term_of q.now)) }
     ensures meant { OnOk result (HaveMeaning (term_of p.now) (term_of q.now)) }
     ensures refused { IfErr result (IsNotCompared (term_of p.now) (term_of q.now)) }
 {
@@ -46,7 +48,8 @@ pub fn compare(alloc: Global, p: &Pol, q: &Pol) -> Result<Option<Apart>, Compare
 fn meaning_of(alloc: Global, store: &mut Store, pol: &Pol, side: Side) -> Result<Id, CompareError>
     requires { AreFewNamed (TermNames (term_of pol.now)) }
     ensures grows { Grows store.old store.new }
-    ensures told { MatchResult result (λ r. Gives store.new r (MeaningOf (term_of pol.now))) (Blames side (term_of pol.now)) }
+    ensures told { MatchResult result (λ r. Gives store.new r (MeaningOf (term_of pol.now)))
+        (Blames side (term_of pol.now)) }
 {
     match meaning(alloc, store, pol) {
         Ok(root) => Ok(root),

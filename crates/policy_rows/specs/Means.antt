@@ -38,16 +38,21 @@ sent_packet sw x = record { sw = sw; pt = x.port; header = x.header }
 abbrev pub sent_as : Packet → Option ℕ → Sent
 sent_as q tag = record { port = q.pt; header = q.header; tag = tag }
 
--- The first row that hits pk sends exactly the policy's results at declared ports: untagged at edge ports, with the stamp at linked ports.
-pub record AnswersPolicy (w : Wiring) (p : Term) (stamp : ℕ) (rows : List Row) (tag : Option ℕ) (pk : Packet) : Type 0 where
-  pub row : Row
-  pub found : first (incoming pk tag) rows ≡ Some row
-  pub results : (x : Sent) → IsIn (acted row.actions (incoming pk tag)) x → HasResult p pk (sent_packet pk.sw x)
-  pub tags : (x : Sent) → IsIn (acted row.actions (incoming pk tag)) x →
-      (IsIn w.edges (standing (sent_packet pk.sw x)) × (x.tag ≡ None)) ⊎ ((b : Place) × IsIn w.links (standing (sent_packet pk.sw x), b) × (x.tag ≡ Some stamp))
-  pub leaves : (q : Packet) → HasResult p pk q → IsIn w.edges (standing q) → IsIn (acted row.actions (incoming pk tag)) (sent_as q None)
-  pub goes : (q : Packet) (b : Place) → HasResult p pk q → IsIn w.links (standing q, b) → IsIn (acted row.actions (incoming pk tag)) (sent_as q (Some stamp))
-  pub once : EachOnce (acted row.actions (incoming pk tag))
+-- The first row that hits pk sends exactly the policy's results at declared ports: untagged at edge ports, with the
+-- stamp at linked ports.
+pub record AnswersPolicy (w : Wiring) (p : Term) (stamp : ℕ) (rows : List Row) (tag : Option ℕ) (pk : Packet) : Type 0
+  where
+    pub row : Row
+    pub found : first (incoming pk tag) rows ≡ Some row
+    pub results : (x : Sent) → IsIn (acted row.actions (incoming pk tag)) x → HasResult p pk (sent_packet pk.sw x)
+    pub tags : (x : Sent) → IsIn (acted row.actions (incoming pk tag)) x →
+        (IsIn w.edges (standing (sent_packet pk.sw x)) × (x.tag ≡ None)) ⊎
+        ((b : Place) × IsIn w.links (standing (sent_packet pk.sw x), b) × (x.tag ≡ Some stamp))
+    pub leaves : (q : Packet) → HasResult p pk q → IsIn w.edges (standing q) →
+        IsIn (acted row.actions (incoming pk tag)) (sent_as q None)
+    pub goes : (q : Packet) (b : Place) → HasResult p pk q → IsIn w.links (standing q, b) →
+        IsIn (acted row.actions (incoming pk tag)) (sent_as q (Some stamp))
+    pub once : EachOnce (acted row.actions (incoming pk tag))
 
 -- the pattern that fixes a port and a tag, and nothing else
 abbrev pub port_pattern : ℕ → Option ℕ → Pattern
@@ -73,11 +78,12 @@ pub record EndsWith (pattern : Pattern) (rows : List Row) : Type 0 where
   pub last_pattern : last.pattern ≡ pattern
 
 -- The rows of port a stand for the policy there, for packets with this tag.
-pub record PortMeans (w : Wiring) (p : Term) (stamp top : ℕ) (a : Place) (tag : Option ℕ) (rows : List Row) : Type 0 where
-  pub fixed : (r : Row) → IsIn rows r → FixesPort a.pt tag r.pattern
-  pub ranked : Ranked top rows
-  pub ends : EndsWith (port_pattern a.pt tag) rows
-  pub answers : (pk : Packet) → IsWellShaped pk → standing pk ≡ a → AnswersPolicy w p stamp rows tag pk
+pub record PortMeans (w : Wiring) (p : Term) (stamp top : ℕ) (a : Place) (tag : Option ℕ) (rows : List Row) : Type 0
+  where
+    pub fixed : (r : Row) → IsIn rows r → FixesPort a.pt tag r.pattern
+    pub ranked : Ranked top rows
+    pub ends : EndsWith (port_pattern a.pt tag) rows
+    pub answers : (pk : Packet) → IsWellShaped pk → standing pk ≡ a → AnswersPolicy w p stamp rows tag pk
 
 -- the priority of the first row of a port
 abbrev pub top_of : Band → PortKind → ℕ
@@ -109,10 +115,12 @@ abbrev pub rows_at : List PortRows → Place → List Row
 rows_at [] a = []
 rows_at (port ∷ ports) a = if same_place (port_place port) a then port.rows else rows_at ports a
 
--- The rows stand for a plain policy in this topology: there is one list for each declared port, in their order, and each stands for the policy at its port.
+-- The rows stand for a plain policy in this topology: there is one list for each declared port, in their order, and
+-- each stands for the policy at its port.
 pub record RowsMean (rows : Rows) (p : Term) (t : Layout) : Type 0 where
   pub plain : IsPlain p
   pub stamp : IsVlanId rows.stamp
   pub ports : map port_of rows.ports ≡ declared_ports t
   pub means : (port : PortRows) → IsIn rows.ports port →
-      PortMeans (wiring t) p rows.stamp (top_of rows.band port.kind) (port_place port) (port_tag port.kind rows.stamp) port.rows
+      PortMeans (wiring t) p rows.stamp (top_of rows.band port.kind) (port_place port) (port_tag port.kind rows.stamp)
+      port.rows

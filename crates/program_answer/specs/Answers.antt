@@ -14,7 +14,8 @@ pub record Reads (IsSuch : List ℕ → Type 0) (s : SourceSeen) : Type 0 where
   pub faultless : IsSame s.faults
   pub bytes : IfSome s.left.before IsSuch
 
--- The source was read to its end, or to the byte that is one too many, no read failed, and its bytes, if they are known, are such.
+-- The source was read to its end, or to the byte that is one too many, no read failed, and its bytes, if they are
+-- known, are such.
 pub record ReadsFirst (IsSuch : List ℕ → Type 0) (s : SourceSeen) : Type 0 where
   pub taken : TakesFirst 4194305 s.left.before s.left.after
   pub faultless : IsSame s.faults

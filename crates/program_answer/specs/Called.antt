@@ -34,11 +34,13 @@ pub record SinkSeen : Type 0 where
 abbrev pub sink_of : {K : Type 0} → (K → Option (List ℕ)) → (K → ℕ) → K → K → SinkSeen
 sink_of written faults old new = record { written = change written old new; faults = change faults old new }
 
--- a net: how often a pair could not be made, how many ends came back that had failed, and what each end that came back had received, if it is known
+-- a net: how often a pair could not be made, how many ends came back that had failed, and what each end that came back
+-- had received, if it is known
 pub record NetSeen : Type 0 where
   pub faults : Change ℕ
   pub broken : Change ℕ
   pub gathered : Change (Option (List (List ℕ)))
 
 abbrev pub net_of : {N : Type 0} → (N → ℕ) → (N → ℕ) → (N → Option (List (List ℕ))) → N → N → NetSeen
-net_of faults broken gathered old new = record { faults = change faults old new; broken = change broken old new; gathered = change gathered old new }
+net_of faults broken gathered old new =
+    record { faults = change faults old new; broken = change broken old new; gathered = change gathered old new }

@@ -59,7 +59,8 @@ pub record IsReadAs (xs : List ℕ) (d : Doc) (after : ℕ) : Type 0 where
   pub document : IsDocument xs d
   pub after_is : after ≡ line_after xs
 
--- The reader stands for the bytes that were taken of a source, which are all of them or 4,194,305, and their lines were counted.
+-- The reader stands for the bytes that were taken of a source, which are all of them or 4,194,305, and their lines were
+-- counted.
 pub record Feeds (old new : Option (List ℕ)) (r : DocReader) (c : LineCount) : Type 0 where
   pub bytes : List ℕ
   pub taken : Consumes old new bytes

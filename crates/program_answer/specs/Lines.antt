@@ -15,4 +15,5 @@ going_on true (suc n) = suc n
 
 -- Whatever text follows, so many lines are those that had ended, and the others are those of what follows.
 abbrev pub Counts : LineCount → List ℕ → Type 0
-Counts c text = (rest : List ℕ) → length (lines_of (text ++ rest)) ≡ c.ended + going_on c.goes_on (length (lines_of rest))
+Counts c text = (rest : List ℕ) →
+    length (lines_of (text ++ rest)) ≡ c.ended + going_on c.goes_on (length (lines_of rest))

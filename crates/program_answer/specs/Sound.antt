@@ -27,7 +27,8 @@ AreFewNamedIn ps = (p : Term) → IsIn ps p → AreFewNamed (TermNames p)
 abbrev pub AreSoundPackets : Layout → List PacketLine → Type 0
 AreSoundPackets t lines = (line : PacketLine) → IsIn lines line → IsSoundPacket t line
 
--- the stamps, the hop limit, the number of sessions that may be lost, the number of policies, the values that they name, and the packets are within their ranges
+-- the stamps, the hop limit, the number of sessions that may be lost, the number of policies, the values that they
+-- name, and the packets are within their ranges
 pub record IsSound (d : Doc) : Type 0 where
   pub stamps : AreStamps d.settings
   pub hops : 0 < d.settings.hops

@@ -1,7 +1,8 @@
 -- The exit statuses.
 use Rattle.std.specs.Prelude.{ℕ, Bool, true, false}
 use Rattle.program_answer.specs.declared.status.Status.{Status}
-use Rattle.program_answer.specs.declared.status.Status.TheVariants.{Done, Refused, Usage, Halted, ReadFault, WriteFault, NetFault, NoThread, Memory, ReportFault}
+use Rattle.program_answer.specs.declared.status.Status.TheVariants.{Done, Refused, Usage, Halted, ReadFault, WriteFault}
+use Rattle.program_answer.specs.declared.status.Status.TheVariants.{NetFault, NoThread, Memory, ReportFault}
 use Rattle.report_text.specs.Fault.{Fault}
 use Rattle.report_text.specs.Fault.TheVariants as fault
 

@@ -19,7 +19,8 @@ use Rattle.report_text.specs.Fault.TheVariants as fault
 abbrev pub stamp_in : Settings → ℕ → ℕ
 stamp_in s k = stamp_at s.stamps.0 s.stamps.1 k
 
--- The policy after k others with its rows: those of its diagram, which stand for it, are within the limits, and can be written as messages.
+-- The policy after k others with its rows: those of its diagram, which stand for it, are within the limits, and can be
+-- written as messages.
 pub record IsVersion (t : Layout) (s : Settings) (k : ℕ) (p : Term) (v : Version) : Type 0 where
   pub policy : term_of v.pol ≡ p
   pub diagram : Tree

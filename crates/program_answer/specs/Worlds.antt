@@ -24,7 +24,9 @@ start_of d versions = initial_world d.layout versions (world_settings d.settings
 
 -- the same for a drive: the first loss halts it, and no drains overlap
 abbrev pub start_of_drive : Doc → List Version → WorldValue
-start_of_drive d versions = initial_world d.layout versions (record { hops = d.settings.hops; capacity = d.settings.capacity; rejoins = 0; overlap = None })
+start_of_drive d versions =
+    initial_world d.layout versions
+    (record { hops = d.settings.hops; capacity = d.settings.capacity; rejoins = 0; overlap = None })
 
 -- the report of these events and of the world then, and the status by whether the updates stand still
 pub record IsWorldAnswer (w : WorldValue) (events : List Event) (a : Answer) : Type 0 where

@@ -28,10 +28,13 @@ pub struct Input {
 /// Reads a source to its end, and puts the policies of its document into rows, from the first on. Of a source that is
 /// too long, one byte more than a document may have is read.
 pub fn read_input<S: Source>(alloc: Global, source: &mut S) -> Result<Input, AnswerError>
-    ensures reads { IfOk result (λ i. Reads (λ xs. IsAcceptedAs xs (doc_of i.document) i.versions.items) (source_of S.left S.faults source.old source.new)) }
+    ensures reads { IfOk result
+        (λ i. Reads (λ xs. IsAcceptedAs xs (doc_of i.document) i.versions.items)
+        (source_of S.left S.faults source.old source.new)) }
     ensures taken { OnOk result (TakesFirst 4194305 (S.left source.old) (S.left source.new)) }
     ensures sound { IfOk result (λ i. IsSound (doc_of i.document)) }
-    ensures versions { IfOk result (λ i. AreVersions i.document.topology i.document.settings 0 (policies_of i.document) i.versions.items) }
+    ensures versions { IfOk result
+        (λ i. AreVersions i.document.topology i.document.settings 0 (policies_of i.document) i.versions.items) }
     ensures stops { IfErr result (Stops IsInputRefused (source_of S.left S.faults source.old source.new)) }
     ensures at_most { TakesAtMost 4194305 (S.left source.old) (S.left source.new) }
 {

@@ -31,7 +31,9 @@ pub struct ReadDocument {
 
 /// Reads the source piece by piece, and its document.
 pub fn read_source<S: Source>(alloc: Global, source: &mut S) -> Result<ReadDocument, AnswerError>
-    ensures reads { IfOk result (λ d. Reads (λ xs. IsReadAs xs (doc_of d.document) d.line_after) (source_of S.left S.faults source.old source.new)) }
+    ensures reads { IfOk result
+        (λ d. Reads (λ xs. IsReadAs xs (doc_of d.document) d.line_after)
+        (source_of S.left S.faults source.old source.new)) }
     ensures sound { IfOk result (λ d. IsSound (doc_of d.document)) }
     ensures taken { OnOk result (TakesFirst 4194305 (S.left source.old) (S.left source.new)) }
     ensures stops { IfErr result (Stops IsTextRefusal (source_of S.left S.faults source.old source.new)) }
@@ -61,8 +63,8 @@ fn placed_fault(fault: &DocFault) -> Fault
     }
 }
 
-// Feeds the bytes of a source to its end, or to a number after which more do not count, in pieces of at most 4,096. Each turn takes at
-// least one byte, or ends the reading. A read that failed is not tried again.
+// Feeds the bytes of a source to its end, or to a number after which more do not count, in pieces of at most 4,096.
+// Each turn takes at least one byte, or ends the reading. A read that failed is not tried again.
 fn feed_from<S: Source>(
     alloc: Global,
     source: &mut S,

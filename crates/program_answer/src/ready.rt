@@ -1,5 +1,5 @@
-//! A document of which the policies were taken, in the layer of what commands share. `read_input` makes it, and commands
-//! read it.
+//! A document of which the policies were taken, in the layer of what commands share. `read_input` makes it, and
+//! commands read it.
 //!
 //! Layer: the program; public. Called by `input` here, and by many crates.
 ghost use Rattle.std.specs.Prelude.{◌≡◌, IfOk};
@@ -31,7 +31,14 @@ impl Model for ReadyDocument {
     // a policy holds itself, so the code of documents is named
     ghost coded = { documents.the_row.coded };
 
-    ghost view = { λ d. record { topology = d.topology; policies = d.policies; packets = d.packets; settings = d.settings; schedule = d.schedule } };
+    ghost view = { λ d. record {
+      topology = d.topology;
+      policies = d.policies;
+      packets = d.packets;
+      settings = d.settings;
+      schedule =
+          d.schedule;
+    } };
 }
 
 /// What a document has beside its policies.

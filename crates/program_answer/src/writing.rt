@@ -30,7 +30,9 @@ pub fn say<K: Sink>(alloc: Global, sink: &mut K, answer: Result<Answer, AnswerEr
 
 // Writes the line of a fault.
 fn say_fault<K: Sink>(alloc: Global, sink: &mut K, fault: &Fault) -> Status
-    ensures said { Says (status_of fault.now) (fault_text fault.now) result (sink_of K.written K.faults sink.old sink.new) ⊎ (HasValues fault.now × IsUnsaid result (sink_of K.written K.faults sink.old sink.new)) }
+    ensures said { Says (status_of fault.now) (fault_text fault.now) result
+        (sink_of K.written K.faults sink.old sink.new) ⊎
+        (HasValues fault.now × IsUnsaid result (sink_of K.written K.faults sink.old sink.new)) }
     ensures memory { result ≡ Status.Memory → sink.new ≡ sink.old }
 {
     if let Some(line) = fixed_line(fault) {

@@ -50,7 +50,9 @@ shown e = e
 
 -- The lines of events give them back, in order, but for foreign bytes.
 abbrev pub LinesTell : Type 0
-LinesTell = (t : Layout) (es fs : List Event) → IsTopology t → AllByRecursion (IsInWords t) es → AllByRecursion (IsInWords t) fs → events_text t.switches es ≡ events_text t.switches fs → map shown es ≡ map shown fs
+LinesTell = (t : Layout) (es fs : List Event) → IsTopology t → AllByRecursion (IsInWords t) es →
+    AllByRecursion (IsInWords t) fs → events_text t.switches es ≡ events_text t.switches fs →
+    map shown es ≡ map shown fs
 
 -- the text is a report with these events
 pub record IsReportOf (t : Layout) (events : List Event) (text : List ℕ) : Type 0 where
@@ -64,7 +66,8 @@ pub record IsReportOf (t : Layout) (events : List Event) (text : List ℕ) : Typ
 
 -- So does a report.
 abbrev pub ReportsTell : Type 0
-ReportsTell = (t : Layout) (es fs : List Event) (text : List ℕ) → IsTopology t → AllByRecursion (IsInWords t) es → AllByRecursion (IsInWords t) fs → IsReportOf t es text → IsReportOf t fs text → map shown es ≡ map shown fs
+ReportsTell = (t : Layout) (es fs : List Event) (text : List ℕ) → IsTopology t → AllByRecursion (IsInWords t) es →
+    AllByRecursion (IsInWords t) fs → IsReportOf t es text → IsReportOf t fs text → map shown es ≡ map shown fs
 
 -- ---- what is read again
 
@@ -72,12 +75,14 @@ ReportsTell = (t : Layout) (es fs : List Event) (text : List ℕ) → IsTopology
 abbrev pub Names : List DeclaredSwitch → ℕ → (ℕ → ScheduleStep) → ScheduleStep → Type 0
 Names switches place of d = (x : DeclaredSwitch) × (slice_get switches place ≡ Some x) × (d ≡ of x.sw)
 
--- What a schedule has for the event: places of copies and of flow mods are at most 4294967295, and stamps are VLAN ids. No schedule has a packet by itself or foreign bytes.
+-- What a schedule has for the event: places of copies and of flow mods are at most 4294967295, and stamps are VLAN ids.
+-- No schedule has a packet by itself or foreign bytes.
 abbrev pub IsScheduled : List DeclaredSwitch → Event → ScheduleStep → Type 0
 IsScheduled switches (event.Controller of_controller.Begin) d = d ≡ command.Begin
 IsScheduled switches (event.Controller (of_controller.Send place)) d = Names switches place command.Send d
 IsScheduled switches (event.Switch (of_switch.Take place)) d = Names switches place command.Take d
-IsScheduled switches (event.Switch (of_switch.Apply place k)) d = (k ≤ 4294967295) × Names switches place (λ n. command.Apply n k) d
+IsScheduled switches (event.Switch (of_switch.Apply place k)) d = (k ≤ 4294967295) ×
+    Names switches place (λ n. command.Apply n k) d
 IsScheduled switches (event.Switch (of_switch.Reply place)) d = Names switches place command.Reply d
 IsScheduled switches (event.Controller (of_controller.Heard place)) d = Names switches place command.Heard d
 IsScheduled switches (event.Packet (of_packet.Hop k)) d = (k ≤ 4294967295) × (d ≡ command.Hop k)
@@ -88,7 +93,10 @@ IsScheduled switches (event.Packet (of_packet.Stuck k)) d = (k ≤ 4294967295) �
 IsScheduled switches (event.Packet (of_packet.Arrive pk tag)) d = ⊥
 IsScheduled switches (event.Foreign place side got) d = ⊥
 
--- Inside of a schedule that may have one line more, the line that reports print for an event, without the `e ` in front, is read as that event.
+-- Inside of a schedule that may have one line more, the line that reports print for an event, without the `e ` in
+-- front, is read as that event.
 abbrev pub PrintedIsRead : Type 0
-PrintedIsRead = (s : State) (n : ℕ) (e : Event) (d : ScheduleStep) → IsTopology s.layout → s.inside ≡ true → length s.events < 100000 → IsScheduled s.layout.switches e d →
-    step s n (words_of (line (event_text s.layout.switches e))) ≡ Next (record s { events = s.events ++ record { line = n; event = d } ∷ [] })
+PrintedIsRead = (s : State) (n : ℕ) (e : Event) (d : ScheduleStep) → IsTopology s.layout → s.inside ≡ true →
+    length s.events < 100000 → IsScheduled s.layout.switches e d →
+    step s n (words_of (line (event_text s.layout.switches e))) ≡ Next
+    (record s { events = s.events ++ record { line = n; event = d } ∷ [] })

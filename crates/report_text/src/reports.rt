@@ -26,16 +26,19 @@ pub struct Standing<'a> {
     pub arrivals: &'a [Arrival],
 }
 
-/// The events that were done, in order, and how the network stands then: the phase, the stamps that drain, if any do, and
-/// the cause of a halt, if there is one. For each packet that came in, from 1 on, a line `done` follows for each finished history, and then a line `open` for
-/// each copy in flight. These lines are sorted by bytes, equal lines once. Events tell a switch by its number, and nothing
-/// if none is at their place. A copy of no packet that came in is left out.
+/// The events that were done, in order, and how the network stands then: the phase, the stamps that drain, if any do,
+/// and the cause of a halt, if there is one. For each packet that came in, from 1 on, a line `done` follows for each
+/// finished history, and then a line `open` for each copy in flight. These lines are sorted by bytes, equal lines once.
+/// Events tell a switch by its number, and nothing if none is at their place. A copy of no packet that came in is left
+/// out.
 pub fn report_text(
     alloc: Global,
     standing: &Standing<'_>,
     events: &Events,
 ) -> Result<Text, AllocError>
-    ensures { IfOk result (λ t. IsReportText standing.now.switches.now events.now.items (state_text standing.now.updates.stamps.now standing.now.updates.draining.now standing.now.updates.phase (option_map (λ c. c.now) standing.now.updates.halt)) standing.now.flights.now standing.now.arrivals.now t) }
+    ensures { IfOk result (λ t. IsReportText standing.now.switches.now events.now.items
+        (state_text standing.now.updates.stamps.now standing.now.updates.draining.now standing.now.updates.phase
+        (option_map (λ c. c.now) standing.now.updates.halt)) standing.now.flights.now standing.now.arrivals.now t) }
 {
     let mut out = String::new(alloc);
     put_events(&mut out, standing.switches, events)?;
@@ -70,7 +73,8 @@ fn put_arrivals(
     arrivals: &[Arrival],
     flights: &Flights,
 ) -> Result<(), AllocError>
-    ensures { OnOk result (AddsText (AreTexts (IsArrivalText flights.now) 0 arrivals.now) (string_bytes out.old) (string_bytes out.new)) }
+    ensures { OnOk result (AddsText (AreTexts (IsArrivalText flights.now) 0 arrivals.now) (string_bytes out.old)
+        (string_bytes out.new)) }
 {
     let mut copies = open_lines(alloc, flights, arrivals.len())?;
     for (before, arrival) in arrivals.iter().enumerate() {
@@ -88,7 +92,8 @@ fn put_arrival(
     arrival: &Arrival,
     copies: &[String],
 ) -> Result<(), AllocError>
-    ensures { OnOk result (AddsText (HasFate (map string_bytes copies.now) number arrival.now) (string_bytes out.old) (string_bytes out.new)) }
+    ensures { OnOk result (AddsText (HasFate (map string_bytes copies.now) number arrival.now) (string_bytes out.old)
+        (string_bytes out.new)) }
 {
     let done = history_lines(alloc, "done ", arrival.finished())?;
     put_head(out, number, arrival)?;

@@ -39,7 +39,8 @@ pub record LeadsTo (events : List Event) (w : WorldValue) : Type 0 where
 
 -- ---- what copies carry
 
--- A copy of an arrival is of the policy with this number, counted from 1. It carries the policy's stamp, which copies may carry in this phase, and its history begins with the packet.
+-- A copy of an arrival is of the policy with this number, counted from 1. It carries the policy's stamp, which copies
+-- may carry in this phase, and its history begins with the packet.
 pub record IsCopyOf (w : WorldValue) (number : ℕ) (a : Arrived) (f : Flight) : Type 0 where
   pub policy : Version
   pub there : version_at w.versions number ≡ Some policy
@@ -103,7 +104,8 @@ HaltsFor w _ why = ⊥
 
 -- An event of a world that has not halted halts it exactly if it is one of those.
 abbrev pub HaltsExactly : Type 0
-HaltsExactly = (w : WorldValue) (e : Event) (v : WorldValue) (why : Cause) → w.fleet.control.halt ≡ None → Step w e v → (v.fleet.control.halt ≡ Some why) ↔ HaltsFor w e why
+HaltsExactly = (w : WorldValue) (e : Event) (v : WorldValue) (why : Cause) → w.fleet.control.halt ≡ None → Step w e v →
+    (v.fleet.control.halt ≡ Some why) ↔ HaltsFor w e why
 
 -- one of the events halted, in the world that those before it led to
 pub record WasHalted (w : WorldValue) (events : List Event) (why : Cause) : Type 0 where
@@ -117,13 +119,16 @@ pub record WasHalted (w : WorldValue) (events : List Event) (why : Cause) : Type
 
 -- If updates have halted, an event of the list halted them, for the cause that they tell.
 abbrev pub HaltsTell : Type 0
-HaltsTell = (w : WorldValue) (events : List Event) (v : WorldValue) (why : Cause) → w.fleet.control.halt ≡ None → Runs w events v → v.fleet.control.halt ≡ Some why → WasHalted w events why
+HaltsTell = (w : WorldValue) (events : List Event) (v : WorldValue) (why : Cause) → w.fleet.control.halt ≡ None →
+    Runs w events v → v.fleet.control.halt ≡ Some why → WasHalted w events why
 
--- From a start of accepted policies, a session fails only by the error of a full table, and without overlap and with room for 130,000 rows by none.
+-- From a start of accepted policies, a session fails only by the error of a full table, and without overlap and with
+-- room for 130,000 rows by none.
 pub record IsSessionRefused (w : WorldValue) (why : Cause) : Type 0 where
   pub sw : ℕ
   pub is : why ≡ cause.Failed sw (SwitchError 3 0)
   pub short : w.overlap ≡ None → w.capacity < 130000
 
 abbrev pub OnlyRefused : Type 0
-OnlyRefused = (events : List Event) (w : WorldValue) (place : ℕ) (why : Cause) → LeadsTo events w → HaltsFor w (event.Controller (of_controller.Heard place)) why → IsSessionRefused w why
+OnlyRefused = (events : List Event) (w : WorldValue) (place : ℕ) (why : Cause) → LeadsTo events w →
+    HaltsFor w (event.Controller (of_controller.Heard place)) why → IsSessionRefused w why

@@ -1,5 +1,6 @@
 -- Stamps, of which some are live.
-use Rattle.std.specs.Prelude.{◌≡◌, ℕ, ◌+◌, ◌-◌, ◌<◌, ◌≤◌, nat_le, ◌==◌, Bool, true, false, List, length, replicate, slice_get, slice_set, Some, if◌then◌else◌}
+use Rattle.std.specs.Prelude.{◌≡◌, ℕ, ◌+◌, ◌-◌, ◌<◌, ◌≤◌, nat_le, ◌==◌, Bool, true, false, List, length, replicate}
+use Rattle.std.specs.Prelude.{slice_get, slice_set, Some, if◌then◌else◌}
 
 -- The stamps of a range, whether each number is a live stamp, and the stamp at which the next search begins.
 pub record Planning : Type 0 where

@@ -2,7 +2,8 @@
 //!
 //! Layer: updates; public. Called by flow_tests.
 ghost use Rattle.std.specs.Prelude.{◌≡◌, ◌≤◌, ◌<◌, ◌↔◌, IsErr, IfOk, MatchOption, OnErr, ◌+◌, ◌-◌};
-ghost use Rattle.stamp_planner.specs.Stamps.{Planning, IsLive, AllLive, IsFirstFree, turned, none_live, given, released};
+ghost use Rattle.stamp_planner.specs.Stamps.{Planning, IsLive, AllLive, IsFirstFree, turned, none_live, given};
+ghost use Rattle.stamp_planner.specs.Stamps.{released};
 
 use nk_values::GREATEST_VLAN_ID;
 use std::marker::Model;

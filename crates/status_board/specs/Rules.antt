@@ -15,4 +15,5 @@ head_of b = record { tracked = true; key = 0; book = b }
 
 -- If the word had the expected number, the post was added to all that had been seen; if not, the history was seen
 abbrev pub AddsPost : Step Post → View Post ℕ → ℕ → View Post ℕ → Type 0
-AddsPost s v found w = MatchBool (found == s.old) ((w.0 ≡ v.0 ++ s.ask ∷ []) × IsHistory w.0) ((length w.0 ≡ found) × IsHistory w.0)
+AddsPost s v found w = MatchBool (found == s.old) ((w.0 ≡ v.0 ++ s.ask ∷ []) × IsHistory w.0)
+    ((length w.0 ≡ found) × IsHistory w.0)

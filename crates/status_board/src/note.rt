@@ -34,7 +34,8 @@ impl<J: BoardName> Model for Note<J> {
 
     ghost view = { λ n. n.token.log };
 
-    ghost invariant = { λ n. (n.number ≡ length n.token.log) × (n.post ≡ newest n.token.log) × (n.token.book ≡ J.book) × IsHistory n.token.log };
+    ghost invariant = { λ n. (n.number ≡ length n.token.log) × (n.post ≡ newest n.token.log) ×
+        (n.token.book ≡ J.book) × IsHistory n.token.log };
 }
 
 impl<J: BoardName> Note<J> {

@@ -21,7 +21,8 @@ IsRequest _ = ⊥
 
 -- the deletion with this pattern and out port
 abbrev pub deletion : Pattern → ℕ → FlowMod
-deletion pattern out_port = record { command = Delete; pattern = pattern; priority = 0; out_port = out_port; actions = [] }
+deletion pattern out_port =
+    record { command = Delete; pattern = pattern; priority = 0; out_port = out_port; actions = [] }
 
 -- the switch's table, or all tables
 abbrev pub IsOfTable : ℕ → Type 0
@@ -37,7 +38,18 @@ pub record IsTold (rows : List Row) (table : ℕ) (change : FlowMod) (r : Row) :
 
 -- a row of table 0 with nothing counted
 abbrev pub entry_of : Row → FlowStats
-entry_of r = record { table = 0; row = r; seconds = 0; nanoseconds = 0; idle_timeout = 0; hard_timeout = 0; cookie = 0; packets = 0; bytes = 0 }
+entry_of r = record {
+  table = 0;
+  row = r;
+  seconds = 0;
+  nanoseconds = 0;
+  idle_timeout = 0;
+  hard_timeout = 0;
+  cookie =
+      0;
+  packets = 0;
+  bytes = 0;
+}
 
 abbrev pub reply : ℕ → Bool → List Row → Message
 reply xid more rows = to.FlowStatsReply xid more (map entry_of rows)
@@ -59,7 +71,8 @@ abbrev pub AreReplies : ℕ → List Row → List Message → Type 0
 AreReplies xid rows [] = ⊥
 AreReplies xid rows (m ∷ []) = (m ≡ reply xid false rows) × Fits rows
 AreReplies xid rows (m ∷ n ∷ ms) =
-    (part : List Row) × (later : List Row) × (rows ≡ part ++ later) × (m ≡ reply xid true part) × Fits part × IsFilled part later × AreReplies xid later (n ∷ ms)
+    (part : List Row) × (later : List Row) × (rows ≡ part ++ later) × (m ≡ reply xid true part) × Fits part ×
+    IsFilled part later × AreReplies xid later (n ∷ ms)
 
 -- replies with the rows that are told, in the order of their keys
 pub record AreTold (rows : List Row) (xid table : ℕ) (change : FlowMod) (answer : List Message) : Type 0 where
@@ -71,12 +84,14 @@ pub record AreTold (rows : List Row) (xid table : ℕ) (change : FlowMod) (answe
 
 -- what is answered to a request for rows
 abbrev pub AnswersStats : List Row → Message → List Message → Type 0
-AnswersStats rows (to.FlowStatsRequest xid pattern table out_port) answer = AreTold rows xid table (deletion pattern out_port) answer
+AnswersStats rows (to.FlowStatsRequest xid pattern table out_port) answer =
+    AreTold rows xid table (deletion pattern out_port) answer
 AnswersStats rows _ answer = ⊥
 
 -- ---- how replies are filled
 
--- Replies that are full, and the next one with these entries, have room for an entry: as they are, or once the next one is full too.
+-- Replies that are full, and the next one with these entries, have room for an entry: as they are, or once the next one
+-- is full too.
 abbrev pub HasEntryRoom : ℕ → ℕ → List Message → List FlowStats → List Message → List FlowStats → Type 0
 HasEntryRoom xid size full entries now next =
     ((reply_len entries + size ≤ 65535) × (now ≡ full) × (next ≡ entries))
@@ -85,7 +100,8 @@ HasEntryRoom xid size full entries now next =
 -- with a row more they tell it after the others
 abbrev pub TellsMore : ℕ → List Message → List FlowStats → Row → List Message → List FlowStats → Type 0
 TellsMore xid full entries r now next =
-    (told : List Row) → AreReplies xid told (full ++ to.FlowStatsReply xid false entries ∷ []) → AreReplies xid (told ++ r ∷ []) (now ++ to.FlowStatsReply xid false next ∷ [])
+    (told : List Row) → AreReplies xid told (full ++ to.FlowStatsReply xid false entries ∷ []) →
+    AreReplies xid (told ++ r ∷ []) (now ++ to.FlowStatsReply xid false next ∷ [])
 
 -- ---- how the rows are found
 
@@ -93,4 +109,5 @@ TellsMore xid full entries r now next =
 abbrev pub ArePicked : FlowMod → List Row → List Row → Type 0
 ArePicked change [] picked = picked ≡ []
 ArePicked change (r ∷ rows) picked =
-    (IsMeant change r × (later : List Row) × (picked ≡ r ∷ later) × ArePicked change rows later) ⊎ ((¬ IsMeant change r) × ArePicked change rows picked)
+    (IsMeant change r × (later : List Row) × (picked ≡ r ∷ later) × ArePicked change rows later) ⊎
+    ((¬ IsMeant change r) × ArePicked change rows picked)

@@ -63,7 +63,8 @@ impl Filling {
         ensures xid { self.new.xid ≡ self.old.xid }
         ensures len { OnOk result (self.new.len ≡ reply_len self.new.entries) }
         ensures few { OnOk result (self.new.len ≤ LONGEST) }
-        ensures more { OnOk result (TellsMore self.old.xid self.old.full.items self.old.entries row.now self.new.full.items self.new.entries) }
+        ensures more { OnOk result
+            (TellsMore self.old.xid self.old.full.items self.old.entries row.now self.new.full.items self.new.entries) }
     {
         let entry = entry_of(alloc, row)?;
         let size = entry_len(&entry);
@@ -79,7 +80,8 @@ impl Filling {
         requires few { self.old.len ≤ LONGEST }
         ensures xid { self.new.xid ≡ self.old.xid }
         ensures len { OnOk result (self.new.len ≡ reply_len self.new.entries) }
-        ensures room { OnOk result (HasEntryRoom self.old.xid size self.old.full.items self.old.entries self.new.full.items self.new.entries) }
+        ensures room { OnOk result
+            (HasEntryRoom self.old.xid size self.old.full.items self.old.entries self.new.full.items self.new.entries) }
     {
         if size <= LONGEST - self.len {
             return Ok(());

@@ -27,7 +27,8 @@ impl Switch {
         requires asks { IsRequest request.now }
         requires few { (r : RowValue) → IsIn self.now.table.rows r → actions_len r.actions ≤ 60000 }
         ensures told { IfOk result (λ v. AnswersStats self.now.table.rows request.now v.items) }
-        ensures fits { Fits request.now → ((r : RowValue) → IsIn self.now.table.rows r → IsWritable r) → IfOk result (λ v. AllByRecursion Fits v.items) }
+        ensures fits { Fits request.now → ((r : RowValue) → IsIn self.now.table.rows r → IsWritable r) →
+            IfOk result (λ v. AllByRecursion Fits v.items) }
     {
         let Message::FlowStatsRequest {
             xid,
@@ -62,7 +63,8 @@ fn row_replies(
 ) -> Result<Vec<Message>, AllocError>
     requires distinct { Distinct rows.now }
     requires few { (r : RowValue) → IsIn rows.now r → actions_len r.actions ≤ 60000 }
-    ensures { IfOk result (λ v. (table : ℕ) → IsOfTable table → AreTold rows.now xid table (deletion pattern.now out_port) v.items) }
+    ensures { IfOk result (λ v. (table : ℕ) → IsOfTable table →
+        AreTold rows.now xid table (deletion pattern.now out_port) v.items) }
 {
     let mut meant = rows_of_deletion(alloc, rows, pattern, out_port)?;
     rank(&mut meant)?;

@@ -15,7 +15,8 @@ use std::alloc::{AllocError, Global};
 use world_core::World;
 
 /// How the table of the switch at a place differs from the rows that it holds once the batch of the phase is done. The
-/// switch is asked for its rows by messages that go as bytes; nothing but memory can keep its answer from being a report.
+/// switch is asked for its rows by messages that go as bytes; nothing but memory can keep its answer from being a
+/// report.
 pub fn audit_switch(alloc: Global, world: &World, place: usize) -> Result<Verdict, AllocError>
     requires { place < length world.now.topology.switches }
     ensures { IfOk result (IsAuditAt world.now place) }

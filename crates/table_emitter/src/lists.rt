@@ -103,7 +103,8 @@ fn list_leaf(
     requires top { 16000 ≤ top }
     requires few { length rows.old.items ≤ 16000 }
     ensures few { OnOk result (length rows.new.items ≤ 16000) }
-    ensures rows { OnOk result (AddsFrom view.now top cell.now kinds (TreeLeaf leaf.now) rows.old.items rows.new.items) }
+    ensures rows { OnOk result
+        (AddsFrom view.now top cell.now kinds (TreeLeaf leaf.now) rows.old.items rows.new.items) }
     ensures bars { IfErr result (BarsFrom view.now (length rows.old.items) cell.now kinds (TreeLeaf leaf.now)) }
 {
     match cells_of(kinds, cell) {
@@ -171,7 +172,9 @@ fn push_row(
     rows: &mut Vec<Row>,
 ) -> Result<(), EmitError>
     requires top { 16000 ≤ top }
-    ensures row { OnOk result (rows.new.items ≡ rows.old.items ++ record { pattern = pattern; priority = top - length rows.old.items; actions = actions } ∷ []) }
+    ensures row { OnOk result
+        (rows.new.items ≡ rows.old.items ++ record
+        { pattern = pattern; priority = top - length rows.old.items; actions = actions } ∷ []) }
     ensures room { OnOk result (length rows.old.items < 16000) }
     ensures bars { IfErr result (BarsRow view.now (length rows.old.items)) }
 {

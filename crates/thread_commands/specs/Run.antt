@@ -1,5 +1,7 @@
--- What `nkctl run` answers: the report of a run of a document's policies, with a worker for each session and each switch.
-use Rattle.std.specs.Prelude.{◌≡◌, ◌≢◌, ℕ, ◌+◌, ◌-◌, ◌^◌, ◌≤◌, min, ltb, Bool, false, List, [], ◌∷◌, ◌++◌, length, map, reverse, None, Option, Some, IfSome, is_some}
+-- What `nkctl run` answers: the report of a run of a document's policies, with a worker for each session and each
+-- switch.
+use Rattle.std.specs.Prelude.{◌≡◌, ◌≢◌, ℕ, ◌+◌, ◌-◌, ◌^◌, ◌≤◌, min, ltb, Bool, false, List, [], ◌∷◌, ◌++◌, length, map}
+use Rattle.std.specs.Prelude.{reverse, None, Option, Some, IfSome, is_some}
 use Rattle.std.specs.List.{filter}
 use Rattle.nk_values.specs.Members.{IsIn}
 use Rattle.document_text.specs.declared.document.PacketLine.{PacketLine}
@@ -39,7 +41,8 @@ lines_of d = map line_of d.packets
 -- ---- the ends that were given back
 
 -- After the streams that a net told before, it told such ones since. What was not known then is not known now.
-pub record ToldSince (before : Option (List (List ℕ))) (all : List (List ℕ)) (AreSuch : List (List ℕ) → Type 0) : Type 0 where
+pub record ToldSince (before : Option (List (List ℕ))) (all : List (List ℕ)) (AreSuch : List (List ℕ) → Type 0) : Type
+    0 where
   pub earlier : List (List ℕ)
   pub since : List (List ℕ)
   pub known : before ≡ Some earlier
@@ -75,10 +78,19 @@ HasRisenBy n count = min (count.before + n) (2 ^ 64 - 1) ≤ count.after
 
 -- A loss by which the updates come to stand still comes after as many others as the document lets return.
 abbrev pub HaltsLast : Doc → List Version → Type 0
-HaltsLast d versions = (before : List Event) (v x : WorldValue) (s : ℕ) → Runs (start_of d versions) before v → Step v (event.Controller (of_controller.Lost s)) x → x.fleet.control.halt ≢ None → losses before ≡ d.settings.rejoins
+HaltsLast d versions = (before : List Event) (v x : WorldValue) (s : ℕ) → Runs (start_of d versions) before v →
+    Step v (event.Controller (of_controller.Lost s)) x → x.fleet.control.halt ≢ None →
+    losses before ≡ d.settings.rejoins
 
--- The events lead from the start of the document's policies to this world, and each packet that came in is handled by one policy. Each line came in once and no copy may take another hop, also if the updates stand still. If they do not, the last policy handles all packets and none before it drains. Each lost session cost a broken end: the net's count of these rose by as many. The updates stand still by a lost session only if as many as the document lets return were lost before it. Foreign bytes came next in the first stream that the net told in this call, after as many messages as that side of the switch was told before in its session. They halt, so their end is kept last and given back first. A net tells no names of ends, so none is said.
-pub record IsRunBy (events : List Event) (world : WorldValue) (net : NetSeen) (d : Doc) (versions : List Version) : Type 0 where
+-- The events lead from the start of the document's policies to this world, and each packet that came in is handled by
+-- one policy. Each line came in once and no copy may take another hop, also if the updates stand still. If they do not,
+-- the last policy handles all packets and none before it drains. Each lost session cost a broken end: the net's count
+-- of these rose by as many. The updates stand still by a lost session only if as many as the document lets return were
+-- lost before it. Foreign bytes came next in the first stream that the net told in this call, after as many messages as
+-- that side of the switch was told before in its session. They halt, so their end is kept last and given back first. A
+-- net tells no names of ends, so none is said.
+pub record IsRunBy (events : List Event) (world : WorldValue) (net : NetSeen) (d : Doc) (versions : List Version) :
+    Type 0 where
   pub runs : Runs (start_of d versions) events world
   pub good : AreGood world
   pub came : HaveAllCome (lines_of d) world
@@ -87,9 +99,11 @@ pub record IsRunBy (events : List Event) (world : WorldValue) (net : NetSeen) (d
   pub lost : (s : ℕ) → IsIn events (event.Controller (of_controller.Lost s)) → HasRisen net.broken
   pub costs : HasRisenBy (losses events) net.broken
   pub last : HaltsLast d versions
-  pub foreign : (before rest : List Event) (s : ℕ) (side : Side) (got : List ℕ) → events ≡ before ++ event.Foreign s side got ∷ rest → AreToldSince net.gathered (HasNext (told s side before) got)
+  pub foreign : (before rest : List Event) (s : ℕ) (side : Side) (got : List ℕ) →
+      events ≡ before ++ event.Foreign s side got ∷ rest → AreToldSince net.gathered (HasNext (told s side before) got)
 
--- The text is the report of a run of the document's policies and of the world that it led to; `halts` says whether the updates stand still there.
+-- The text is the report of a run of the document's policies and of the world that it led to; `halts` says whether the
+-- updates stand still there.
 pub record IsRunOf (halts : Bool) (net : NetSeen) (d : Doc) (versions : List Version) (text : List ℕ) : Type 0 where
   pub events : List Event
   pub world : WorldValue
@@ -106,7 +120,8 @@ pub record IsRun (halts : Bool) (net : NetSeen) (xs text : List ℕ) : Type 0 wh
   pub accepted : IsAcceptedAs xs document versions
   pub run : IsRunOf halts net document versions text
 
--- The source was read to its end, and the text is the report of a run: Halted if the updates stand still, and Done if not.
+-- The source was read to its end, and the text is the report of a run: Halted if the updates stand still, and Done if
+-- not.
 pub record IsRunAnswer (source : SourceSeen) (net : NetSeen) (status : Status) (text : List ℕ) : Type 0 where
   pub halts : Bool
   pub status_is : status ≡ report_status halts

@@ -16,14 +16,16 @@ use Rattle.program_answer.specs.declared.answer.Answer.{Answer}
 use Rattle.program_answer.specs.Worlds.{IsWorldAnswer, start_of}
 use Rattle.thread_commands.specs.Run.{IsRunBy}
 
--- The report of these events and of the world then, and after it a line for each of these posts; the status is that of the report.
+-- The report of these events and of the world then, and after it a line for each of these posts; the status is that of
+-- the report.
 pub record IsSeenAnswer (w : WorldValue) (events : List Event) (posts : List Post) (a : Answer) : Type 0 where
   pub report : Answer
   pub is : IsWorldAnswer w events report
   pub status : a.status ≡ report.status
   pub text : a.text ≡ report.text ++ control_posts w.fleet.control posts
 
--- The text is the report of a run of the document's policies, as `run` writes it, and then a line for each post that was seen of it; `halts` says whether the updates stand still at its end.
+-- The text is the report of a run of the document's policies, as `run` writes it, and then a line for each post that
+-- was seen of it; `halts` says whether the updates stand still at its end.
 pub record IsWatchOf (halts : Bool) (net : NetSeen) (d : Doc) (versions : List Version) (text : List ℕ) : Type 0 where
   pub events : List Event
   pub world : WorldValue
@@ -42,7 +44,8 @@ pub record IsWatch (halts : Bool) (net : NetSeen) (xs text : List ℕ) : Type 0 
   pub accepted : IsAcceptedAs xs document versions
   pub watch : IsWatchOf halts net document versions text
 
--- The source was read to its end, and the text is that of a watched run: Halted if the updates stand still, and Done if not.
+-- The source was read to its end, and the text is that of a watched run: Halted if the updates stand still, and Done if
+-- not.
 pub record IsWatchAnswer (source : SourceSeen) (net : NetSeen) (status : Status) (text : List ℕ) : Type 0 where
   pub halts : Bool
   pub status_is : status ≡ report_status halts

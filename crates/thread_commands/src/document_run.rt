@@ -78,8 +78,11 @@ where
     N::End: 'static,
     requires sound { IsSound (doc_of document) }
     requires versions { AreVersions document.topology document.settings 0 (policies_of document) versions.items }
-    ensures ran { IfOk result (λ r. IsRunBy r.events.items r.world (net_of N.faults N.broken N.gathered net.old net.new) (doc_of document) versions.items) }
-    ensures seen { IfOk result (λ r. IsWatched (start_of (doc_of document) versions.items) r.events.items r.seen.items) }
+    ensures ran { IfOk result
+        (λ r. IsRunBy r.events.items r.world (net_of N.faults N.broken N.gathered net.old net.new) (doc_of document)
+        versions.items) }
+    ensures seen { IfOk result
+        (λ r. IsWatched (start_of (doc_of document) versions.items) r.events.items r.seen.items) }
     ensures cut { IfErr result (TellsCut (change N.faults net.old net.new) (change T.faults threads.old threads.new)) }
 {
     let Parts {

@@ -36,8 +36,12 @@ pub fn run_answer<
 ) -> Result<Answer, AnswerError>
 where
     N::End: 'static,
-    ensures answer { IfOk result (λ a. IsRunAnswer (source_of S.left S.faults source.old source.new) (net_of N.faults N.broken N.gathered net.old net.new) a.status a.text) }
-    ensures stops { IfErr result (RunStops (source_of S.left S.faults source.old source.new) (change N.faults net.old net.new) (change T.faults threads.old threads.new)) }
+    ensures answer { IfOk result
+        (λ a. IsRunAnswer (source_of S.left S.faults source.old source.new)
+        (net_of N.faults N.broken N.gathered net.old net.new) a.status a.text) }
+    ensures stops { IfErr result
+        (RunStops (source_of S.left S.faults source.old source.new) (change N.faults net.old net.new)
+        (change T.faults threads.old threads.new)) }
     ensures at_most { TakesAtMost 4194305 (S.left source.old) (S.left source.new) }
 {
     let input = read_input(alloc, source)?;

@@ -17,8 +17,8 @@ use std::sync::{Arc, Wait};
 use std::time::Clock;
 use worker_desk::Gate;
 
-/// The report that `run_answer` gives, and then a line for each post that one more worker saw, which reads meanwhile how
-/// far the updates are, without a lock. It stops as `run_answer` does.
+/// The report that `run_answer` gives, and then a line for each post that one more worker saw, which reads meanwhile
+/// how far the updates are, without a lock. It stops as `run_answer` does.
 pub fn watch_answer<
     R: Wait + Clock + Clone + Drop + Send + 'static,
     S: Source,
@@ -35,8 +35,12 @@ pub fn watch_answer<
 ) -> Result<Answer, AnswerError>
 where
     N::End: 'static,
-    ensures answer { IfOk result (λ a. IsWatchAnswer (source_of S.left S.faults source.old source.new) (net_of N.faults N.broken N.gathered net.old net.new) a.status a.text) }
-    ensures stops { IfErr result (RunStops (source_of S.left S.faults source.old source.new) (change N.faults net.old net.new) (change T.faults threads.old threads.new)) }
+    ensures answer { IfOk result
+        (λ a. IsWatchAnswer (source_of S.left S.faults source.old source.new)
+        (net_of N.faults N.broken N.gathered net.old net.new) a.status a.text) }
+    ensures stops { IfErr result
+        (RunStops (source_of S.left S.faults source.old source.new) (change N.faults net.old net.new)
+        (change T.faults threads.old threads.new)) }
     ensures at_most { TakesAtMost 4194305 (S.left source.old) (S.left source.new) }
 {
     let input = read_input(alloc, source)?;

@@ -15,5 +15,6 @@ layout d = record { switches = d.switches.items; links = flat_map both_ways d.li
 pub record IsIndexed (d : Inside) : Type 0 where
   pub places : (sw : ℕ) → get nat_eq d.places sw ≡ place_in (layout d).switches sw
   pub live : (e : ℕ × ℕ) → is_some (entry d.far_ends e) ≡ has_port (layout d).switches (place_of e)
-  pub far : (e : ℕ × ℕ) → option_map place_of (option_flatten (entry d.far_ends e)) ≡ far_end (layout d).links (place_of e)
+  pub far : (e : ℕ × ℕ) →
+      option_map place_of (option_flatten (entry d.far_ends e)) ≡ far_end (layout d).links (place_of e)
   pub sound : IsSound (layout d)

@@ -1,5 +1,6 @@
 -- Topologies as clauses see them.
-use Rattle.std.specs.Prelude.{ℕ, Bool, ◌==◌, ◌&&◌, List, [], ◌∷◌, map, filter, position, Option, Some, None, is_some, not, if◌then◌else◌}
+use Rattle.std.specs.Prelude.{ℕ, Bool, ◌==◌, ◌&&◌, List, [], ◌∷◌, map, filter, position, Option, Some, None, is_some}
+use Rattle.std.specs.Prelude.{not, if◌then◌else◌}
 use Rattle.std.specs.List.{flat_map, list_any}
 use Rattle.history_meaning.specs.Network.{Place, Wiring}
 use Rattle.topology_model.specs.declared.line.DeclaredSwitch.{DeclaredSwitch}

@@ -1,15 +1,18 @@
 -- The topology of some lines, and the first fault in them.
-use Rattle.std.specs.Prelude.{◌≡◌, ℕ, All, ◌<◌, Bool, false, ◌==◌, ◌&&◌, ◌||◌, not, nat_le, nat_lt, List, [], ◌∷◌, ◌++◌, length, take, slice_get, Option, Some, None, if◌then◌else◌}
+use Rattle.std.specs.Prelude.{◌≡◌, ℕ, All, ◌<◌, Bool, false, ◌==◌, ◌&&◌, ◌||◌, not, nat_le, nat_lt, List, [], ◌∷◌, ◌++◌}
+use Rattle.std.specs.Prelude.{length, take, slice_get, Option, Some, None, if◌then◌else◌}
 use Rattle.std.specs.List.{flat_map, list_any}
 use Rattle.nk_values.specs.declared.field.Field.TheVariants.{Sw, Pt}
 use Rattle.nk_values.specs.Ranges.{IsValue}
 use Rattle.history_meaning.specs.Network.{Place}
-use Rattle.topology_model.specs.Layouts.{Layout, place_of, both_ways, has_switch, has_port, same_place, is_linked, edges_of}
+use Rattle.topology_model.specs.Layouts.{Layout, place_of, both_ways, has_switch, has_port, same_place, is_linked}
+use Rattle.topology_model.specs.Layouts.{edges_of}
 use Rattle.topology_model.specs.declared.line.DeclaredSwitch.{DeclaredSwitch}
 use Rattle.topology_model.specs.declared.line.TopoLine.{TopoLine}
 use Rattle.topology_model.specs.declared.line.TopoLine.TheVariants.{Switch, Link}
 use Rattle.nk_values.specs.declared.text_fault.TextFault.{TextFault}
-use Rattle.nk_values.specs.declared.text_fault.TextFault.TheVariants.{DupSwitch, UnknownSwitch, UnknownPort, PortUsedTwice, TooMany, NoEdge}
+use Rattle.nk_values.specs.declared.text_fault.TextFault.TheVariants.{DupSwitch, UnknownSwitch, UnknownPort}
+use Rattle.nk_values.specs.declared.text_fault.TextFault.TheVariants.{PortUsedTwice, TooMany, NoEdge}
 
 -- the numbers of an end are a packet's
 abbrev pub IsEnd : ℕ × ℕ → Type 0
@@ -52,7 +55,8 @@ line_fault t (Switch sw ports) =
 line_fault t (Link a b) =
     if not (has_switch t.switches a.0 && has_switch t.switches b.0) then Some UnknownSwitch
     else (if not (has_port t.switches (place_of a) && has_port t.switches (place_of b)) then Some UnknownPort
-    else (if is_linked t (place_of a) || is_linked t (place_of b) || same_place (place_of a) (place_of b) then Some PortUsedTwice
+    else (if is_linked t (place_of a) || is_linked t (place_of b) || same_place (place_of a) (place_of b) then Some
+    PortUsedTwice
     else None))
 
 -- the fault at a place of the list: that of its line, and behind the last line that there is no edge port

@@ -21,7 +21,8 @@ pub record IsDeclared (t : Layout) (a : Place) : Type 0 where
   pub switch : site.sw ≡ a.sw
   pub port : IsIn site.ports a.pt
 
--- At most 256 switches, no two with one number; links between declared ports, in both directions, at most one a port and none from a port to itself.
+-- At most 256 switches, no two with one number; links between declared ports, in both directions, at most one a port
+-- and none from a port to itself.
 pub record IsSound (t : Layout) : Type 0 where
   pub sites : (s : DeclaredSwitch) → IsIn t.switches s → IsSite s
   pub differ : EachOnce (map (λ s. s.sw) t.switches)

@@ -3,7 +3,8 @@
 //! Layer: values and policies; public. Called by `building` and `topology` here, and by document_text.
 ghost use Rattle.std.specs.Prelude.{◌≡◌, ◌&&◌, ◌++◌, IfOk, OnOk, Option, option_map, not, map, filter};
 ghost use Rattle.std.specs.List.{flat_map};
-ghost use Rattle.topology_model.specs.Layouts.{place_of, place_in, has_switch, has_port, far_end, is_linked, is_edge, places_at, edges_of};
+ghost use Rattle.topology_model.specs.Layouts.{place_of, place_in, has_switch, has_port, far_end, is_linked, is_edge};
+ghost use Rattle.topology_model.specs.Layouts.{places_at, edges_of};
 
 use crate::line::{DeclaredSwitch, PortRef};
 use std::alloc::{AllocError, Global};
@@ -131,7 +132,8 @@ impl Draft {
 
     // Puts those of one switch at the end.
     fn add_edges(&self, site: &DeclaredSwitch, edges: &mut Vec<PortRef>) -> Result<(), AllocError>
-        ensures { OnOk result (map place_of edges.new.items ≡ map place_of edges.old.items ++ filter (λ a. not (is_linked self.now a)) (places_at site.now)) }
+        ensures { OnOk result (map place_of edges.new.items ≡ map place_of edges.old.items ++ filter
+            (λ a. not (is_linked self.now a)) (places_at site.now)) }
     {
         let ports = site.ports.as_slice();
         for port in ports {

@@ -1,11 +1,13 @@
 //! Topologies.
 //!
 //! Layer: values and policies; public. Called by many crates.
-ghost use Rattle.std.specs.Prelude.{◌≡◌, ◌<◌, ◌↔◌, length, IsTrue, IsSome, IfSome, IsSomeAnd, Some, None, option_map, slice_get, map, take};
+ghost use Rattle.std.specs.Prelude.{◌≡◌, ◌<◌, ◌↔◌, length, IsTrue, IsSome, IfSome, IsSomeAnd, Some, None, option_map};
+ghost use Rattle.std.specs.Prelude.{slice_get, map, take};
 ghost use Rattle.std.specs.List.{flat_map};
 ghost use Rattle.nk_values.specs.Members.{IsIn};
 ghost use Rattle.history_meaning.specs.Network.{Place};
-ghost use Rattle.topology_model.specs.Layouts.{place_of, places_at, both_ways, place_in, has_switch, has_port, far_end, is_edge, wiring};
+ghost use Rattle.topology_model.specs.Layouts.{place_of, places_at, both_ways, place_in, has_switch, has_port, far_end};
+ghost use Rattle.topology_model.specs.Layouts.{is_edge, wiring};
 
 use crate::draft::Draft;
 use crate::line::{DeclaredSwitch, PortRef};
@@ -106,7 +108,8 @@ impl Topology {
     /// The other end of a port's link; `None` exactly if no link has it.
     pub fn far_end(&self, sw: u16, pt: u16) -> Option<(u16, u16)>
         ensures value { option_map place_of result ≡ far_end (wiring self.now).links (place_of (sw, pt)) }
-        ensures joined { (b : Place) → (option_map place_of result ≡ Some b) ↔ IsIn (wiring self.now).links (place_of (sw, pt), b) }
+        ensures joined { (b : Place) → (option_map place_of result ≡ Some b) ↔
+            IsIn (wiring self.now).links (place_of (sw, pt), b) }
         ensures wiring { IsWiring (wiring self.now) }
     {
         self.draft.far_end((sw, pt))

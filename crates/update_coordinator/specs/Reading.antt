@@ -1,5 +1,6 @@
 -- How a batch is read off the rows.
-use Rattle.std.specs.Prelude.{◌≡◌, ℕ, ◌+◌, ◌-◌, Bool, true, List, [], ◌∷◌, drop, length, Option, Some, None, slice_get, slice_set}
+use Rattle.std.specs.Prelude.{◌≡◌, ℕ, ◌+◌, ◌-◌, Bool, true, List, [], ◌∷◌, drop, length, Option, Some, None, slice_get}
+use Rattle.std.specs.Prelude.{slice_set}
 use Rattle.nk_values.specs.declared.row.FlowMod.{FlowMod}
 use Rattle.nk_values.specs.declared.rows.Rows.{Rows}
 use Rattle.update_plan.specs.declared.cursor.Share.{Share}
@@ -50,8 +51,10 @@ IsRead c s x = drop s.next (batch c.versions c.phase s.sw) ≡ left_in c.version
 pub record AreRead (c : Control) (spans : List Span) (cursors : List Cursor) : Type 0 where
   pub count : length cursors ≡ length c.peers
   pub many : length spans ≡ length c.peers
-  pub each : (k : ℕ) (s : Peer) (x : Cursor) → slice_get c.peers k ≡ Some s → slice_get cursors k ≡ Some x → IsRead c s x
-  pub between : (k : ℕ) (s : Peer) (span : Span) → slice_get c.peers k ≡ Some s → slice_get spans k ≡ Some span → AreBetween c.versions s.sw span
+  pub each : (k : ℕ) (s : Peer) (x : Cursor) → slice_get c.peers k ≡ Some s → slice_get cursors k ≡ Some x →
+      IsRead c s x
+  pub between : (k : ℕ) (s : Peer) (span : Span) → slice_get c.peers k ≡ Some s → slice_get spans k ≡ Some span →
+      AreBetween c.versions s.sw span
 
 -- nothing is left of the batch of the switch at a place
 pub record IsAtEnd (place : ℕ) (c : Control) : Type 0 where

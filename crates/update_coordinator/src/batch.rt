@@ -1,7 +1,8 @@
 //! The batch of a phase, read off the rows of the policies.
 //!
 //! Layer: updates; private. Called by `inbound`, `outbound` and `planned`.
-ghost use Rattle.std.specs.Prelude.{◌≡◌, ◌<◌, [], ◌∷◌, ◌+◌, ℕ, Some, drop, length, slice_get, IfOk, IfNone, IfSome, option_map};
+ghost use Rattle.std.specs.Prelude.{◌≡◌, ◌<◌, [], ◌∷◌, ◌+◌, ℕ, Some, drop, length, slice_get, IfOk, IfNone, IfSome};
+ghost use Rattle.std.specs.Prelude.{option_map};
 ghost use Rattle.update_plan.specs.declared.cursor.Cursor.{Cursor as CursorValue};
 ghost use Rattle.update_plan.specs.Reading.{cursor_at, left_by};
 ghost use Rattle.update_plan.specs.declared.cursor.Span.{Span as SpanValue};
@@ -60,7 +61,9 @@ pub(crate) fn read_in(
 ) -> Option<Read<'_>>
     requires { AreBetween versions.now sw span }
     ensures none { IfNone result (left_in versions.now phase sw next cursor ≡ []) }
-    ensures some { IfSome result (λ x. left_in versions.now phase sw next cursor ≡ drafted x.draft ∷ left_in versions.now phase sw (next + 1) x.cursor) }
+    ensures some { IfSome result
+        (λ x. left_in versions.now phase sw next cursor ≡ drafted x.draft ∷ left_in versions.now phase sw (next + 1)
+        x.cursor) }
 {
     match phase {
         Phase::Opening => wiping(next, cursor),
@@ -83,8 +86,11 @@ fn read_row(
     span: Span,
 ) -> Option<Read<'_>>
     requires { AreBetween versions.now sw span }
-    ensures none { IfNone result (left_by cursor (share_in phase) (coming_in versions.now phase) (going_in versions.now phase) sw ≡ []) }
-    ensures some { IfSome result (λ x. left_by cursor (share_in phase) (coming_in versions.now phase) (going_in versions.now phase) sw ≡ drafted x.draft ∷ left_by x.cursor (share_in phase) (coming_in versions.now phase) (going_in versions.now phase) sw) }
+    ensures none { IfNone result
+        (left_by cursor (share_in phase) (coming_in versions.now phase) (going_in versions.now phase) sw ≡ []) }
+    ensures some { IfSome result
+        (λ x. left_by cursor (share_in phase) (coming_in versions.now phase) (going_in versions.now phase) sw ≡ drafted
+        x.draft ∷ left_by x.cursor (share_in phase) (coming_in versions.now phase) (going_in versions.now phase) sw) }
 {
     let read = read_next(
         cursor,
@@ -167,7 +173,8 @@ pub(crate) fn version_at(versions: &[Rows], policy: usize) -> Option<&Rows>
 pub(crate) fn begin_all(cursors: &mut [Cursor], spans: &[Span])
     requires { length spans.now ≡ length cursors.old }
     ensures count { length cursors.new ≡ length cursors.old }
-    ensures front { (k : ℕ) (x : CursorValue) (span : SpanValue) → slice_get cursors.new k ≡ Some x → slice_get spans.now k ≡ Some span → x ≡ cursor_at span }
+    ensures front { (k : ℕ) (x : CursorValue) (span : SpanValue) → slice_get cursors.new k ≡ Some x →
+        slice_get spans.now k ≡ Some span → x ≡ cursor_at span }
 {
     for (place, span) in spans.iter().enumerate() {
         cursors[place] = Cursor::new(*span);

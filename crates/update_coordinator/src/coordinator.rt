@@ -64,9 +64,42 @@ impl Model for Coordinator {
 
     ghost Value = { Control };
 
-    ghost view = { λ c. record { phase = c.phase; halt = c.halt; versions = c.versions.items; peers = c.peers.items; replies = c.replies; rejoins = c.rejoins; overlap = c.overlap; swept = c.swept } };
+    ghost view = { λ c. record {
+      phase = c.phase;
+      halt = c.halt;
+      versions = c.versions.items;
+      peers = c.peers.items;
+      replies =
+          c.replies;
+      rejoins = c.rejoins;
+      overlap = c.overlap;
+      swept = c.swept;
+    } };
 
-    ghost invariant = { λ c. IsControl (record { phase = c.phase; halt = c.halt; versions = c.versions.items; peers = c.peers.items; replies = c.replies; rejoins = c.rejoins; overlap = c.overlap; swept = c.swept }) × AreNoted c.versions.items c.rounds.items c.stamps.items × AreRead (record { phase = c.phase; halt = c.halt; versions = c.versions.items; peers = c.peers.items; replies = c.replies; rejoins = c.rejoins; overlap = c.overlap; swept = c.swept }) c.spans.items c.cursors.items };
+    ghost invariant = { λ c. IsControl
+        (record {
+          phase = c.phase;
+          halt = c.halt;
+          versions = c.versions.items;
+          peers = c.peers.items;
+          replies =
+              c.replies;
+          rejoins = c.rejoins;
+          overlap = c.overlap;
+          swept = c.swept;
+        }) ×
+        AreNoted c.versions.items c.rounds.items c.stamps.items ×
+        AreRead (record {
+          phase = c.phase;
+          halt = c.halt;
+          versions = c.versions.items;
+          peers = c.peers.items;
+          replies =
+              c.replies;
+          rejoins = c.rejoins;
+          overlap = c.overlap;
+          swept = c.swept;
+        }) c.spans.items c.cursors.items };
 }
 
 impl Coordinator {

@@ -20,7 +20,8 @@ impl Coordinator {
     ghost use Rattle.update_coordinator.specs.Kept.{Suits};
     ghost use Rattle.update_coordinator.specs.Phases.{swept_after};
     ghost use Rattle.update_coordinator.specs.Sending.{HasGreeted};
-    ghost use Rattle.update_coordinator.specs.Hearing.{IsHeard, IsAnswered, IsLost, IsGarbled, IsBack, IsAway, IsSentAway, due};
+    ghost use Rattle.update_coordinator.specs.Hearing.{IsHeard, IsAnswered, IsLost, IsGarbled, IsBack, IsAway};
+    ghost use Rattle.update_coordinator.specs.Hearing.{IsSentAway, due};
 
     /// Takes a message of the switch at a place.
     pub fn heard(&mut self, place: usize, message: &Message) -> Result<Move, Refusal>

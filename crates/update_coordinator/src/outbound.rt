@@ -68,7 +68,8 @@ impl Coordinator {
     fn greet(&mut self, place: usize) -> Option<Message>
         requires within { place < length self.old.peers }
         requires running { self.old.halt ≡ None }
-        requires turn { (s : PeerValue) → slice_get self.old.peers place ≡ Some s → in_batch s.greets s.asks s.sends ≡ false }
+        requires turn { (s : PeerValue) → slice_get self.old.peers place ≡ Some s →
+            in_batch s.greets s.asks s.sends ≡ false }
         ensures none { IfNone result (¬ (MaySend place self.old) × (self.new ≡ self.old)) }
         ensures some { IfSome result (IsSent place self.old self.new) }
         ensures fits { IfSome result Fits }
@@ -97,7 +98,8 @@ impl Coordinator {
     fn send_change(&mut self, place: usize, change: FlowMod, cursor: Cursor) -> Message
         requires within { place < length self.old.peers }
         requires running { self.old.halt ≡ None }
-        requires turn { (s : PeerValue) → slice_get self.old.peers place ≡ Some s → in_batch s.greets s.asks s.sends ≡ true }
+        requires turn { (s : PeerValue) → slice_get self.old.peers place ≡ Some s →
+            in_batch s.greets s.asks s.sends ≡ true }
         requires change { IsAtChange place change cursor self.old }
         ensures sent { IsSent place self.old self.new result }
         ensures fits { Fits result }
@@ -111,7 +113,8 @@ impl Coordinator {
     fn send_fence(&mut self, place: usize) -> Message
         requires within { place < length self.old.peers }
         requires running { self.old.halt ≡ None }
-        requires turn { (s : PeerValue) → slice_get self.old.peers place ≡ Some s → in_batch s.greets s.asks s.sends ≡ true }
+        requires turn { (s : PeerValue) → slice_get self.old.peers place ≡ Some s →
+            in_batch s.greets s.asks s.sends ≡ true }
         requires end { IsAtEnd place self.old }
         ensures sent { IsSent place self.old self.new result }
         ensures fits { Fits result }

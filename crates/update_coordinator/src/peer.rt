@@ -11,8 +11,8 @@ use std::marker::Model;
 
 mod outgoing;
 
-/// How far one switch is: HELLO, the request for its features, flow mods and a barrier go to it, in this order. A switch
-/// that was lost and returned gets the batch of the phase once more, from its front on.
+/// How far one switch is: HELLO, the request for its features, flow mods and a barrier go to it, in this order. A
+/// switch that was lost and returned gets the batch of the phase once more, from its front on.
 #[derive(Drop)]
 pub struct Peer {
     sw: u16,
@@ -33,7 +33,19 @@ impl Model for Peer {
 
     ghost Value = { control.Peer };
 
-    ghost view = { λ s. record { sw = s.sw; session = s.session; sent = s.sent; asked = s.asked; away = s.away; losses = s.losses; greets = s.greets; asks = s.asks; sends = s.sends; next = s.next } };
+    ghost view = { λ s. record {
+      sw = s.sw;
+      session = s.session;
+      sent = s.sent;
+      asked = s.asked;
+      away = s.away;
+      losses = s.losses;
+      greets =
+          s.greets;
+      asks = s.asks;
+      sends = s.sends;
+      next = s.next;
+    } };
 
     ghost invariant = { λ s. IsQuiet s.session.state s.asks s.sends × IsGone s.away s.session.state s.greets };
 }

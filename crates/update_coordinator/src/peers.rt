@@ -52,7 +52,9 @@ pub(crate) fn come_back(peers: &mut [Peer], place: usize)
 pub(crate) fn greet(peers: &mut [Peer], place: usize) -> Option<Message>
     requires within { place < length peers.old }
     requires small { (s : control.Peer) → slice_get peers.old place ≡ Some s → s.sent + 1 < 2 ^ 32 }
-    ensures none { IfNone result ((peers.new ≡ peers.old) × ((s : control.Peer) → slice_get peers.old place ≡ Some s → (s.greets ≡ false) × (s.asks ≡ false))) }
+    ensures none { IfNone result
+        ((peers.new ≡ peers.old) ×
+        ((s : control.Peer) → slice_get peers.old place ≡ Some s → (s.greets ≡ false) × (s.asks ≡ false))) }
     ensures some { IfSome result (GreetsAt place peers.old peers.new) }
     ensures fits { IfSome result Fits }
 {
@@ -62,7 +64,8 @@ pub(crate) fn greet(peers: &mut [Peer], place: usize) -> Option<Message>
 // A flow mod goes to the switch at a place.
 pub(crate) fn change(peers: &mut [Peer], place: usize, change: FlowMod) -> Message
     requires within { place < length peers.old }
-    requires small { (s : control.Peer) → slice_get peers.old place ≡ Some s → (s.sent + 1 < 2 ^ 32) × (s.next < 130000) }
+    requires small { (s : control.Peer) → slice_get peers.old place ≡ Some s → (s.sent + 1 < 2 ^ 32) ×
+        (s.next < 130000) }
     ensures { SendsAt place (Change change) peers.old peers.new result }
 {
     peers[place].change(change)
@@ -71,7 +74,8 @@ pub(crate) fn change(peers: &mut [Peer], place: usize, change: FlowMod) -> Messa
 // The barrier that ends the batch goes to the switch at a place.
 pub(crate) fn fence(peers: &mut [Peer], place: usize) -> u32
     requires within { place < length peers.old }
-    requires small { (s : control.Peer) → slice_get peers.old place ≡ Some s → (s.sent + 1 < 2 ^ 32) × (s.sends ≡ true) }
+    requires small { (s : control.Peer) → slice_get peers.old place ≡ Some s → (s.sent + 1 < 2 ^ 32) ×
+        (s.sends ≡ true) }
     ensures { FencesAt place peers.old peers.new result }
 {
     peers[place].fence()

@@ -40,7 +40,8 @@ impl Coordinator {
     pub fn planned(&self, alloc: Global, sw: u16) -> Result<Vec<Row>, AllocError>
         ensures rows { IfOk result (λ v. v.items ≡ planned self.now.versions self.now.swept self.now.phase sw) }
         // Without overlap these are all of the current policy, or of it and the one that comes in or goes.
-        ensures alone { self.now.overlap ≡ None → IfOk result (λ v. v.items ≡ held self.now.versions self.now.phase sw) }
+        ensures alone { self.now.overlap ≡ None →
+            IfOk result (λ v. v.items ≡ held self.now.versions self.now.phase sw) }
     {
         planned_in(alloc, &self.versions, self.swept, self.phase, sw)
     }
@@ -123,7 +124,8 @@ fn both(
     old: Part,
     new: Part,
 ) -> Result<Vec<Row>, AllocError>
-    ensures { IfOk result (λ v. v.items ≡ part_of old (version_at versions.now (policy - 1)) sw ++ part_of new (version_at versions.now policy) sw) }
+    ensures { IfOk result (λ v. v.items ≡ part_of old (version_at versions.now (policy - 1)) sw ++ part_of new
+        (version_at versions.now policy) sw) }
 {
     let mut rows = rows_of(alloc, versions, policy.saturating_sub(1), sw, old)?;
     let more = rows_of(alloc, versions, policy, sw, new)?;

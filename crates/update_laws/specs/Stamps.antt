@@ -37,4 +37,5 @@ NoStampTwice c f = (u v : ℕ) → IsInUse f.control u → IsInUse f.control v �
 -- An update is refused for want of a stamp exactly if it could begin otherwise and each stamp is in use.
 abbrev pub RefusesUsed : Layout → List Version → ℕ → ℕ → ℕ → ℕ → Fleet → Type 0
 RefusesUsed t vs limit capacity low high f =
-    (begin_refusal f.control ≡ Some NoStamp) ↔ LacksStamp (setting_of t vs limit capacity (Some (high - low + 1))) low high f.control
+    (begin_refusal f.control ≡ Some NoStamp) ↔
+    LacksStamp (setting_of t vs limit capacity (Some (high - low + 1))) low high f.control

@@ -1,5 +1,6 @@
 -- What is read off the rows of a policy for one batch of one switch, port by port.
-use Rattle.std.specs.Prelude.{◌≡◌, ◌⊎◌, ◌<◌, ◌≤◌, ℕ, ◌+◌, ◌==◌, min, max, Bool, true, false, List, [], ◌++◌, map, drop, Option, Some, None, slice_get, if◌then◌else◌}
+use Rattle.std.specs.Prelude.{◌≡◌, ◌⊎◌, ◌<◌, ◌≤◌, ℕ, ◌+◌, ◌==◌, min, max, Bool, true, false, List, [], ◌++◌, map, drop}
+use Rattle.std.specs.Prelude.{Option, Some, None, slice_get, if◌then◌else◌}
 use Rattle.std.specs.List.{flat_map, filter}
 use Rattle.nk_values.specs.declared.row.Row.{Row}
 use Rattle.nk_values.specs.declared.row.FlowMod.{FlowMod}
@@ -32,7 +33,9 @@ from_port share adds band sw ports = flat_map (λ p. share_of share adds band p)
 
 -- and from a row of a port on
 abbrev pub from_place : Share → Bool → Band → ℕ → List PortRows → RowIndex → List Row
-from_place share adds band sw ports at = drop at.row (share_at share adds band sw (slice_get ports at.port)) ++ from_port share adds band sw (drop (at.port + 1) ports)
+from_place share adds band sw ports at =
+    drop at.row (share_at share adds band sw (slice_get ports at.port)) ++ from_port share adds band sw
+    (drop (at.port + 1) ports)
 
 abbrev pub ports_of : Option Rows → List PortRows
 ports_of None = []
@@ -59,7 +62,8 @@ left_by c share new old sw = left_at c.goes share new old sw c.at
 
 -- each of these ports that is of the switch stands between two places
 abbrev pub IsSpan : Span → ℕ → List PortRows → Type 0
-IsSpan span sw ports = (k : ℕ) (p : PortRows) → slice_get ports k ≡ Some p → ((p.sw == sw) ≡ false) ⊎ ((span.first ≤ k) × (k < span.end))
+IsSpan span sw ports = (k : ℕ) (p : PortRows) → slice_get ports k ≡ Some p → ((p.sw == sw) ≡ false) ⊎
+    ((span.first ≤ k) × (k < span.end))
 
 -- both spans
 abbrev pub joined : Span → Span → Span

@@ -42,7 +42,8 @@ pub struct Span {
 impl Span {
     ghost use Rattle.update_plan.specs.Reading.{IsSpan, joined};
 
-    /// That of a switch among these ports. If it has none, the span is empty, and joined with another one it is that one.
+    /// That of a switch among these ports. If it has none, the span is empty, and joined with another one it is that
+    /// one.
     pub fn new(ports: &[PortRows], sw: u16) -> Span
         ensures { IsSpan result sw ports.now }
     {

@@ -20,7 +20,10 @@ pub(crate) fn place_from(
 ) -> Option<RowIndex>
     requires { IsSpan span sw rows.now.ports }
     ensures none { IfNone result (from_place share adds rows.now.band sw rows.now.ports at ≡ []) }
-    ensures some { IfSome result (λ x. (from_place share adds rows.now.band sw rows.now.ports x ≡ from_place share adds rows.now.band sw rows.now.ports at) × (x.row < length (share_at share adds rows.now.band sw (slice_get rows.now.ports x.port)))) }
+    ensures some { IfSome result
+        (λ x. (from_place share adds rows.now.band sw rows.now.ports x ≡ from_place share adds rows.now.band sw
+        rows.now.ports at) × (x.row < length
+        (share_at share adds rows.now.band sw (slice_get rows.now.ports x.port)))) }
 {
     let mut row = at.row;
     for port in at.port..span.end {
@@ -34,7 +37,8 @@ pub(crate) fn place_from(
 
 // The row at a place.
 pub(crate) fn row_at(at: RowIndex, share: Share, adds: bool, rows: &Rows, sw: u16) -> Option<&Row>
-    ensures row { option_map (λ r. r.now) result ≡ slice_get (share_at share adds rows.now.band sw (slice_get rows.now.ports at.port)) at.row }
+    ensures row { option_map (λ r. r.now) result ≡ slice_get
+        (share_at share adds rows.now.band sw (slice_get rows.now.ports at.port)) at.row }
     ensures small { IfSome result (λ r. at.row + 1 < 2 ^ 64) }
 {
     let Some(port) = rows.ports.as_slice().get(at.port) else {

@@ -36,8 +36,12 @@ pub fn read_next<'a>(
 ) -> Option<Read<'a>>
     requires new { IsSpan span sw (ports_of (option_map (λ r. r.now) new)) }
     requires old { IsSpan span sw (ports_of (option_map (λ r. r.now) old)) }
-    ensures none { IfNone result (left_by cursor share (option_map (λ r. r.now) new.entry) (option_map (λ r. r.now) old.entry) sw ≡ []) }
-    ensures some { IfSome result (λ x. left_by cursor share (option_map (λ r. r.now) new.entry) (option_map (λ r. r.now) old.entry) sw ≡ mod_of x.adds x.row.now ∷ left_by x.cursor share (option_map (λ r. r.now) new.entry) (option_map (λ r. r.now) old.entry) sw) }
+    ensures none { IfNone result
+        (left_by cursor share (option_map (λ r. r.now) new.entry) (option_map (λ r. r.now) old.entry) sw ≡ []) }
+    ensures some { IfSome result
+        (λ x. left_by cursor share (option_map (λ r. r.now) new.entry) (option_map (λ r. r.now) old.entry) sw ≡ mod_of
+        x.adds x.row.now ∷ left_by x.cursor share (option_map (λ r. r.now) new.entry)
+        (option_map (λ r. r.now) old.entry) sw) }
 {
     if cursor.goes {
         return read_going(cursor.at, share, old, sw, span);
@@ -65,7 +69,10 @@ fn read_first_going<'a>(
 ) -> Option<Read<'a>>
     requires { IsSpan span sw (ports_of (option_map (λ r. r.now) old)) }
     ensures none { IfNone result (side share false (option_map (λ r. r.now) old.entry) sw ≡ []) }
-    ensures some { IfSome result (λ x. (x.adds ≡ false) × (x.cursor.goes ≡ true) × (side share false (option_map (λ r. r.now) old.entry) sw ≡ mod_of false x.row.now ∷ side_from share false (option_map (λ r. r.now) old.entry) sw x.cursor.at)) }
+    ensures some { IfSome result
+        (λ x. (x.adds ≡ false) × (x.cursor.goes ≡ true) ×
+        (side share false (option_map (λ r. r.now) old.entry) sw ≡ mod_of false x.row.now ∷ side_from share false
+        (option_map (λ r. r.now) old.entry) sw x.cursor.at)) }
 {
     let at = RowIndex {
         port: span.first,
@@ -84,7 +91,10 @@ fn read_going<'a>(
 ) -> Option<Read<'a>>
     requires { IsSpan span sw (ports_of (option_map (λ r. r.now) old)) }
     ensures none { IfNone result (side_from share false (option_map (λ r. r.now) old.entry) sw at ≡ []) }
-    ensures some { IfSome result (λ x. (x.adds ≡ false) × (x.cursor.goes ≡ true) × (side_from share false (option_map (λ r. r.now) old.entry) sw at ≡ mod_of false x.row.now ∷ side_from share false (option_map (λ r. r.now) old.entry) sw x.cursor.at)) }
+    ensures some { IfSome result
+        (λ x. (x.adds ≡ false) × (x.cursor.goes ≡ true) ×
+        (side_from share false (option_map (λ r. r.now) old.entry) sw at ≡ mod_of false x.row.now ∷ side_from share
+        false (option_map (λ r. r.now) old.entry) sw x.cursor.at)) }
 {
     let read = read_side(at, share, false, old, sw, span)?;
     Some(Read {
@@ -108,7 +118,9 @@ fn read_side<'a>(
 ) -> Option<SideRead<'a>>
     requires { IsSpan span sw (ports_of (option_map (λ r. r.now) rows)) }
     ensures none { IfNone result (side_from share adds (option_map (λ r. r.now) rows.entry) sw at ≡ []) }
-    ensures some { IfSome result (λ x. side_from share adds (option_map (λ r. r.now) rows.entry) sw at ≡ mod_of adds x.row.now ∷ side_from share adds (option_map (λ r. r.now) rows.entry) sw x.at) }
+    ensures some { IfSome result
+        (λ x. side_from share adds (option_map (λ r. r.now) rows.entry) sw at ≡ mod_of adds x.row.now ∷ side_from share
+        adds (option_map (λ r. r.now) rows.entry) sw x.at) }
 {
     let Some(rows) = rows else {
         return None;

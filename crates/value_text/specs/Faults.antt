@@ -4,7 +4,8 @@ use Rattle.std.specs.Fmt.{decimal}
 use Rattle.nk_values.specs.declared.fault.CompileFault.{CompileFault}
 use Rattle.nk_values.specs.declared.fault.CompileFault.TheVariants.{Dup, SetsSwitch, SetsType, StarDeep, Unguarded}
 use Rattle.nk_values.specs.declared.fault.EmitFault.{EmitFault}
-use Rattle.nk_values.specs.declared.fault.EmitFault.TheVariants.{Unordered, TooManyRows, TooManySwitchRows, TooManyActions}
+use Rattle.nk_values.specs.declared.fault.EmitFault.TheVariants.{Unordered, TooManyRows, TooManySwitchRows}
+use Rattle.nk_values.specs.declared.fault.EmitFault.TheVariants.{TooManyActions}
 use Rattle.nk_values.specs.declared.fault.FieldSet.{FieldSet}
 use Rattle.nk_values.specs.declared.packet.Packet.{Packet}
 use Rattle.nk_values.specs.Faults.{text_number, text_name, compile_number, compile_name, emit_number, emit_name, label}
@@ -70,7 +71,9 @@ policy_text i = codes "nkctl: policy " ++ decimal i
 
 -- the line of a fault
 abbrev pub fault_text : Fault → List ℕ
-fault_text (fault.Line l c f) = codes "nkctl: line " ++ (decimal l ++ (codes " column " ++ (decimal c ++ (codes ": " ++ line (label (text_number f) (text_name f))))))
+fault_text (fault.Line l c f) =
+    codes "nkctl: line " ++
+    (decimal l ++ (codes " column " ++ (decimal c ++ (codes ": " ++ line (label (text_number f) (text_name f))))))
 fault_text (fault.NotEnabled l) = codes "nkctl: line " ++ (decimal l ++ line (codes " column 1: 40 NotEnabled"))
 fault_text (fault.NotTwo l) = codes "nkctl: line " ++ (decimal l ++ line (codes " column 1: 41 NotTwo"))
 fault_text (fault.Compile i f) = policy_text i ++ line (compile_text f)

@@ -3,9 +3,11 @@ use Rattle.std.specs.Prelude.{ℕ, ◌+◌, ◌==◌, List, [], ◌∷◌, ◌++
 use Rattle.std.specs.List.{flat_map}
 use Rattle.std.specs.Fmt.{decimal}
 use Rattle.nk_values.specs.declared.action.Action.{Action}
-use Rattle.nk_values.specs.declared.action.Action.TheVariants.{Output, SetVlanVid, StripVlan, SetDlSrc, SetDlDst, SetNwSrc, SetNwDst, SetTpSrc, SetTpDst}
+use Rattle.nk_values.specs.declared.action.Action.TheVariants.{Output, SetVlanVid, StripVlan, SetDlSrc, SetDlDst}
+use Rattle.nk_values.specs.declared.action.Action.TheVariants.{SetNwSrc, SetNwDst, SetTpSrc, SetTpDst}
 use Rattle.nk_values.specs.declared.field.Field.{Field}
-use Rattle.nk_values.specs.declared.field.Field.TheVariants.{EthTyp, IpProto, EthSrc, EthDst, Ip4Src, Ip4Dst, TcpSrcPort, TcpDstPort}
+use Rattle.nk_values.specs.declared.field.Field.TheVariants.{EthTyp, IpProto, EthSrc, EthDst, Ip4Src, Ip4Dst}
+use Rattle.nk_values.specs.declared.field.Field.TheVariants.{TcpSrcPort, TcpDstPort}
 use Rattle.nk_values.specs.declared.pattern.Pattern.{Pattern}
 use Rattle.nk_values.specs.declared.pattern.Prefix.{Prefix}
 use Rattle.nk_values.specs.declared.row.Row.{Row}
@@ -40,10 +42,12 @@ address_of None = None
 address_of (Some p) = Some p.address
 
 abbrev pub frame_text : Pattern → List ℕ
-frame_text p = fixed_text EthTyp p.dl_type ++ (fixed_text IpProto p.nw_proto ++ (fixed_text EthSrc p.dl_src ++ fixed_text EthDst p.dl_dst))
+frame_text p = fixed_text EthTyp p.dl_type ++
+    (fixed_text IpProto p.nw_proto ++ (fixed_text EthSrc p.dl_src ++ fixed_text EthDst p.dl_dst))
 
 abbrev pub network_text : Pattern → List ℕ
-network_text p = fixed_text Ip4Src (address_of p.nw_src) ++ (fixed_text Ip4Dst (address_of p.nw_dst) ++ (fixed_text TcpSrcPort p.tp_src ++ fixed_text TcpDstPort p.tp_dst))
+network_text p = fixed_text Ip4Src (address_of p.nw_src) ++
+    (fixed_text Ip4Dst (address_of p.nw_dst) ++ (fixed_text TcpSrcPort p.tp_src ++ fixed_text TcpDstPort p.tp_dst))
 
 -- what a pattern fixes: the port, the tag, and header fields in field order
 abbrev pub pattern_text : Pattern → List ℕ
@@ -99,7 +103,8 @@ band_text Low = codes " band low"
 
 -- the line of a policy with its number, stamp and band
 abbrev pub head_text : ℕ → Rows → List ℕ
-head_text i rows = codes "policy " ++ (decimal i ++ (codes " stamp " ++ (decimal rows.stamp ++ line (band_text rows.band))))
+head_text i rows = codes "policy " ++
+    (decimal i ++ (codes " stamp " ++ (decimal rows.stamp ++ line (band_text rows.band))))
 
 -- the rows of a policy, switch by switch
 abbrev pub version_text : ℕ → Rows → List DeclaredSwitch → List ℕ

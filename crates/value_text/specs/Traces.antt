@@ -40,7 +40,8 @@ pub record IsPacketText (n : ℕ) (walk : Walk) (text : List ℕ) : Type 0 where
 -- texts of elements behind k others, one after another
 abbrev pub AreTexts : {X : Type 0} → (ℕ → X → List ℕ → Type 0) → ℕ → List X → List ℕ → Type 0
 AreTexts IsText k [] text = text ≡ []
-AreTexts IsText k (x ∷ xs) text = (first : List ℕ) × (more : List ℕ) × IsText (k + 1) x first × AreTexts IsText (k + 1) xs more × (text ≡ first ++ more)
+AreTexts IsText k (x ∷ xs) text = (first : List ℕ) × (more : List ℕ) × IsText (k + 1) x first ×
+    AreTexts IsText (k + 1) xs more × (text ≡ first ++ more)
 
 -- The text of the i-th policy: its line, and those of the packets.
 pub record IsPolicyText (i : ℕ) (walks : List Walk) (text : List ℕ) : Type 0 where

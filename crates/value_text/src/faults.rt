@@ -3,7 +3,8 @@
 //! Layer: the program; public. Called by `equality` here, and by report_text.
 ghost use Rattle.std.specs.Prelude.{◌≡◌, ◌++◌, OnOk, IfOk, IfSome, IfNone, string_bytes};
 ghost use Rattle.value_text.specs.Values.{line};
-ghost use Rattle.value_text.specs.Faults.{label_behind, pair_text, shown, compile_text, at_port, place_of, both_text, emit_text, policy_text, fault_text, HasValues};
+ghost use Rattle.value_text.specs.Faults.{label_behind, pair_text, shown, compile_text, at_port, place_of, both_text};
+ghost use Rattle.value_text.specs.Faults.{emit_text, policy_text, fault_text, HasValues};
 
 use crate::fault::Fault;
 use crate::text::Text;

@@ -2,7 +2,8 @@
 //!
 //! Layer: the program; public. Called by `lines` here, and by report_text.
 ghost use Rattle.std.specs.Prelude.{◌≡◌, ◌++◌, [], true, OnOk, IfOk, string_bytes};
-ghost use Rattle.value_text.specs.Histories.{changed, more_fields, braced, step_text, steps_text, path_text, history_text};
+ghost use Rattle.value_text.specs.Histories.{changed, more_fields, braced, step_text, steps_text, path_text};
+ghost use Rattle.value_text.specs.Histories.{history_text};
 
 use crate::text::Text;
 use crate::values::{put_ascii, put_field, put_place};

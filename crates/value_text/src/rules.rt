@@ -3,7 +3,8 @@
 //! Layer: the program; public. Called by audit_command and report_text.
 ghost use Rattle.std.specs.Prelude.{◌≡◌, ◌++◌, OnOk, IfOk, string_bytes};
 ghost use Rattle.value_text.specs.Values.{line};
-ghost use Rattle.value_text.specs.Rules.{set_text, set_words, action_text, actions_text, row_text, rows_text, port_text, switch_text, band_text, head_text, version_text, rules_text};
+ghost use Rattle.value_text.specs.Rules.{set_text, set_words, action_text, actions_text, row_text, rows_text};
+ghost use Rattle.value_text.specs.Rules.{port_text, switch_text, band_text, head_text, version_text, rules_text};
 
 use crate::numbers::put_number;
 use crate::text::Text;

@@ -2,7 +2,8 @@
 //!
 //! Layer: the program; public. Called by many modules here, and by report_text.
 ghost use Rattle.std.specs.Prelude.{◌≡◌, ◌+◌, ◌/◌, ◌%◌, ◌++◌, ◌<◌, ◌≤◌, ◌∷◌, [], OnOk, string_bytes, decimal};
-ghost use Rattle.value_text.specs.Values.{hex_digit, hex_byte, hex_half, mac_text, dotted_pair, ip_text, value_text, field_text, fields_text, packet_text, place_text};
+ghost use Rattle.value_text.specs.Values.{hex_digit, hex_byte, hex_half, mac_text, dotted_pair, ip_text, value_text};
+ghost use Rattle.value_text.specs.Values.{field_text, fields_text, packet_text, place_text};
 
 use crate::numbers::put_number;
 use nk_values::{Field, Packet};

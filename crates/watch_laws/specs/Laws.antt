@@ -9,9 +9,11 @@ use Rattle.world_core.specs.Steps.{Runs}
 
 -- Posts of a run are posts of it when it has gone on.
 abbrev pub PostsStay : Type 0
-PostsStay = (start : WorldValue) (before now : List Event) (posts : List Post) → IsPrefix before now → ArePosts start before posts → ArePosts start now posts
+PostsStay = (start : WorldValue) (before now : List Event) (posts : List Post) → IsPrefix before now →
+    ArePosts start before posts → ArePosts start now posts
 
 -- Where a run stands may be posted.
 abbrev pub StandIsPost : Type 0
-StandIsPost = (start : WorldValue) (events : List Event) (world : WorldValue) (posts : List Post) → Runs start events world → ArePosts start events posts
+StandIsPost = (start : WorldValue) (events : List Event) (world : WorldValue) (posts : List Post) →
+    Runs start events world → ArePosts start events posts
     → ArePosts start events (posts ++ stand (length events) world ∷ [])

@@ -7,7 +7,8 @@ use Rattle.world_core.specs.declared.event.Event.{Event}
 use Rattle.world_core.specs.Worlds.{WorldValue}
 use Rattle.world_core.specs.Steps.{Runs}
 
--- After as many of these events as the post counts, from this start, the run is in its phase, and has halted if it says so.
+-- After as many of these events as the post counts, from this start, the run is in its phase, and has halted if it says
+-- so.
 pub record IsPostOf (start : WorldValue) (events : List Event) (p : Post) : Type 0 where
   pub within : p.count ≤ length events
   pub between : WorldValue
@@ -25,4 +26,5 @@ IsPosted events posts = (newest posts).count ≡ length events
 
 -- where a run with so many events and this world stands
 abbrev pub stand : ℕ → WorldValue → Post
-stand count world = record { count = count; phase = world.fleet.control.phase; halted = is_some world.fleet.control.halt }
+stand count world = record
+    { count = count; phase = world.fleet.control.phase; halted = is_some world.fleet.control.halt }

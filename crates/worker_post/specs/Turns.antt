@@ -37,13 +37,17 @@ NextGoesOn (Rest e) p q = p
 NextGoesOn (Told after) p q = GoesOn after p q
 
 -- what a worker did up to the end of a turn; `kept` is the end that was kept, if that is known
-abbrev pub Works : {E : Type 0} → (E → Option (List ℕ)) → (E → Option (List ℕ)) → Option E → Option (List Message) → Option (List (List ℕ)) → Option (List ℕ) → Option (List ℕ) → Option (List Message) → Option (List (List ℕ)) → List ℕ → ℕ → RoundEnd E → Type 0
-Works sent received kept g0 t0 s0 r0 given told held k (Going e) = IsWorkAt g0 t0 s0 r0 given told (sent e) (received e) held k
+abbrev pub Works : {E : Type 0} → (E → Option (List ℕ)) → (E → Option (List ℕ)) → Option E → Option (List Message) →
+    Option (List (List ℕ)) → Option (List ℕ) → Option (List ℕ) → Option (List Message) → Option (List (List ℕ)) →
+    List ℕ → ℕ → RoundEnd E → Type 0
+Works sent received kept g0 t0 s0 r0 given told held k (Going e) =
+    IsWorkAt g0 t0 s0 r0 given told (sent e) (received e) held k
 Works sent received kept g0 t0 s0 r0 given told held k (Shut e) = IsEnd g0 t0 s0 r0 given told (sent e) (received e)
 Works sent received kept g0 t0 s0 r0 given told held k (New e new) = IsEnd g0 t0 s0 r0 given told (sent e) (received e)
 Works sent received kept g0 t0 s0 r0 given told held k (Stop e) = IsEnd g0 t0 s0 r0 given told (sent e) (received e)
 Works sent received kept g0 t0 s0 r0 given told held k (Memory e) = IsEnd g0 t0 s0 r0 given told (sent e) (received e)
-Works sent received kept g0 t0 s0 r0 given told held k Kept = IfSome kept (λ e. IsEnd g0 t0 s0 r0 given told (sent e) (received e))
+Works sent received kept g0 t0 s0 r0 given told held k Kept =
+    IfSome kept (λ e. IsEnd g0 t0 s0 r0 given told (sent e) (received e))
 
 -- of the end, whether it comes back or was kept
 abbrev pub EndIs : {E : Type 0} → (E → Type 0) → Option E → RoundEnd E → Type 0
@@ -70,7 +74,8 @@ SentTurn sent kept before bytes (Stop e) = AppendsPrefix before (sent e) bytes
 SentTurn sent kept before bytes (Memory e) = AppendsPrefix before (sent e) bytes
 SentTurn sent kept before bytes Kept = IfSome kept (λ e. AppendsPrefix before (sent e) bytes)
 
-abbrev pub ToldTurn : {E : Type 0} → (E → Option (List ℕ)) → Option E → Option (List (List ℕ)) → Option (List ℕ) → Option (List (List ℕ)) → List ℕ → ℕ → RoundEnd E → Type 0
+abbrev pub ToldTurn : {E : Type 0} → (E → Option (List ℕ)) → Option E → Option (List (List ℕ)) → Option (List ℕ) →
+    Option (List (List ℕ)) → List ℕ → ℕ → RoundEnd E → Type 0
 ToldTurn received kept t0 r0 told held k (Going e) = Continues t0 told r0 (received e) held k
 ToldTurn received kept t0 r0 told held k (Shut e) = TellsStream t0 told r0 (received e)
 ToldTurn received kept t0 r0 told held k (New e new) = TellsStream t0 told r0 (received e)
@@ -92,10 +97,13 @@ NextOnNew P (Rest e) = Unit {0}
 NextOnNew P (Told after) = OnNew P after
 
 -- how a session ends: `Works` of a worker that does not go on
-abbrev pub Serves : {E : Type 0} → (E → Option (List ℕ)) → (E → Option (List ℕ)) → Option E → Option (List Message) → Option (List (List ℕ)) → Option (List ℕ) → Option (List ℕ) → Option (List Message) → Option (List (List ℕ)) → RoundEnd E → Type 0
+abbrev pub Serves : {E : Type 0} → (E → Option (List ℕ)) → (E → Option (List ℕ)) → Option E → Option (List Message) →
+    Option (List (List ℕ)) → Option (List ℕ) → Option (List ℕ) → Option (List Message) → Option (List (List ℕ)) →
+    RoundEnd E → Type 0
 Serves sent received kept g0 t0 s0 r0 given told (Going e) = ⊥
 Serves sent received kept g0 t0 s0 r0 given told (Shut e) = IsEnd g0 t0 s0 r0 given told (sent e) (received e)
 Serves sent received kept g0 t0 s0 r0 given told (New e new) = IsEnd g0 t0 s0 r0 given told (sent e) (received e)
 Serves sent received kept g0 t0 s0 r0 given told (Stop e) = IsEnd g0 t0 s0 r0 given told (sent e) (received e)
 Serves sent received kept g0 t0 s0 r0 given told (Memory e) = IsEnd g0 t0 s0 r0 given told (sent e) (received e)
-Serves sent received kept g0 t0 s0 r0 given told Kept = IfSome kept (λ e. IsEnd g0 t0 s0 r0 given told (sent e) (received e))
+Serves sent received kept g0 t0 s0 r0 given told Kept =
+    IfSome kept (λ e. IsEnd g0 t0 s0 r0 given told (sent e) (received e))

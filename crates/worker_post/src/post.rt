@@ -64,9 +64,12 @@ impl<'a, D: Desk, G: Gate> Post<'a, D, G> {
         ensures anew { OnNew (IsNew D.place_of D.End.named D.End.received (D.place seat.old)) result }
         ensures following { GoesOnWith (λ e. IsFollowing (D.End.received e) inbox.new.framer inbox.new.told) result }
         ensures worked { (g0 : Option (List MessageValue)) (t0 : Option (List (List ℕ))) (s0 r0 : Option (List ℕ))
-            → IsAt g0 t0 s0 r0 (D.given seat.old) (D.told seat.old) (D.End.sent end) (D.End.received end) inbox.old.framer inbox.old.told
-            → Works D.End.sent D.End.received (D.kept seat.new) g0 t0 s0 r0 (D.given seat.new) (D.told seat.new) inbox.new.framer inbox.new.told result }
-        ensures noted { Notes (Unit {0}) D.End.faults (D.kept seat.new) (D.End.named end) (D.End.faults end) (D.notices seat.old) (D.notices seat.new) result }
+            → IsWorkAt g0 t0 s0 r0 (D.given seat.old) (D.told seat.old) (D.End.sent end) (D.End.received end)
+            inbox.old.framer inbox.old.told
+            → Works D.End.sent D.End.received (D.kept seat.new) g0 t0 s0 r0 (D.given seat.new) (D.told seat.new)
+            inbox.new.framer inbox.new.told result }
+        ensures noted { Notes (Unit {0}) D.End.faults (D.kept seat.new) (D.End.named end) (D.End.faults end)
+            (D.notices seat.old) (D.notices seat.new) result }
     {
         self.who.before_give(self.gate);
         match self.desk.give(seat) {
@@ -98,10 +101,12 @@ impl<'a, D: Desk, G: Gate> Post<'a, D, G> {
         requires fits { Fits message.now }
         ensures seat { D.seated seat.new × (D.place seat.new ≡ D.place seat.old) }
         ensures given { (D.given seat.new ≡ D.given seat.old) × (D.told seat.new ≡ D.told seat.old) }
-        ensures received { EndIs (λ e. (D.End.received e ≡ D.End.received end) × (D.End.named e ≡ D.End.named end)) (D.kept seat.new) result }
+        ensures received { EndIs (λ e. (D.End.received e ≡ D.End.received end) × (D.End.named e ≡ D.End.named end))
+            (D.kept seat.new) result }
         ensures sent { SentTurn D.End.sent (D.kept seat.new) (D.End.sent end) (written message.now) result }
         ensures anew { OnNew (IsNew D.place_of D.End.named D.End.received (D.place seat.old)) result }
-        ensures noted { Notes ⊥ D.End.faults (D.kept seat.new) (D.End.named end) (D.End.faults end) (D.notices seat.old) (D.notices seat.new) result }
+        ensures noted { Notes ⊥ D.End.faults (D.kept seat.new) (D.End.named end) (D.End.faults end)
+            (D.notices seat.old) (D.notices seat.new) result }
     {
         let mut end = end;
         match send_message(self.alloc, &mut end, message) {

@@ -53,13 +53,24 @@ abbrev pub packet : ℕ → ℕ → Packet
 packet a d = record {
   sw = a;
   pt = 3;
-  header = record { eth_typ = 2048; ip_proto = 0; eth_src = a; eth_dst = d; ip4_src = 0; ip4_dst = 0; tcp_src_port = 0; tcp_dst_port = 0 };
+  header = record {
+    eth_typ = 2048;
+    ip_proto = 0;
+    eth_src = a;
+    eth_dst = d;
+    ip4_src = 0;
+    ip4_dst = 0;
+    tcp_src_port =
+        0;
+    tcp_dst_port = 0;
+  };
 }
 
 -- n untagged packets; one word draws where a packet comes in, and the next one where it goes
 abbrev pub packets : ℕ → ℕ → Lcg → List PacketLine
 packets s zero g = []
-packets s (suc n) g = record { packet = packet (number_by s g) (number_by s (behind 1 g)); tag = None } ∷ packets s n (behind 2 g)
+packets s (suc n) g = record { packet = packet (number_by s g) (number_by s (behind 1 g)); tag = None } ∷ packets s n
+    (behind 2 g)
 
 -- the document of a number
 abbrev pub document_of : ℕ → Doc

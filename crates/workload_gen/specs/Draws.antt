@@ -1,5 +1,6 @@
 -- Runs by drawn events: each word draws one of the events that can happen.
-use Rattle.std.specs.Prelude.{◌≡◌, ◌⊎◌, ℕ, zero, suc, ◌+◌, ◌%◌, List, [], ◌∷◌, ◌++◌, length, drop, slice_get, Option, Some, None, option_map}
+use Rattle.std.specs.Prelude.{◌≡◌, ◌⊎◌, ℕ, zero, suc, ◌+◌, ◌%◌, List, [], ◌∷◌, ◌++◌, length, drop, slice_get, Option}
+use Rattle.std.specs.Prelude.{Some, None, option_map}
 use Rattle.rand_pcg.specs.Lcg.{Lcg}
 use Rattle.nk_values.specs.declared.rows.Rows.{Rows}
 use Rattle.document_text.specs.declared.document.PacketLine.{PacketLine}
@@ -28,9 +29,12 @@ abbrev pub pending_at : Option WiredSwitch → ℕ
 pending_at None = 0
 pending_at (Some e) = length e.switch.pending
 
--- at a switch: it is heard, it answers its barrier, it applies each flow mod that is pending, it takes a message, one is sent to it
+-- at a switch: it is heard, it answers its barrier, it applies each flow mod that is pending, it takes a message, one
+-- is sent to it
 abbrev pub tried_at : WorldValue → ℕ → List Event
-tried_at w s = event.Controller (of_controller.Heard s) ∷ event.Switch (of_switch.Reply s) ∷ (applies_from s 0 (pending_at (slice_get w.fleet.ends s)) ++ event.Switch (of_switch.Take s) ∷ event.Controller (of_controller.Send s) ∷ [])
+tried_at w s = event.Controller (of_controller.Heard s) ∷ event.Switch (of_switch.Reply s) ∷
+    (applies_from s 0 (pending_at (slice_get w.fleet.ends s)) ++ event.Switch (of_switch.Take s) ∷ event.Controller
+    (of_controller.Send s) ∷ [])
 
 -- at n switches from a place on
 abbrev pub tried_from : WorldValue → ℕ → ℕ → List Event
@@ -67,9 +71,11 @@ tried lines w = tried_from w 0 (length w.topology.switches) ++ (hops_from 0 (len
 -- of the events cs those that can happen are es, in the same order
 abbrev pub AreEnabled : WorldValue → List Event → List Event → Type 0
 AreEnabled w [] es = es ≡ []
-AreEnabled w (c ∷ cs) es = (IsEnabled w c × (rest : List Event) × (es ≡ c ∷ rest) × AreEnabled w cs rest) ⊎ (¬ (IsEnabled w c) × AreEnabled w cs es)
+AreEnabled w (c ∷ cs) es = (IsEnabled w c × (rest : List Event) × (es ≡ c ∷ rest) × AreEnabled w cs rest) ⊎
+    (¬ (IsEnabled w c) × AreEnabled w cs es)
 
--- the next word draws this event: of those that can happen the one with the number that the word leaves when it is divided by their count
+-- the next word draws this event: of those that can happen the one with the number that the word leaves when it is
+-- divided by their count
 pub record IsDrawn (lines : List PacketLine) (w : WorldValue) (g : Lcg) (e : Event) : Type 0 where
   pub events : List Event
   pub enabled : AreEnabled w (tried lines w) events
@@ -90,9 +96,11 @@ left_behind (e ∷ es) lines = left_behind es (left_by e lines)
 -- each event is drawn by the next word, and done
 abbrev pub Drawn : List PacketLine → Lcg → WorldValue → List Event → WorldValue → Type 0
 Drawn lines g w [] v = w ≡ v
-Drawn lines g w (e ∷ es) v = (x : WorldValue) × IsDrawn lines w g e × Step w e x × Drawn (left_by e lines) (next_word g).1 x es v
+Drawn lines g w (e ∷ es) v = (x : WorldValue) × IsDrawn lines w g e × Step w e x ×
+    Drawn (left_by e lines) (next_word g).1 x es v
 
 -- and they are drawn until none can happen
-pub record Draws (lines : List PacketLine) (g : Lcg) (w : WorldValue) (events : List Event) (v : WorldValue) : Type 0 where
-  pub done : Drawn lines g w events v
-  pub over : NoneIs v (tried (left_behind events lines) v)
+pub record Draws (lines : List PacketLine) (g : Lcg) (w : WorldValue) (events : List Event) (v : WorldValue) : Type 0
+  where
+    pub done : Drawn lines g w events v
+    pub over : NoneIs v (tried (left_behind events lines) v)

@@ -14,7 +14,8 @@ use Rattle.workload_gen.specs.Versions.{AreVersionsOf}
 
 -- the world of these versions in the document's topology, before anything has happened
 abbrev pub start_of : Doc → List Version → WorldValue
-start_of d versions = initial_world d.layout versions (record { hops = d.settings.hops; capacity = d.settings.capacity; rejoins = 0; overlap = None })
+start_of d versions = initial_world d.layout versions
+    (record { hops = d.settings.hops; capacity = d.settings.capacity; rejoins = 0; overlap = None })
 
 -- the line that an arrival came from
 abbrev pub line_of : Arrived → PacketLine
@@ -29,10 +30,13 @@ pub record HasEnded (d : Doc) (w : WorldValue) : Type 0 where
 
 -- So every drawn run of a number's document ends.
 abbrev pub RunsEnd : Type 0
-RunsEnd = (n : ℕ) (versions : List Version) (events : List Event) (v : WorldValue) → IsTopology (document_of n).layout → AreVersionsOf (document_of n) versions →
-    Draws (document_of n).packets (generator n) (start_of (document_of n) versions) events v → HasEnded (document_of n) v
+RunsEnd = (n : ℕ) (versions : List Version) (events : List Event) (v : WorldValue) →
+    IsTopology (document_of n).layout → AreVersionsOf (document_of n) versions →
+    Draws (document_of n).packets (generator n) (start_of (document_of n) versions) events v →
+    HasEnded (document_of n) v
 
--- A run of a number's workload by drawn events: from the world of its document's policies to one where it has ended, with so many packets.
+-- A run of a number's workload by drawn events: from the world of its document's policies to one where it has ended,
+-- with so many packets.
 pub record IsRunOf (n packets : ℕ) (v : WorldValue) (events : List Event) : Type 0 where
   pub versions : List Version
   pub are : AreVersionsOf (document_of n) versions

@@ -13,4 +13,5 @@ policies_of versions = map (λ (v : Version). term_of v.pol) versions
 -- They are those of the document, each with its stamp and its band.
 pub record AreVersionsOf (d : Doc) (versions : List Version) : Type 0 where
   pub policies : policies_of versions ≡ d.policies
-  pub each : (k : ℕ) (v : Version) → slice_get versions k ≡ Some v → IsVersionIn d.layout (stamp_at d.settings.stamps.0 d.settings.stamps.1 k) (band_at k) v
+  pub each : (k : ℕ) (v : Version) → slice_get versions k ≡ Some v →
+      IsVersionIn d.layout (stamp_at d.settings.stamps.0 d.settings.stamps.1 k) (band_at k) v

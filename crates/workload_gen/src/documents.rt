@@ -5,7 +5,8 @@ ghost use Rattle.std.specs.Prelude.{◌≡◌, ◌≤◌, ◌++◌, ◌*◌, ◌
 ghost use Rattle.topology_model.specs.Lines.{layout_of};
 ghost use Rattle.document_text.specs.Answers.{doc_of};
 ghost use Rattle.workload_laws.specs.Workload.{numbers};
-ghost use Rattle.workload_gen.specs.Documents.{document_of, generator, link_line, packet, packets, switch_line, topology_lines};
+ghost use Rattle.workload_gen.specs.Documents.{document_of, generator, link_line, packet, packets, switch_line};
+ghost use Rattle.workload_gen.specs.Documents.{topology_lines};
 ghost use Rattle.workload_gen.specs.Words.{behind};
 
 use crate::policies::policies;
@@ -16,9 +17,10 @@ use rand_pcg::Lcg64Xsh32;
 use std::alloc::{AllocError, Global};
 use topology_model::{Ports, TopoError, TopoLine, Topology};
 
-/// The document of a number n, and the generator after the words that were drawn for it. It has 2 + n mod 31 switches in a
-/// line, and 3 + n mod 6 policies that send packets along it by their destination. Each policy drops the packets to one
-/// destination, which a word draws. There are 10 packets a switch; two words draw where each comes in and where it goes.
+/// The document of a number n, and the generator after the words that were drawn for it. It has 2 + n mod 31 switches
+/// in a line, and 3 + n mod 6 policies that send packets along it by their destination. Each policy drops the packets
+/// to one destination, which a word draws. There are 10 packets a switch; two words draw where each comes in and where
+/// it goes.
 pub fn generate(alloc: Global, number: u64) -> Result<(Document, Lcg64Xsh32), AllocError>
     ensures document { IfOk result (λ x. doc_of x.0 ≡ document_of number) }
     ensures generator { IfOk result (λ x. x.1 ≡ generator number) }

@@ -20,10 +20,10 @@ use world_core::{Event, Events, PacketEvent, StepFault, World};
 
 /// Lets these packets come in and does the updates of a world by drawn events, until none can happen, and gives the
 /// events. In each turn one word is drawn, and of the events that can happen the one with the number that the word
-/// leaves when it is divided by their count, from 0, is done. They are counted switch by switch: the coordinator hears it,
-/// it answers its barrier, it applies a flow mod that is pending, it takes a message, one is sent to it. Then come the hops
-/// of the copies in flight, the arrival of the next packet, the beginning of the next update, and the report of the drain.
-/// If memory runs out, some of the events are done.
+/// leaves when it is divided by their count, from 0, is done. They are counted switch by switch: the coordinator hears
+/// it, it answers its barrier, it applies a flow mod that is pending, it takes a message, one is sent to it. Then come
+/// the hops of the copies in flight, the arrival of the next packet, the beginning of the next update, and the report
+/// of the drain. If memory runs out, some of the events are done.
 pub fn draw(
     alloc: Global,
     world: &mut World,
@@ -33,7 +33,8 @@ pub fn draw(
     ensures draws { IfOk result (λ events. Draws packets.now rng.old world.old events.items world.new) }
     ensures runs { IfOk result (λ events. Runs world.old events.items world.new) }
     ensures words { IfOk result (λ events. rng.new ≡ behind (length events.items) rng.old) }
-    ensures err { IfErr result (λ e. (events : List EventValue) × Drawn packets.now rng.old world.old events world.new) }
+    ensures err { IfErr result
+        (λ e. (events : List EventValue) × Drawn packets.now rng.old world.old events world.new) }
 {
     let mut events = Events::new(alloc);
     let mut tally = Tally::new(alloc, world)?;
@@ -64,7 +65,8 @@ fn next_event(
     requires counts { AreCounts world.now tally.now }
     requires others { AreOthers world.now packets.now others.hops others.last }
     ensures none { IfOk result (λ r. IfNone r (NoneIs world.now (tried packets.now world.now) × (rng.new ≡ rng.old))) }
-    ensures some { IfOk result (λ r. IfSome r (λ e. IsDrawn packets.now world.now rng.old e × (rng.new ≡ (next_word rng.old).1))) }
+    ensures some { IfOk result
+        (λ r. IfSome r (λ e. IsDrawn packets.now world.now rng.old e × (rng.new ≡ (next_word rng.old).1))) }
 {
     let Others { hops, last } = others;
     let rest = hops.saturating_add(last);

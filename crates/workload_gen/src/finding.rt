@@ -94,7 +94,8 @@ fn event_at(world: &World, place: usize, number: u64) -> Option<Event>
 // That of these two: the switch takes a message, and one is sent to it.
 fn channel_event_at(world: &World, place: usize, number: u64) -> Option<Event>
     requires { number < 2 ^ 64 - 1 }
-    ensures { Finds world.now (event.Switch (of_switch.Take place) ∷ event.Controller (of_controller.Send place) ∷ []) number result }
+    ensures { Finds world.now (event.Switch (of_switch.Take place) ∷ event.Controller (of_controller.Send place) ∷ [])
+        number result }
 {
     let takes = u64::from(world.may_take(place));
     if number < takes {

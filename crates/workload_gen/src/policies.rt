@@ -57,7 +57,8 @@ fn add_hops(
 ) -> Result<(), AllocError>
     requires few { switches ≤ 32 }
     requires switch { 1 ≤ switch }
-    ensures { OnOk result (map term_of items.new.items ≡ map term_of items.old.items ++ hops_at switches blocked switch) }
+    ensures { OnOk result (map term_of items.new.items ≡ map term_of items.old.items ++ hops_at switches blocked
+        switch) }
 {
     for destination in 1..switches + 1 {
         if destination != blocked {

@@ -1,7 +1,8 @@
 //! Numbers with their sums, kept from change to change.
 //!
 //! Layer: the world; private. Called by `tally`.
-ghost use Rattle.std.specs.Prelude.{◌≡◌, ◌≢◌, ℕ, ◌+◌, ◌*◌, ◌-◌, ◌^◌, ◌<◌, ◌≤◌, min, IfOk, Some, drop, length, slice_get, slice_set, take};
+ghost use Rattle.std.specs.Prelude.{◌≡◌, ◌≢◌, ℕ, ◌+◌, ◌*◌, ◌-◌, ◌^◌, ◌<◌, ◌≤◌, min, IfOk, Some, drop, length};
+ghost use Rattle.std.specs.Prelude.{slice_get, slice_set, take};
 ghost use Rattle.workload_gen.specs.Counts.{AreBlocks, sum_of, sum_to_limit};
 
 use std::alloc::{AllocError, Global};
@@ -121,7 +122,8 @@ fn block_sum(numbers: &[u64], block: usize) -> u64
 fn change_block(blocks: &mut [u64], block: usize, before: u64, number: u64)
     requires { (b : ℕ) → slice_get blocks.old block ≡ Some b → before ≤ b }
     ensures length { length blocks.new ≡ length blocks.old }
-    ensures here { (b : ℕ) → slice_get blocks.new block ≡ Some b → (o : ℕ) × (slice_get blocks.old block ≡ Some o) × (b ≡ min (o - before + number) (2 ^ 64 - 1)) }
+    ensures here { (b : ℕ) → slice_get blocks.new block ≡ Some b → (o : ℕ) × (slice_get blocks.old block ≡ Some o) ×
+        (b ≡ min (o - before + number) (2 ^ 64 - 1)) }
     ensures others { (k : ℕ) → k ≢ block → slice_get blocks.new k ≡ slice_get blocks.old k }
 {
     if block < blocks.len() {

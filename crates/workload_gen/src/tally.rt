@@ -1,7 +1,8 @@
 //! How many events can happen at each switch, kept from turn to turn.
 //!
 //! Layer: the world; private. Called by `drawing` and `finding`.
-ghost use Rattle.std.specs.Prelude.{◌≡◌, ◌≢◌, ◌+◌, ◌^◌, ◌-◌, ◌<◌, ◌≤◌, ℕ, IfOk, IsTrue, None, Some, length, slice_get, take, true};
+ghost use Rattle.std.specs.Prelude.{◌≡◌, ◌≢◌, ◌+◌, ◌^◌, ◌-◌, ◌<◌, ◌≤◌, ℕ, IfOk, IsTrue, None, Some, length, slice_get};
+ghost use Rattle.std.specs.Prelude.{take, true};
 ghost use Rattle.update_coordinator.specs.Phases.{works};
 ghost use Rattle.world_core.specs.Steps.{Step};
 ghost use Rattle.world_core.specs.declared.event.ControllerEvent.TheVariants as of_controller;
@@ -17,8 +18,8 @@ use std::marker::Model;
 use update_coordinator::Phase;
 use world_core::{ControllerEvent, Event, PacketEvent, SwitchEvent, World};
 
-/// The counts of the events that can happen at the switches, and their sums. Each of these numbers stops at the greatest
-/// one of 64 bits. Clauses see the counts.
+/// The counts of the events that can happen at the switches, and their sums. Each of these numbers stops at the
+/// greatest one of 64 bits. Clauses see the counts.
 #[derive(Drop)]
 pub(crate) struct Tally {
     sums: Sums,
@@ -68,7 +69,8 @@ impl Tally {
 
     /// Counts anew after an event that has led to this world from one in this phase.
     pub(crate) fn recount(&mut self, world: &World, event: &Event, phase: Phase)
-        ensures { (w : WorldValue) → AreCounts w self.old → w.fleet.control.phase ≡ phase → Step w event.now world.now → AreCounts world.now self.new }
+        ensures { (w : WorldValue) → AreCounts w self.old → w.fleet.control.phase ≡ phase →
+            Step w event.now world.now → AreCounts world.now self.new }
     {
         match event {
             Event::Controller(control) => self.recount_control(world, *control, phase),
@@ -80,7 +82,8 @@ impl Tally {
 
     // Counts anew if an event of the controller has led to this world from one in this phase.
     fn recount_control(&mut self, world: &World, control: ControllerEvent, phase: Phase)
-        ensures { (w : WorldValue) → AreCounts w self.old → w.fleet.control.phase ≡ phase → Step w (event.Controller control) world.now → AreCounts world.now self.new }
+        ensures { (w : WorldValue) → AreCounts w self.old → w.fleet.control.phase ≡ phase →
+            Step w (event.Controller control) world.now → AreCounts world.now self.new }
     {
         match control {
             ControllerEvent::Send(place) => self.recount_at(world, place),
@@ -89,9 +92,11 @@ impl Tally {
         }
     }
 
-    // Counts anew if the coordinator has heard a switch in this phase: in a batch that goes on, no other switch changes.
+    // Counts anew if the coordinator has heard a switch in this phase: in a batch that goes on, no other switch
+    // changes.
     fn recount_heard(&mut self, world: &World, place: usize, phase: Phase)
-        ensures { (w : WorldValue) → AreCounts w self.old → w.fleet.control.phase ≡ phase → Step w (event.Controller (of_controller.Heard place)) world.now → AreCounts world.now self.new }
+        ensures { (w : WorldValue) → AreCounts w self.old → w.fleet.control.phase ≡ phase →
+            Step w (event.Controller (of_controller.Heard place)) world.now → AreCounts world.now self.new }
     {
         if goes_on(world, phase) {
             self.recount_at(world, place);
@@ -102,7 +107,8 @@ impl Tally {
 
     // Counts anew if an event of a switch has led to this world.
     fn recount_switch(&mut self, world: &World, act: SwitchEvent)
-        ensures { (w : WorldValue) → AreCounts w self.old → Step w (event.Switch act) world.now → AreCounts world.now self.new }
+        ensures { (w : WorldValue) → AreCounts w self.old → Step w (event.Switch act) world.now →
+            AreCounts world.now self.new }
     {
         match act {
             SwitchEvent::Take(place) => self.recount_at(world, place),
@@ -113,7 +119,8 @@ impl Tally {
 
     // Counts anew if an event of a packet has led to this world: no switch changes, unless updates are halted.
     fn recount_packet(&mut self, world: &World, flow: &PacketEvent)
-        ensures { (w : WorldValue) → AreCounts w self.old → Step w (event.Packet flow.now) world.now → AreCounts world.now self.new }
+        ensures { (w : WorldValue) → AreCounts w self.old → Step w (event.Packet flow.now) world.now →
+            AreCounts world.now self.new }
     {
         match flow {
             PacketEvent::Arrive(_, _) => {}
@@ -136,7 +143,8 @@ impl Tally {
     // Counts anew at all switches.
     fn recount_all(&mut self, world: &World)
         ensures length { length self.new ≡ length self.old }
-        ensures each { (place n : ℕ) → slice_get self.new place ≡ Some n → IsCount world.now (tried_at world.now place) n }
+        ensures each { (place n : ℕ) → slice_get self.new place ≡ Some n →
+            IsCount world.now (tried_at world.now place) n }
     {
         for place in 0..self.counts().len() {
             self.recount_at(world, place);

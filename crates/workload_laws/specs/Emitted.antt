@@ -10,7 +10,8 @@ use Rattle.policy_rows.specs.Limits.{AreWithinLimits, AreWritable}
 use Rattle.policy_rows.specs.Means.{RowsMean}
 use Rattle.table_emitter.specs.Emission.{IsEmitted}
 
--- A policy with the rows that its diagram has in a topology: they stand for it, are within the limits, and can be written as messages.
+-- A policy with the rows that its diagram has in a topology: they stand for it, are within the limits, and can be
+-- written as messages.
 pub record IsVersionIn (t : Layout) (stamp : ℕ) (band : Band) (v : Version) : Type 0 where
   pub diagram : Tree
   pub compiled : CompiledOf (term_of v.pol) diagram

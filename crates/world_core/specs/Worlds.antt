@@ -16,7 +16,8 @@ use Rattle.update_laws.specs.Traffic.{Arrived, IsTraffic, AreApart}
 use Rattle.world_core.specs.declared.settings.Settings.{Settings}
 use Rattle.world_core.specs.Ends.{new_end}
 
--- The topology, the versions, the hop limit, the rows that a switch has room for, how many stamps go round if drains overlap, the coordinator and the switches with their channels, the copies in flight and the packets that came in.
+-- The topology, the versions, the hop limit, the rows that a switch has room for, how many stamps go round if drains
+-- overlap, the coordinator and the switches with their channels, the copies in flight and the packets that came in.
 pub record WorldValue : Type 0 where
   pub topology : Layout
   pub versions : List Version
@@ -65,7 +66,9 @@ initial_world t versions settings = record {
 abbrev pub AreDistinct : List WiredSwitch → Type 0
 AreDistinct ends = (place : ℕ) (e : WiredSwitch) → slice_get ends place ≡ Some e → Distinct e.switch.table.rows
 
--- What every world keeps: its versions stand for their policies, and the coordinator has their rows; the switches are those of the topology, no two rows of a table have one key, each switch is where the phase has it, each packet is handled by one policy of its entry, and its copies are apart.
+-- What every world keeps: its versions stand for their policies, and the coordinator has their rows; the switches are
+-- those of the topology, no two rows of a table have one key, each switch is where the phase has it, each packet is
+-- handled by one policy of its entry, and its copies are apart.
 pub record Keeps (w : WorldValue) : Type 0 where
   pub topology : IsTopology w.topology
   pub versions : AreVersions w.topology w.versions w.overlap

@@ -26,7 +26,11 @@ impl Model for Events {
 
     ghost use Rattle.world_core.specs.Events.{unpacked, whole_count};
 
-    ghost view = { λ e. record { items = unpacked e.short.items e.whole.items; room = min (vec_capacity e.short - vec_len e.short) (vec_capacity e.whole - vec_len e.whole) } };
+    ghost view = { λ e. record {
+      items = unpacked e.short.items e.whole.items;
+      room =
+          min (vec_capacity e.short - vec_len e.short) (vec_capacity e.whole - vec_len e.whole);
+    } };
 
     ghost invariant = { λ e. whole_count e.short.items ≡ length e.whole.items };
 }

@@ -101,7 +101,8 @@ impl WiredSwitch {
 
     /// Whether the switch has nothing to take, to apply or to answer.
     pub(crate) fn is_idle(&self) -> bool
-        ensures { IsTrue result ↔ ((self.now.there ≡ []) × (self.now.switch.pending ≡ []) × (self.now.switch.awaited ≡ None)) }
+        ensures { IsTrue result ↔
+            ((self.now.there ≡ []) × (self.now.switch.pending ≡ []) × (self.now.switch.awaited ≡ None)) }
     {
         self.there.is_empty() && self.switch.pending() == 0 && !self.switch.awaits()
     }

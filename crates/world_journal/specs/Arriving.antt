@@ -1,5 +1,6 @@
 -- Which of the packets that are to come in have come in, and when a run is over.
-use Rattle.std.specs.Prelude.{◌≡◌, ◌≢◌, ◌≤◌, ◌⊎◌, ℕ, ◌+◌, Bool, true, false, List, [], ◌∷◌, length, map, None, All, IsPermutation}
+use Rattle.std.specs.Prelude.{◌≡◌, ◌≢◌, ◌≤◌, ◌⊎◌, ℕ, ◌+◌, Bool, true, false, List, [], ◌∷◌, length, map, None, All}
+use Rattle.std.specs.Prelude.{IsPermutation}
 use Rattle.packet_tracer.specs.declared.flight.Flight.{Flight}
 use Rattle.update_coordinator.specs.declared.phase.Phase.TheVariants as phase
 use Rattle.update_coordinator.specs.Calls.{draining}
@@ -54,7 +55,8 @@ IsSettled w = (w.fleet.control.halt ≢ None) ⊎ IsLast w
 abbrev pub HaveAllCome : List Line → WorldValue → Type 0
 HaveAllCome lines w = IsPermutation (lines_of w.arrivals) lines
 
--- A run is over if there is no more to update, each line came in once, and no copy may take another hop. After a halt packets go on to their end.
+-- A run is over if there is no more to update, each line came in once, and no copy may take another hop. After a halt
+-- packets go on to their end.
 pub record IsOver (lines : List Line) (w : WorldValue) : Type 0 where
   pub settled : IsSettled w
   pub came : HaveAllCome lines w

@@ -3,8 +3,10 @@ use Rattle.std.specs.Prelude.{◌≡◌, ℕ, ◌+◌, ◌<◌, true, Option, So
 use Rattle.world_journal.specs.Runs.{RunValue}
 use Rattle.world_journal.specs.Watching.{WatchedValue, DidAndPosted}
 
--- There is a run, the call did this to it, and its step was posted; or it was taken out and stays so, and the call says this.
-abbrev pub OnRun : {E : Type 0} → (RunValue E → RunValue E → Type 0) → Type 0 → Option (WatchedValue E) → Option (WatchedValue E) → Type 0
+-- There is a run, the call did this to it, and its step was posted; or it was taken out and stays so, and the call says
+-- this.
+abbrev pub OnRun : {E : Type 0} → (RunValue E → RunValue E → Type 0) → Type 0 → Option (WatchedValue E) →
+    Option (WatchedValue E) → Type 0
 OnRun Does Without (Some old) (Some new) = DidAndPosted Does old new
 OnRun Does Without None None = Without
 OnRun Does Without _ _ = ⊥

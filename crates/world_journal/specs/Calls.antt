@@ -1,5 +1,6 @@
 -- What the calls of a session's or a switch's worker answer, by the state that they find.
-use Rattle.std.specs.Prelude.{◌≡◌, ℕ, ◌+◌, ◌-◌, ◌<◌, ◌≤◌, ◌⊎◌, ◌==◌, leb, ltb, if◌then◌else◌, Bool, true, false, List, [], ◌∷◌, ◌++◌, Option, Some, None, slice_get, slice_set}
+use Rattle.std.specs.Prelude.{◌≡◌, ℕ, ◌+◌, ◌-◌, ◌<◌, ◌≤◌, ◌⊎◌, ◌==◌, leb, ltb, if◌then◌else◌, Bool, true, false, List}
+use Rattle.std.specs.Prelude.{[], ◌∷◌, ◌++◌, Option, Some, None, slice_get, slice_set}
 use Rattle.worker_desk.specs.declared.gate.StepKind.{StepKind}
 use Rattle.worker_desk.specs.declared.gate.StepKind.TheVariants as kind
 use Rattle.update_coordinator.specs.declared.cause.Side.{Side}
@@ -40,7 +41,8 @@ place_of n w = if leb w n then w - 1 else w - n - 1
 
 -- what worker w does
 abbrev pub role_of : ℕ → ℕ → Role
-role_of n w = if w == 0 then role.Caller else (if leb w (n + n) then role.At (side_of n w) (place_of n w) else role.Traffic)
+role_of n w = if w == 0 then role.Caller else
+    (if leb w (n + n) then role.At (side_of n w) (place_of n w) else role.Traffic)
 
 -- the same worker, with as many parts
 abbrev pub IsUnmoved : ℕ → ℕ → ℕ → ℕ → Type 0
@@ -78,22 +80,29 @@ pub record RunArrives {E : Type 0} (w : ℕ) (lines : List Line) (place : ℕ) (
   pub here : slice_get lines place ≡ Some line
   pub first : slice_get old.arrived place ≡ Some false
   pub step : Step old.held.world (event.Packet (of_packet.Arrive line.packet line.tag)) new.held.world
-  pub journal : new.held.journal ≡ old.held.journal ++ entry w (event.Packet (of_packet.Arrive line.packet line.tag)) ∷ []
+  pub journal : new.held.journal ≡ old.held.journal ++ entry w (event.Packet (of_packet.Arrive line.packet line.tag)) ∷
+      []
   pub ends : new.held.ends ≡ old.held.ends
   pub arrived : new.arrived ≡ slice_set old.arrived place true
   pub rest : IsBeside (record old { arrived = new.arrived }) new
 
 -- no packet of a line at this place can come in
 abbrev pub IsBarred : WorldValue → List Line → ℕ → Type 0
-IsBarred w lines place = (line : Line) → slice_get lines place ≡ Some line → ¬ IsEnabled w (event.Packet (of_packet.Arrive line.packet line.tag))
+IsBarred w lines place = (line : Line) → slice_get lines place ≡ Some line →
+    ¬ IsEnabled w (event.Packet (of_packet.Arrive line.packet line.tag))
 
--- The step that this side of switch s makes by itself, if one is enabled: a session sends; a switch applies the first pending flow mod, or else answers its barrier.
+-- The step that this side of switch s makes by itself, if one is enabled: a session sends; a switch applies the first
+-- pending flow mod, or else answers its barrier.
 abbrev pub Advances : {E : Type 0} → ℕ → Side → ℕ → RunValue E → RunValue E → Option StepKind → Type 0
-Advances w side.Controller s old new None = (¬ IsEnabled old.held.world (event.Controller (of_controller.Send s))) × (new ≡ old)
+Advances w side.Controller s old new None = (¬ IsEnabled old.held.world (event.Controller (of_controller.Send s))) ×
+    (new ≡ old)
 Advances w side.Controller s old new (Some kind.Send) = Made w (event.Controller (of_controller.Send s)) old new
-Advances w side.Switch s old new None = (¬ IsEnabled old.held.world (event.Switch (of_switch.Apply s 0))) × (¬ IsEnabled old.held.world (event.Switch (of_switch.Reply s))) × (new ≡ old)
+Advances w side.Switch s old new None = (¬ IsEnabled old.held.world (event.Switch (of_switch.Apply s 0))) ×
+    (¬ IsEnabled old.held.world (event.Switch (of_switch.Reply s))) × (new ≡ old)
 Advances w side.Switch s old new (Some kind.Apply) = Made w (event.Switch (of_switch.Apply s 0)) old new
-Advances w side.Switch s old new (Some kind.Reply) = (¬ IsEnabled old.held.world (event.Switch (of_switch.Apply s 0))) × Made w (event.Switch (of_switch.Reply s)) old new
+Advances w side.Switch s old new (Some kind.Reply) =
+    (¬ IsEnabled old.held.world (event.Switch (of_switch.Apply s 0))) ×
+    Made w (event.Switch (of_switch.Reply s)) old new
 Advances w _ s old new _ = ⊥
 
 -- the step of a message that is received at this side
@@ -112,16 +121,18 @@ has_put side s w v = ltb (sent_at w side s) (sent_at v side s)
 -- ---- give
 
 -- a step put a message on the channel, and this is noted of it: whether it waits to be handed out
-pub record RunPuts {E : Type 0} (w : ℕ) (side : Side) (s : ℕ) (old new : RunValue E) (made : Option StepKind) (waiting : Bool) : Type 0 where
+pub record RunPuts {E : Type 0} (w : ℕ) (side : Side) (s : ℕ) (old new : RunValue E) (made : Option StepKind)
+    (waiting : Bool) : Type 0 where
   pub between : RunValue E
   pub step : Advances w side s old between made
   pub put : has_put side s old.held.world between.held.world ≡ true
   pub marked : new ≡ marking between side s waiting
 
 -- no message was put there
-pub record Rests {E : Type 0} (w : ℕ) (side : Side) (s : ℕ) (old new : RunValue E) (made : Option StepKind) : Type 0 where
-  pub step : Advances w side s old new made
-  pub put : has_put side s old.held.world new.held.world ≡ false
+pub record Rests {E : Type 0} (w : ℕ) (side : Side) (s : ℕ) (old new : RunValue E) (made : Option StepKind) : Type 0
+  where
+    pub step : Advances w side s old new made
+    pub put : has_put side s old.held.world new.held.world ≡ false
 
 -- where no message is put on the channel one may be received
 abbrev pub RestsAs : {E : Type 0} → WorldValue → Side → ℕ → Option StepKind → Given E → Type 0
@@ -134,7 +145,8 @@ abbrev pub GoesOn : {E : Type 0} → ℕ → Side → ℕ → RunValue E → Run
 GoesOn w side s old new Stop = ⊥
 GoesOn w side s old new (NewEnd e) = ⊥
 GoesOn w side s old new (Out m None) = ⊥
-GoesOn w side s old new (Out m (Some k)) = RunPuts w side s old new (Some k) false × (newest_at new.held.world side s ≡ Some m)
+GoesOn w side s old new (Out m (Some k)) = RunPuts w side s old new (Some k) false ×
+    (newest_at new.held.world side s ≡ Some m)
 GoesOn w side s old new (Expect made) = Rests w side s old new made × IsEnabled new.held.world (receipt side s)
 GoesOn w side s old new (Nothing made) = Rests w side s old new made × ¬ IsEnabled new.held.world (receipt side s)
 
@@ -142,10 +154,12 @@ GoesOn w side s old new (Nothing made) = Rests w side s old new made × ¬ IsEna
 abbrev pub Works : {E : Type 0} → ℕ → Side → ℕ → RunValue E → RunValue E → Given E → Type 0
 Works w side s old new Stop = ⊥
 Works w side s old new (NewEnd e) = ⊥
-Works w side s old new (Out m None) = (waits old side s ≡ true) × (newest_at old.held.world side s ≡ Some m) × (new ≡ marking old side s false)
+Works w side s old new (Out m None) = (waits old side s ≡ true) × (newest_at old.held.world side s ≡ Some m) ×
+    (new ≡ marking old side s false)
 Works w side s old new g = (waits old side s ≡ false) × GoesOn w side s old new g
 
--- What `give` answers to the worker at this side of switch s: that it is to stop; a new end; the message that waits; or what its next step comes to.
+-- What `give` answers to the worker at this side of switch s: that it is to stop; a new end; the message that waits; or
+-- what its next step comes to.
 abbrev pub RunGives : {E : Type 0} → ℕ → Side → ℕ → RunValue E → RunValue E → Given E → Type 0
 RunGives w side s old new Stop = Stops old s × (new ≡ old)
 RunGives w side s old new (NewEnd e) = (¬ Stops old s) × (end_at old side s ≡ Some e) × (new ≡ taking old side s)
@@ -172,9 +186,11 @@ pub record Receives {E : Type 0} (w : ℕ) (side : Side) (s : ℕ) (old new : Ru
   pub step : Made w (receipt side s) old between
   pub now : new ≡ noted (has_put side s old.held.world between.held.world) side s between
 
--- The bytes were not the front, and there is no step of them either: others came before them, or the coordinator has halted.
+-- The bytes were not the front, and there is no step of them either: others came before them, or the coordinator has
+-- halted.
 abbrev pub IsVain : {E : Type 0} → Side → ℕ → List ℕ → ℕ → RunValue E → Type 0
-IsVain side s bytes k run = (¬ (told_before s side run.held.journal ≡ k)) ⊎ (¬ IsEnabled run.held.world (event.Foreign s side bytes))
+IsVain side s bytes k run = (¬ (told_before s side run.held.journal ≡ k)) ⊎
+    (¬ IsEnabled run.held.world (event.Foreign s side bytes))
 
 -- what is answered where the front was received
 abbrev pub TakesIn : {E : Type 0} → ℕ → Side → ℕ → E → RunValue E → RunValue E → Told E → Type 0
@@ -187,7 +203,8 @@ TakesIn w side s end old new (Memory e) = (e ≡ end) × (new ≡ old)
 abbrev pub TurnsAway : {E : Type 0} → ℕ → Side → ℕ → List ℕ → ℕ → E → RunValue E → RunValue E → Told E → Type 0
 TurnsAway w side s bytes k end old new (Back e (Some made)) = ⊥
 TurnsAway w side s bytes k end old new (Back e None) = (e ≡ end) × (new ≡ old) × IsVain side s bytes k old
-TurnsAway w side s bytes k end old new Kept = (told_before s side old.held.journal ≡ k) × RunCuts w (event.Foreign s side bytes) end old new
+TurnsAway w side s bytes k end old new Kept = (told_before s side old.held.journal ≡ k) ×
+    RunCuts w (event.Foreign s side bytes) end old new
 TurnsAway w side s bytes k end old new (Memory e) = (e ≡ end) × (new ≡ old)
 
 -- what is answered over an end of an earlier session
@@ -203,11 +220,16 @@ IsPresent n s name run = name ≡ present_name n s run.held.journal
 
 -- what is answered over an end of the present session
 abbrev pub TellsNow : {E : Type 0} → ℕ → Side → ℕ → List ℕ → ℕ → E → RunValue E → RunValue E → Told E → Type 0
-TellsNow w side s bytes k end old new told = (IsFrontAt bytes side s old.held.world × TakesIn w side s end old new told) ⊎ ((¬ IsFrontAt bytes side s old.held.world) × TurnsAway w side s bytes k end old new told)
+TellsNow w side s bytes k end old new told =
+    (IsFrontAt bytes side s old.held.world × TakesIn w side s end old new told) ⊎
+    ((¬ IsFrontAt bytes side s old.held.world) × TurnsAway w side s bytes k end old new told)
 
--- What `tell` answers over an end with this name: in its present session the front is received, where it can be; other bytes end the session, where they came next.
+-- What `tell` answers over an end with this name: in its present session the front is received, where it can be; other
+-- bytes end the session, where they came next.
 abbrev pub RunTells : {E : Type 0} → ℕ → ℕ → ℕ → Side → ℕ → List ℕ → ℕ → E → RunValue E → RunValue E → Told E → Type 0
-RunTells n name w side s bytes k end old new told = (IsPresent n s name old × TellsNow w side s bytes k end old new told) ⊎ ((¬ IsPresent n s name old) × IsStale end old new told)
+RunTells n name w side s bytes k end old new told =
+    (IsPresent n s name old × TellsNow w side s bytes k end old new told) ⊎
+    ((¬ IsPresent n s name old) × IsStale end old new told)
 
 -- The session was lost and the end kept, and nothing waits for the workers of the switch any more.
 pub record Drops {E : Type 0} (w s : ℕ) (end : E) (old new : RunValue E) : Type 0 where
@@ -217,14 +239,16 @@ pub record Drops {E : Type 0} (w s : ℕ) (end : E) (old new : RunValue E) : Typ
 
 -- what is answered where the end of the present session failed
 abbrev pub LosesNow : {E : Type 0} → ℕ → ℕ → E → RunValue E → RunValue E → Told E → Type 0
-LosesNow w s end old new (Back e None) = (e ≡ end) × (¬ IsEnabled old.held.world (event.Controller (of_controller.Lost s))) × (new ≡ old)
+LosesNow w s end old new (Back e None) = (e ≡ end) ×
+    (¬ IsEnabled old.held.world (event.Controller (of_controller.Lost s))) × (new ≡ old)
 LosesNow w s end old new (Back e (Some made)) = ⊥
 LosesNow w s end old new Kept = Drops w s end old new
 LosesNow w s end old new (Memory e) = (e ≡ end) × (new ≡ old)
 
 -- what `lost` answers over an end with this name
 abbrev pub RunLoses : {E : Type 0} → ℕ → ℕ → ℕ → ℕ → E → RunValue E → RunValue E → Told E → Type 0
-RunLoses n name w s end old new told = (IsPresent n s name old × LosesNow w s end old new told) ⊎ ((¬ IsPresent n s name old) × IsStale end old new told)
+RunLoses n name w s end old new told = (IsPresent n s name old × LosesNow w s end old new told) ⊎
+    ((¬ IsPresent n s name old) × IsStale end old new told)
 
 -- what `shut` answers
 abbrev pub Shuts : {E : Type 0} → Side → ℕ → RunValue E → RunValue E → Shut E → Type 0

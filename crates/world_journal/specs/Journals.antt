@@ -1,5 +1,6 @@
 -- A journal, the world that it leads to, and the ends that were kept.
-use Rattle.std.specs.Prelude.{◌≡◌, ℕ, ◌+◌, ◌*◌, ◌<◌, ◌==◌, if◌then◌else◌, Bool, false, List, [], ◌∷◌, ◌++◌, length, map, Option, Some, None}
+use Rattle.std.specs.Prelude.{◌≡◌, ℕ, ◌+◌, ◌*◌, ◌<◌, ◌==◌, if◌then◌else◌, Bool, false, List, [], ◌∷◌, ◌++◌, length, map}
+use Rattle.std.specs.Prelude.{Option, Some, None}
 use Rattle.std.specs.List.{AllByRecursion, filter}
 use Rattle.update_coordinator.specs.declared.cause.Side.{Side}
 use Rattle.update_coordinator.specs.declared.cause.Side.TheVariants as side
@@ -65,20 +66,28 @@ told s side events = length (filter (is_told s side) (since s events))
 abbrev pub told_before : ℕ → Side → List Entry → ℕ
 told_before s side journal = told s side (events_of journal)
 
--- What holds of the end that is kept for an event after these entries: it is of the present session with that switch; at a lost session it had failed; at foreign bytes they came next in its stream, where that is known.
+-- What holds of the end that is kept for an event after these entries: it is of the present session with that switch;
+-- at a lost session it had failed; at foreign bytes they came next in its stream, where that is known.
 abbrev pub MetBy : {E : Type 0} → ℕ → (E → ℕ) → (E → ℕ) → (E → Option (List ℕ)) → List Entry → Event → E → Type 0
-MetBy n named faults received before (event.Controller (of_controller.Lost s)) end = (named end ≡ present_name n s before) × (0 < faults end)
-MetBy n named faults received before (event.Foreign s side got) end = (named end ≡ present_name n s before) × TellsWhereKnown (received end) (told_before s side before) got
+MetBy n named faults received before (event.Controller (of_controller.Lost s)) end =
+    (named end ≡ present_name n s before) × (0 < faults end)
+MetBy n named faults received before (event.Foreign s side got) end = (named end ≡ present_name n s before) ×
+    TellsWhereKnown (received end) (told_before s side before) got
 MetBy n named faults received before _ end = ⊥
 
 -- One end is kept for each event that ends a session, in order, and it met the conditions there.
-pub data Kept {E : Type 0} (n : ℕ) (named faults : E → ℕ) (received : E → Option (List ℕ)) : List Entry → List E → Type 0 where
+pub data Kept {E : Type 0} (n : ℕ) (named faults : E → ℕ) (received : E → Option (List ℕ)) : List Entry → List E →
+    Type 0 where
   none : Kept n named faults received [] []
-  goes : (es : List Entry) (ends : List E) (e : Entry) → is_cut e.event ≡ false → Kept n named faults received es ends → Kept n named faults received (es ++ e ∷ []) ends
-  cuts : (es : List Entry) (ends : List E) (e : Entry) (end : E) → MetBy n named faults received es e.event end → Kept n named faults received es ends → Kept n named faults received (es ++ e ∷ []) (ends ++ end ∷ [])
+  goes : (es : List Entry) (ends : List E) (e : Entry) → is_cut e.event ≡ false →
+      Kept n named faults received es ends → Kept n named faults received (es ++ e ∷ []) ends
+  cuts : (es : List Entry) (ends : List E) (e : Entry) (end : E) → MetBy n named faults received es e.event end →
+      Kept n named faults received es ends → Kept n named faults received (es ++ e ∷ []) (ends ++ end ∷ [])
 
--- The world is what the journal's events lead to from the start; each entry is of a worker that may make it; and the ends were kept for it.
-pub record IsJournal {E : Type 0} (named faults : E → ℕ) (received : E → Option (List ℕ)) (start world : WorldValue) (journal : List Entry) (ends : List E) : Type 0 where
+-- The world is what the journal's events lead to from the start; each entry is of a worker that may make it; and the
+-- ends were kept for it.
+pub record IsJournal {E : Type 0} (named faults : E → ℕ) (received : E → Option (List ℕ)) (start world : WorldValue)
+    (journal : List Entry) (ends : List E) : Type 0 where
   pub runs : Runs start (events_of journal) world
   pub makers : AllByRecursion (λ (e : Entry). MayMake (switches start) e.worker e.event) journal
   pub kept : Kept (switches start) named faults received journal ends

@@ -14,10 +14,16 @@ use Rattle.world_journal.specs.Runs.{RunValue, waits}
 
 -- What a session sends and what a switch answers is always put on the channel.
 pub record SentIsPut : Type 0 where
-  pub sent : (w v : WorldValue) (s : ℕ) → Step w (event.Controller (of_controller.Send s)) v → has_put side.Controller s w v ≡ true
-  pub replied : (w v : WorldValue) (s : ℕ) → Step w (event.Switch (of_switch.Reply s)) v → has_put side.Switch s w v ≡ true
+  pub sent : (w v : WorldValue) (s : ℕ) → Step w (event.Controller (of_controller.Send s)) v →
+      has_put side.Controller s w v ≡ true
+  pub replied : (w v : WorldValue) (s : ℕ) → Step w (event.Switch (of_switch.Reply s)) v →
+      has_put side.Switch s w v ≡ true
 
 -- Where a switch has not begun, its HELLO waits, and is handed out first.
 pub record HelloWaits (E : Type 0) : Type 0 where
-  pub newest : (run : RunValue E) (s capacity sw : ℕ) → slice_get run.held.world.fleet.ends s ≡ Some (new_end capacity sw) → newest_at run.held.world side.Switch s ≡ Some (to.Hello 1 0)
-  pub waiting : (run : RunValue E) (s capacity sw : ℕ) → slice_get run.held.world.fleet.ends s ≡ Some (new_end capacity sw) → slice_get run.back_waits s ≡ Some true → waits run side.Switch s ≡ true
+  pub newest : (run : RunValue E) (s capacity sw : ℕ) →
+      slice_get run.held.world.fleet.ends s ≡ Some (new_end capacity sw) →
+      newest_at run.held.world side.Switch s ≡ Some (to.Hello 1 0)
+  pub waiting : (run : RunValue E) (s capacity sw : ℕ) →
+      slice_get run.held.world.fleet.ends s ≡ Some (new_end capacity sw) → slice_get run.back_waits s ≡ Some true →
+      waits run side.Switch s ≡ true

@@ -8,7 +8,8 @@ use Rattle.world_core.specs.declared.event.ControllerEvent.TheVariants as of_con
 use Rattle.world_core.specs.declared.event.PacketEvent.TheVariants as of_packet
 use Rattle.world_core.specs.declared.event.SwitchEvent.TheVariants as of_switch
 
--- With n switches worker 0 is the caller, 1 to n are the sessions, n + 1 to n + n the switches, and the two after them bring packets in.
+-- With n switches worker 0 is the caller, 1 to n are the sessions, n + 1 to n + n the switches, and the two after them
+-- bring packets in.
 abbrev pub IsCaller : ℕ → Type 0
 IsCaller w = w ≡ 0
 

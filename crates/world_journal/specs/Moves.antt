@@ -17,16 +17,19 @@ use Rattle.world_journal.specs.declared.updates.Absence.{Absence}
 use Rattle.world_journal.specs.declared.updates.Update.{Update}
 use Rattle.world_journal.specs.declared.updates.Update.TheVariants as update
 
--- The packet at a place comes in; or it has come in before, or cannot; or there is no line there, or the run was closed.
+-- The packet at a place comes in; or it has come in before, or cannot; or there is no line there, or the run was
+-- closed.
 abbrev pub ComesIn : {E : Type 0} → ℕ → List Line → ℕ → RunValue E → RunValue E → StepOutcome → Type 0
 ComesIn w lines place old new Step = (old.closed ≡ false) × RunArrives w lines place old new
-ComesIn w lines place old new Nothing = (old.closed ≡ false) × (place < length lines) × ((slice_get old.arrived place ≡ Some true) ⊎ IsBarred old.held.world lines place) × (new ≡ old)
+ComesIn w lines place old new Nothing = (old.closed ≡ false) × (place < length lines) ×
+    ((slice_get old.arrived place ≡ Some true) ⊎ IsBarred old.held.world lines place) × (new ≡ old)
 ComesIn w lines place old new Stop = ((old.closed ≡ true) ⊎ (length lines ≤ place)) × (new ≡ old)
 
 -- A copy takes a hop; or none may take one now; or the run was closed.
 abbrev pub HopsOn : {E : Type 0} → ℕ → RunValue E → RunValue E → StepOutcome → Type 0
 HopsOn w old new Step = (old.closed ≡ false) × ((k : ℕ) × Made w (event.Packet (of_packet.Hop k)) old new)
-HopsOn w old new Nothing = (old.closed ≡ false) × ((k : ℕ) → ¬ IsEnabled old.held.world (event.Packet (of_packet.Hop k))) × (new ≡ old)
+HopsOn w old new Nothing = (old.closed ≡ false) ×
+    ((k : ℕ) → ¬ IsEnabled old.held.world (event.Packet (of_packet.Hop k))) × (new ≡ old)
 HopsOn w old new Stop = (old.closed ≡ true) × (new ≡ old)
 
 -- In this world an update begins, or something is told of a drain: that a copy is stuck only if no update can begin.
@@ -52,9 +55,11 @@ NoneMissing n run = (s : ℕ) → s < n → ¬ IsMissing s run
 
 -- A switch is to return; or none is and such a step is made, or none can be made now; or the run was closed or is over.
 abbrev pub Updates : {E : Type 0} → ℕ → ℕ → List Line → RunValue E → RunValue E → Update → Type 0
-Updates n w lines old new update.Step = (¬ HasEnded lines old) × NoneMissing n old × ((e : Event) × IsUpdate old.held.world e × Made w e old new)
+Updates n w lines old new update.Step = (¬ HasEnded lines old) × NoneMissing n old ×
+    ((e : Event) × IsUpdate old.held.world e × Made w e old new)
 Updates n w lines old new (update.Absent a) = (¬ HasEnded lines old) × IsAbsence n old a × (new ≡ old)
-Updates n w lines old new update.Nothing = (¬ HasEnded lines old) × NoneMissing n old × ((e : Event) → IsUpdate old.held.world e → ¬ IsEnabled old.held.world e) × (new ≡ old)
+Updates n w lines old new update.Nothing = (¬ HasEnded lines old) × NoneMissing n old ×
+    ((e : Event) → IsUpdate old.held.world e → ¬ IsEnabled old.held.world e) × (new ≡ old)
 Updates n w lines old new update.Stop = HasEnded lines old × (new ≡ old)
 
 -- The switch of an absence returns over a pair; or it is not to return any more; or the run was closed.

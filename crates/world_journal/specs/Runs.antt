@@ -1,5 +1,6 @@
 -- What a run has beside its journal, and where its workers are to stop.
-use Rattle.std.specs.Prelude.{◌≡◌, ◌≢◌, ◌⊎◌, ℕ, ◌%◌, ◌&&◌, Bool, true, false, List, [], length, is_some, Option, Some, None, IfSome, slice_get, slice_set}
+use Rattle.std.specs.Prelude.{◌≡◌, ◌≢◌, ◌⊎◌, ℕ, ◌%◌, ◌&&◌, Bool, true, false, List, [], length, is_some, Option, Some}
+use Rattle.std.specs.Prelude.{None, IfSome, slice_get, slice_set}
 use Rattle.update_coordinator.specs.declared.cause.Side.{Side}
 use Rattle.update_coordinator.specs.declared.cause.Side.TheVariants as side
 use Rattle.world_core.specs.Channels.{IsQuiet, newest_at}
@@ -8,7 +9,9 @@ use Rattle.world_journal.specs.declared.line.Line.{Line}
 use Rattle.world_journal.specs.Journals.{HeldValue, events_of, session, told_before}
 use Rattle.world_journal.specs.Arriving.{IsLast, IsOver}
 
--- The journal with its world, which lines have come in, whether the run was closed, how many seats were laid back, and of each switch whether the last message of its session, and its own, still waits to be handed out, and the new ends that are laid out for the workers of both.
+-- The journal with its world, which lines have come in, whether the run was closed, how many seats were laid back, and
+-- of each switch whether the last message of its session, and its own, still waits to be handed out, and the new ends
+-- that are laid out for the workers of both.
 pub record RunValue (E : Type 0) : Type 0 where
   pub held : HeldValue E
   pub arrived : List Bool
@@ -57,11 +60,23 @@ taking r side.Switch s = record r { back_ends = slice_set r.back_ends s None }
 
 -- the same, where nothing waits for the workers of switch s any more, neither messages nor ends
 abbrev pub dropping : {E : Type 0} → RunValue E → ℕ → RunValue E
-dropping r s = record r { to_waits = slice_set r.to_waits s false; back_waits = slice_set r.back_waits s false; to_ends = slice_set r.to_ends s None; back_ends = slice_set r.back_ends s None }
+dropping r s = record r {
+  to_waits = slice_set r.to_waits s false;
+  back_waits = slice_set r.back_waits s false;
+  to_ends =
+      slice_set r.to_ends s None;
+  back_ends = slice_set r.back_ends s None;
+}
 
 -- the same, where both ends of a pair are laid out for these workers, and the HELLO of the switch waits
 abbrev pub laying : {E : Type 0} → RunValue E → ℕ → E × E → RunValue E
-laying r s pair = record r { to_waits = slice_set r.to_waits s false; back_waits = slice_set r.back_waits s true; to_ends = slice_set r.to_ends s (Some pair.0); back_ends = slice_set r.back_ends s (Some pair.1) }
+laying r s pair = record r {
+  to_waits = slice_set r.to_waits s false;
+  back_waits = slice_set r.back_waits s true;
+  to_ends =
+      slice_set r.to_ends s (Some pair.0);
+  back_ends = slice_set r.back_ends s (Some pair.1);
+}
 
 -- an end of a pair of switch s, of n, over which nothing was received
 abbrev pub IsNewEnd : {E : Type 0} → ℕ → (E → ℕ) → (E → Option (List ℕ)) → ℕ → E → Type 0
@@ -80,7 +95,8 @@ abbrev pub AreNumbers : List ℕ → List Entry → Type 0
 AreNumbers numbers journal = (s number : ℕ) → slice_get numbers s ≡ Some number → number ≡ session s (events_of journal)
 
 -- What a run keeps of sessions, with n switches.
-pub record HasSessions {E : Type 0} (n : ℕ) (named : E → ℕ) (received : E → Option (List ℕ)) (journal : List Entry) (numbers : List ℕ) (to_ends back_ends : List (Option E)) : Type 0 where
+pub record HasSessions {E : Type 0} (n : ℕ) (named : E → ℕ) (received : E → Option (List ℕ)) (journal : List Entry)
+    (numbers : List ℕ) (to_ends back_ends : List (Option E)) : Type 0 where
   pub many : length numbers ≡ n
   pub numbered : AreNumbers numbers journal
   pub to_many : length to_ends ≡ n
@@ -107,6 +123,9 @@ pub record HasCounts (n : ℕ) (journal : List Entry) (to_told back_told : List 
 abbrev pub HasEnded : {E : Type 0} → List Line → RunValue E → Type 0
 HasEnded lines r = (r.closed ≡ true) ⊎ IsOver lines r.held.world
 
--- The workers of switch s are to stop: the run is closed or has halted; or the last policy handles all packets, none before it drains, and no message is left for either of them.
+-- The workers of switch s are to stop: the run is closed or has halted; or the last policy handles all packets, none
+-- before it drains, and no message is left for either of them.
 abbrev pub Stops : {E : Type 0} → RunValue E → ℕ → Type 0
-Stops r s = (r.closed ≡ true) ⊎ ((r.held.world.fleet.control.halt ≢ None) ⊎ (IsLast r.held.world × (IsQuiet side.Controller s r.held.world × IsQuiet side.Switch s r.held.world)))
+Stops r s = (r.closed ≡ true) ⊎
+    ((r.held.world.fleet.control.halt ≢ None) ⊎
+    (IsLast r.held.world × (IsQuiet side.Controller s r.held.world × IsQuiet side.Switch s r.held.world)))

@@ -93,8 +93,8 @@ impl Letter {
     }
 }
 
-/// What one worker is to do, made ahead of its calls, in order; how many steps it makes so at most; and whether the other
-/// side is still to be woken.
+/// What one worker is to do, made ahead of its calls, in order; how many steps it makes so at most; and whether the
+/// other side is still to be woken.
 #[derive(Drop)]
 pub(crate) struct Ahead {
     most: u32,
@@ -130,7 +130,8 @@ impl Ahead {
     /// Takes the next out, if there is one. No new end is among them.
     pub(crate) fn next<L: RunName, E: Link>(&self, seat: &Seat<L>) -> Option<Given<E>>
         ensures fits { IfSome result CanBeWritten }
-        ensures named { IfSome result (OnNewEnd (λ e. E.named e % switches L.start ≡ place_of (switches L.start) seat.now.worker)) }
+        ensures named { IfSome result
+            (OnNewEnd (λ e. E.named e % switches L.start ≡ place_of (switches L.start) seat.now.worker)) }
         ensures fresh { IfSome result (OnNewEnd (λ e. IfSome (E.received e) (λ xs. xs ≡ []))) }
     {
         let mut works = self.works.take()?;

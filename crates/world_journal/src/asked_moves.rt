@@ -1,5 +1,5 @@
-//! What the caller and the workers that bring packets in ask of the run that lies under the lock, with the post of the step
-//! that was made. If the run was taken out, nothing happens and whoever asks is to stop.
+//! What the caller and the workers that bring packets in ask of the run that lies under the lock, with the post of the
+//! step that was made. If the run was taken out, nothing happens and whoever asks is to stop.
 //!
 //! Layer: runs; private. Called by `moves`.
 ghost use Rattle.std.specs.Prelude.{◌≡◌, IfOk, OnErr};
@@ -29,7 +29,9 @@ pub(crate) fn update_of<L: RunName, P: Poster, E: Link>(
 ) -> Result<Update, AllocError>
     requires { IsCaller seat.old.worker }
     ensures seat { IsUnmoved seat.old.worker seat.new.worker seat.old.share.parts seat.new.share.parts }
-    ensures answer { IfOk result (λ u. OnRun (λ old new. Updates (switches L.start) seat.old.worker L.lines old new u) (u ≡ update.Stop) run.old run.new) }
+    ensures answer { IfOk result
+        (λ u. OnRun (λ old new. Updates (switches L.start) seat.old.worker L.lines old new u) (u ≡ update.Stop) run.old
+        run.new) }
     ensures memory { OnErr result (run.new ≡ run.old) }
 {
     match run {
@@ -54,7 +56,9 @@ pub(crate) fn rejoin_of<L: RunName, P: Poster, E: Link>(
     requires named { (E.named pair.0 ≡ absence.name) × (E.named pair.1 ≡ absence.name) }
     requires fresh { IsNewPair E.received pair }
     ensures seat { IsUnmoved seat.old.worker seat.new.worker seat.old.share.parts seat.new.share.parts }
-    ensures answer { IfOk result (λ d. OnRun (λ old new. Rejoins (switches L.start) seat.old.worker absence pair old new d) (d ≡ did.Stop) run.old run.new) }
+    ensures answer { IfOk result
+        (λ d. OnRun (λ old new. Rejoins (switches L.start) seat.old.worker absence pair old new d) (d ≡ did.Stop)
+        run.old run.new) }
     ensures memory { OnErr result (run.new ≡ run.old) }
 {
     match run {
@@ -76,7 +80,8 @@ pub(crate) fn come_in_of<L: RunName, P: Poster, E: Link>(
 ) -> Result<StepOutcome, AllocError>
     requires { IsTraffic (switches L.start) seat.old.worker }
     ensures seat { IsUnmoved seat.old.worker seat.new.worker seat.old.share.parts seat.new.share.parts }
-    ensures answer { IfOk result (λ d. OnRun (λ old new. ComesIn seat.old.worker L.lines place old new d) (d ≡ did.Stop) run.old run.new) }
+    ensures answer { IfOk result
+        (λ d. OnRun (λ old new. ComesIn seat.old.worker L.lines place old new d) (d ≡ did.Stop) run.old run.new) }
     ensures memory { OnErr result (run.new ≡ run.old) }
 {
     match run {
@@ -97,7 +102,8 @@ pub(crate) fn hop_on_of<L: RunName, P: Poster, E: Link>(
 ) -> Result<StepOutcome, AllocError>
     requires { IsTraffic (switches L.start) seat.old.worker }
     ensures seat { IsUnmoved seat.old.worker seat.new.worker seat.old.share.parts seat.new.share.parts }
-    ensures answer { IfOk result (λ d. OnRun (λ old new. HopsOn seat.old.worker old new d) (d ≡ did.Stop) run.old run.new) }
+    ensures answer { IfOk result
+        (λ d. OnRun (λ old new. HopsOn seat.old.worker old new d) (d ≡ did.Stop) run.old run.new) }
     ensures memory { OnErr result (run.new ≡ run.old) }
 {
     match run {

@@ -1,5 +1,5 @@
-//! What a desk asks of the run that lies under its lock: each has the clause of the run's own call, and posts the step that
-//! the call made. If the run was taken out, nothing happens and whoever asks is to stop.
+//! What a desk asks of the run that lies under its lock: each has the clause of the run's own call, and posts the step
+//! that the call made. If the run was taken out, nothing happens and whoever asks is to stop.
 //!
 //! Layer: runs; private. Called by `making` and `run_desk`.
 ghost use Rattle.std.specs.Prelude.{◌≡◌, ◌<◌, ◌%◌, ◌⊎◌, [], IfOk, IfSome, IfNone, IsTrue, OnErr, None};
@@ -10,7 +10,8 @@ ghost use Rattle.worker_desk.specs.declared.desk.Told.TheVariants as told;
 ghost use Rattle.worker_desk.specs.declared.desk.Shut.TheVariants as shut;
 ghost use Rattle.world_journal.specs.Ahead.{IsWork, MayWork};
 ghost use Rattle.world_journal.specs.Asking.{Closes, LaysBack, OnRun};
-ghost use Rattle.world_journal.specs.Calls.{RunGives, IsUnmoved, IsWorker, RunLoses, RunsOut, Shuts, RunTells, place_of, side_of};
+ghost use Rattle.world_journal.specs.Calls.{RunGives, IsUnmoved, IsWorker, RunLoses, RunsOut, Shuts, RunTells};
+ghost use Rattle.world_journal.specs.Calls.{place_of, side_of};
 ghost use Rattle.world_journal.specs.Journals.{switches};
 
 use crate::name::RunName;
@@ -30,10 +31,15 @@ pub(crate) fn given_of<L: RunName, P: Poster, E: Link>(
     requires seat { IsWorker (switches L.start) seat.old.worker }
     ensures seat { IsUnmoved seat.old.worker seat.new.worker seat.old.share.parts seat.new.share.parts }
     ensures fits { IfOk result CanBeWritten }
-    ensures named { IfOk result (OnNewEnd (λ e. E.named e % switches L.start ≡ place_of (switches L.start) seat.old.worker)) }
+    ensures named { IfOk result
+        (OnNewEnd (λ e. E.named e % switches L.start ≡ place_of (switches L.start) seat.old.worker)) }
     ensures fresh { IfOk result (OnNewEnd (λ e. IfSome (E.received e) (λ xs. xs ≡ []))) }
-    ensures answer { IfOk result (λ g. OnRun (λ old new. RunGives seat.old.worker (side_of (switches L.start) seat.old.worker) (place_of (switches L.start) seat.old.worker) old new g) (g ≡ given.Stop) run.old run.new) }
-    ensures memory { OnErr result (OnRun (RunsOut seat.old.worker (side_of (switches L.start) seat.old.worker) (place_of (switches L.start) seat.old.worker)) ⊥ run.old run.new) }
+    ensures answer { IfOk result
+        (λ g. OnRun (λ old new. RunGives seat.old.worker (side_of (switches L.start) seat.old.worker)
+        (place_of (switches L.start) seat.old.worker) old new g) (g ≡ given.Stop) run.old run.new) }
+    ensures memory { OnErr result
+        (OnRun (RunsOut seat.old.worker (side_of (switches L.start) seat.old.worker)
+        (place_of (switches L.start) seat.old.worker)) ⊥ run.old run.new) }
 {
     match run {
         None => Ok(Given::Stop),
@@ -55,8 +61,13 @@ pub(crate) fn more_of<L: RunName, P: Poster, E: Link>(
     ensures seat { IsUnmoved seat.old.worker seat.new.worker seat.old.share.parts seat.new.share.parts }
     ensures fits { IfSome result CanBeWritten }
     ensures work { IfSome result IsWork }
-    ensures answer { IfSome result (λ g. OnRun (λ old new. RunGives seat.old.worker (side_of (switches L.start) seat.old.worker) (place_of (switches L.start) seat.old.worker) old new g) (g ≡ given.Stop) run.old run.new) }
-    ensures none { IfNone result ((run.new ≡ run.old) ⊎ OnRun (RunsOut seat.old.worker (side_of (switches L.start) seat.old.worker) (place_of (switches L.start) seat.old.worker)) ⊥ run.old run.new) }
+    ensures answer { IfSome result
+        (λ g. OnRun (λ old new. RunGives seat.old.worker (side_of (switches L.start) seat.old.worker)
+        (place_of (switches L.start) seat.old.worker) old new g) (g ≡ given.Stop) run.old run.new) }
+    ensures none { IfNone result
+        ((run.new ≡ run.old) ⊎ OnRun
+        (RunsOut seat.old.worker (side_of (switches L.start) seat.old.worker)
+        (place_of (switches L.start) seat.old.worker)) ⊥ run.old run.new) }
 {
     if !may_work(run, seat) {
         return None;
@@ -67,7 +78,8 @@ pub(crate) fn more_of<L: RunName, P: Poster, E: Link>(
 // Whether there is a run in which a worker is to go on over its end.
 fn may_work<L: RunName, P: Poster, E: Link>(run: &Option<Watched<L, P, E>>, seat: &Seat<L>) -> bool
     requires { IsWorker (switches L.start) seat.now.worker }
-    ensures { IsTrue result → MayWork (side_of (switches L.start) seat.now.worker) (place_of (switches L.start) seat.now.worker) run.now }
+    ensures { IsTrue result →
+        MayWork (side_of (switches L.start) seat.now.worker) (place_of (switches L.start) seat.now.worker) run.now }
 {
     let (side, s) = seat.at();
     match run {
@@ -89,7 +101,9 @@ pub(crate) fn told_of<L: RunName, P: Poster, E: Link>(
     requires name { E.named end % switches L.start ≡ place_of (switches L.start) seat.old.worker }
     requires stream { TellsWhereKnown (E.received end) k bytes.now }
     ensures seat { IsUnmoved seat.old.worker seat.new.worker seat.old.share.parts seat.new.share.parts }
-    ensures answer { OnRun (λ old new. RunTells (switches L.start) (E.named end) seat.old.worker (side_of (switches L.start) seat.old.worker) (place_of (switches L.start) seat.old.worker) bytes.now k end old new result) (result ≡ told.Back end None) run.old run.new }
+    ensures answer { OnRun (λ old new. RunTells (switches L.start) (E.named end) seat.old.worker
+        (side_of (switches L.start) seat.old.worker) (place_of (switches L.start) seat.old.worker) bytes.now k end old
+        new result) (result ≡ told.Back end None) run.old run.new }
     ensures back { GivesBack end result }
 {
     match run {
@@ -113,7 +127,9 @@ pub(crate) fn lost_of<L: RunName, P: Poster, E: Link>(
     requires name { E.named end % switches L.start ≡ place_of (switches L.start) seat.old.worker }
     requires failed { 0 < E.faults end }
     ensures seat { IsUnmoved seat.old.worker seat.new.worker seat.old.share.parts seat.new.share.parts }
-    ensures answer { OnRun (λ old new. RunLoses (switches L.start) (E.named end) seat.old.worker (place_of (switches L.start) seat.old.worker) end old new result) (result ≡ told.Back end None) run.old run.new }
+    ensures answer { OnRun (λ old new. RunLoses (switches L.start) (E.named end) seat.old.worker
+        (place_of (switches L.start) seat.old.worker) end old new result) (result ≡ told.Back end None) run.old
+        run.new }
     ensures back { GivesBack end result }
 {
     match run {
@@ -132,9 +148,11 @@ pub(crate) fn shut_of<L: RunName, P: Poster, E: Link>(
     seat: &Seat<L>,
 ) -> Shut<E>
     requires seat { IsWorker (switches L.start) seat.now.worker }
-    ensures named { OnShutNewEnd (λ e. E.named e % switches L.start ≡ place_of (switches L.start) seat.now.worker) result }
+    ensures named { OnShutNewEnd (λ e. E.named e % switches L.start ≡ place_of (switches L.start) seat.now.worker)
+        result }
     ensures fresh { OnShutNewEnd (λ e. IfSome (E.received e) (λ xs. xs ≡ [])) result }
-    ensures answer { OnRun (λ old new. Shuts (side_of (switches L.start) seat.now.worker) (place_of (switches L.start) seat.now.worker) old new result) (result ≡ shut.Stop) run.old run.new }
+    ensures answer { OnRun (λ old new. Shuts (side_of (switches L.start) seat.now.worker)
+        (place_of (switches L.start) seat.now.worker) old new result) (result ≡ shut.Stop) run.old run.new }
 {
     match run {
         None => Shut::Stop,

@@ -8,7 +8,8 @@ ghost use Rattle.world_core.specs.declared.fault.StepFault.TheVariants as faults
 ghost use Rattle.world_journal.specs.Journals.{switches};
 ghost use Rattle.world_journal.specs.Makers.{WorksAt};
 ghost use Rattle.world_journal.specs.Runs.{waits};
-ghost use Rattle.world_journal.specs.Calls.{RunGives, IsUnmoved, IsWorker, RunLoses, RunsOut, Shuts, RunTells, place_of, side_of};
+ghost use Rattle.world_journal.specs.Calls.{RunGives, IsUnmoved, IsWorker, RunLoses, RunsOut, Shuts, RunTells};
+ghost use Rattle.world_journal.specs.Calls.{place_of, side_of};
 
 use crate::name::RunName;
 use crate::run::Run;
@@ -33,10 +34,15 @@ impl<L: RunName, E: Link> Run<L, E> {
         requires seat { IsWorker (switches L.start) seat.old.worker }
         ensures seat { IsUnmoved seat.old.worker seat.new.worker seat.old.share.parts seat.new.share.parts }
         ensures fits { IfOk result CanBeWritten }
-        ensures named { IfOk result (OnNewEnd (λ e. E.named e % switches L.start ≡ place_of (switches L.start) seat.old.worker)) }
+        ensures named { IfOk result
+            (OnNewEnd (λ e. E.named e % switches L.start ≡ place_of (switches L.start) seat.old.worker)) }
         ensures fresh { IfOk result (OnNewEnd (λ e. IfSome (E.received e) (λ xs. xs ≡ []))) }
-        ensures answer { IfOk result (RunGives seat.old.worker (side_of (switches L.start) seat.old.worker) (place_of (switches L.start) seat.old.worker) self.old self.new) }
-        ensures memory { OnErr result (RunsOut seat.old.worker (side_of (switches L.start) seat.old.worker) (place_of (switches L.start) seat.old.worker) self.old self.new) }
+        ensures answer { IfOk result
+            (RunGives seat.old.worker (side_of (switches L.start) seat.old.worker)
+            (place_of (switches L.start) seat.old.worker) self.old self.new) }
+        ensures memory { OnErr result
+            (RunsOut seat.old.worker (side_of (switches L.start) seat.old.worker)
+            (place_of (switches L.start) seat.old.worker) self.old self.new) }
     {
         let (side, s) = seat.at();
         give_at(self, alloc, seat, side, s)
@@ -57,7 +63,9 @@ impl<L: RunName, E: Link> Run<L, E> {
         requires name { E.named end % switches L.start ≡ place_of (switches L.start) seat.old.worker }
         requires stream { TellsWhereKnown (E.received end) k bytes.now }
         ensures seat { IsUnmoved seat.old.worker seat.new.worker seat.old.share.parts seat.new.share.parts }
-        ensures answer { RunTells (switches L.start) (E.named end) seat.old.worker (side_of (switches L.start) seat.old.worker) (place_of (switches L.start) seat.old.worker) bytes.now k end self.old self.new result }
+        ensures answer { RunTells (switches L.start) (E.named end) seat.old.worker
+            (side_of (switches L.start) seat.old.worker) (place_of (switches L.start) seat.old.worker) bytes.now k end
+            self.old self.new result }
         ensures back { GivesBack end result }
     {
         let (side, s) = seat.at();
@@ -75,7 +83,8 @@ impl<L: RunName, E: Link> Run<L, E> {
         requires name { E.named end % switches L.start ≡ place_of (switches L.start) seat.old.worker }
         requires failed { 0 < E.faults end }
         ensures seat { IsUnmoved seat.old.worker seat.new.worker seat.old.share.parts seat.new.share.parts }
-        ensures answer { RunLoses (switches L.start) (E.named end) seat.old.worker (place_of (switches L.start) seat.old.worker) end self.old self.new result }
+        ensures answer { RunLoses (switches L.start) (E.named end) seat.old.worker
+            (place_of (switches L.start) seat.old.worker) end self.old self.new result }
         ensures back { GivesBack end result }
     {
         let (side, s) = seat.at();
@@ -89,9 +98,11 @@ impl<L: RunName, E: Link> Run<L, E> {
     /// What the worker of this seat, which has no open end, is to do: to stop, to begin a new session, or nothing.
     pub fn shut(&mut self, seat: &Seat<L>) -> Shut<E>
         requires seat { IsWorker (switches L.start) seat.now.worker }
-        ensures named { OnShutNewEnd (λ e. E.named e % switches L.start ≡ place_of (switches L.start) seat.now.worker) result }
+        ensures named { OnShutNewEnd (λ e. E.named e % switches L.start ≡ place_of (switches L.start) seat.now.worker)
+            result }
         ensures fresh { OnShutNewEnd (λ e. IfSome (E.received e) (λ xs. xs ≡ [])) result }
-        ensures answer { Shuts (side_of (switches L.start) seat.now.worker) (place_of (switches L.start) seat.now.worker) self.old self.new result }
+        ensures answer { Shuts (side_of (switches L.start) seat.now.worker)
+            (place_of (switches L.start) seat.now.worker) self.old self.new result }
     {
         let (side, s) = seat.at();
         if self.stops(s) {

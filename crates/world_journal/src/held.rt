@@ -43,7 +43,8 @@ impl<L: RunName, E: Link> Model for Held<L, E> {
 
     ghost view = { λ h. record { world = h.world; journal = h.journal.items; ends = h.ends.items } };
 
-    ghost invariant = { λ h. IsJournal E.named E.faults E.received L.start h.world h.journal.items h.ends.items × (h.book.total ≡ length h.journal.items) };
+    ghost invariant = { λ h. IsJournal E.named E.faults E.received L.start h.world h.journal.items h.ends.items ×
+        (h.book.total ≡ length h.journal.items) };
 }
 
 /// Why a step for which an end is kept was not made. The end comes back.
@@ -153,7 +154,8 @@ impl<L: RunName, E: Link> Held<L, E> {
         requires { seat.old.share.parts ≡ L.parts }
         ensures steps { seat.new.share.amount ≡ length self.new.journal }
         ensures held { self.new ≡ self.old }
-        ensures seat { (seat.new.worker ≡ seat.old.worker) × (seat.new.share.parts ≡ seat.old.share.parts) × (seat.new.share.amount ≡ seat.old.share.amount) }
+        ensures seat { (seat.new.worker ≡ seat.old.worker) × (seat.new.share.parts ≡ seat.old.share.parts) ×
+            (seat.new.share.amount ≡ seat.old.share.amount) }
     {
         self.book.audit(&mut seat.share);
     }

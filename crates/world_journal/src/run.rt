@@ -87,9 +87,23 @@ impl<L: RunName, E: Link> Model for Run<L, E> {
     // a policy holds itself, so its code is named
     ghost coded = { Prim.hlevel (codes, pols.the_row.coded) };
 
-    ghost view = { λ r. record { held = r.held; arrived = r.arrived.items; closed = r.closed; back = r.back; to_waits = r.to_waits.items; back_waits = r.back_waits.items; to_ends = r.to_ends.items; back_ends = r.back_ends.items } };
+    ghost view = { λ r. record {
+      held = r.held;
+      arrived = r.arrived.items;
+      closed = r.closed;
+      back = r.back;
+      to_waits =
+          r.to_waits.items;
+      back_waits = r.back_waits.items;
+      to_ends = r.to_ends.items;
+      back_ends = r.back_ends.items;
+    } };
 
-    ghost invariant = { λ r. (r.lines.items ≡ L.lines) × HaveArrived L.lines r.arrived.items r.held.world.arrivals × (r.left ≡ unmarked r.arrived.items) × (r.laid.parts ≡ r.back) × (r.all ≡ L.all) × (length r.to_waits.items ≡ switches L.start) × (length r.back_waits.items ≡ switches L.start) × HasSessions (switches L.start) E.named E.received r.held.journal r.sessions.items r.to_ends.items r.back_ends.items × HasCounts (switches L.start) r.held.journal r.to_told.items r.back_told.items };
+    ghost invariant = { λ r. (r.lines.items ≡ L.lines) × HaveArrived L.lines r.arrived.items r.held.world.arrivals ×
+        (r.left ≡ unmarked r.arrived.items) × (r.laid.parts ≡ r.back) × (r.all ≡ L.all) ×
+        (length r.to_waits.items ≡ switches L.start) × (length r.back_waits.items ≡ switches L.start) ×
+        HasSessions (switches L.start) E.named E.received r.held.journal r.sessions.items r.to_ends.items
+        r.back_ends.items × HasCounts (switches L.start) r.held.journal r.to_told.items r.back_told.items };
 }
 
 impl<L: RunName, E: Link> Run<L, E> {

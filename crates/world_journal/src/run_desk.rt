@@ -30,9 +30,9 @@ struct Bells {
     others: Condvar,
 }
 
-/// A run beside its pen under their one lock, as its workers share them. Each call locks once, and what it answers under
-/// the lock is stated of one function: for `give` that is `given_of`, and so on (`asks`, `asked_moves`). A worker that is
-/// told there is nothing to do waits, with the lock given up, until a step was made that may have changed this.
+/// A run beside its pen under their one lock, as its workers share them. Each call locks once, and what it answers
+/// under the lock is stated of one function: for `give` that is `given_of`, and so on (`asks`, `asked_moves`). A worker
+/// that is told there is nothing to do waits, with the lock given up, until a step was made that may have changed this.
 pub struct RunDesk<R, L: RunName, P: Poster, E: Link> {
     rt: R,
     alloc: Global,
@@ -158,7 +158,8 @@ impl<R: Wait + Drop, L: RunName, P: Poster, E: Link> RunDesk<R, L, P, E> {
         self.wake_all();
     }
 
-    // Makes further steps of a worker ahead of its calls, up to one that gives no message. Says whether one gave a message.
+    // Makes further steps of a worker ahead of its calls, up to one that gives no message. Says whether one gave a
+    // message.
     fn go_ahead(&self, run: &mut Option<Watched<L, P, E>>, seat: &mut Seat<L>) -> bool
         requires { IsWorker (switches L.start) seat.old.worker }
         ensures { IsUnmoved seat.old.worker seat.new.worker seat.old.share.parts seat.new.share.parts }

@@ -96,7 +96,8 @@ impl<L: RunName> Seat<L> {
     /// A share of the same ledger with no part.
     pub(crate) fn nothing(&mut self) -> Share<L>
         ensures share { (result.parts ≡ 0) × (result.amount ≡ 0) }
-        ensures same { (self.new.worker ≡ self.old.worker) × (self.new.share.parts ≡ self.old.share.parts) × (self.new.share.amount ≡ self.old.share.amount) }
+        ensures same { (self.new.worker ≡ self.old.worker) × (self.new.share.parts ≡ self.old.share.parts) ×
+            (self.new.share.amount ≡ self.old.share.amount) }
     {
         self.share.empty()
     }

@@ -34,8 +34,10 @@ impl<L: RunName, E: Link> Run<L, E> {
     /// The name of the pair over which a switch is to return next, if a name is left.
     pub fn next_name(&self, s: usize) -> Option<u32>
         requires { s < switches L.start }
-        ensures some { IfSome result (λ name. name ≡ name_of (switches L.start) s (session s (events_of self.now.held.journal) + 1)) }
-        ensures none { IfNone result (2 ^ 32 ≤ name_of (switches L.start) s (session s (events_of self.now.held.journal) + 1)) }
+        ensures some { IfSome result
+            (λ name. name ≡ name_of (switches L.start) s (session s (events_of self.now.held.journal) + 1)) }
+        ensures none { IfNone result
+            (2 ^ 32 ≤ name_of (switches L.start) s (session s (events_of self.now.held.journal) + 1)) }
     {
         let number = u64::from(self.sessions[s]) + 1;
         let first = number.checked_mul(self.switch_count() as u64)?;
@@ -115,10 +117,12 @@ impl<L: RunName, E: Link> Run<L, E> {
     ) -> Result<(), StepFault>
         requires maker { IsCaller seat.old.worker }
         requires place { s < switches L.start }
-        requires named { (E.named pair.0 ≡ name_of (switches L.start) s (session s (events_of self.old.held.journal) + 1)) × (E.named pair.1 ≡ E.named pair.0) }
+        requires named { (E.named pair.0 ≡ name_of (switches L.start) s
+            (session s (events_of self.old.held.journal) + 1)) × (E.named pair.1 ≡ E.named pair.0) }
         requires fresh { IsNewPair E.received pair }
         ensures made { OnOk result (Returns seat.old.worker s pair self.old self.new) }
-        ensures refused { result ≡ Err faults.NotEnabled → ¬ IsEnabled self.old.held.world (event.Controller (of_controller.Rejoin s)) }
+        ensures refused { result ≡ Err faults.NotEnabled →
+            ¬ IsEnabled self.old.held.world (event.Controller (of_controller.Rejoin s)) }
         ensures seat { (seat.new.worker ≡ seat.old.worker) × (seat.new.share.parts ≡ seat.old.share.parts) }
         ensures err { OnErr result (self.new ≡ self.old) }
     {

@@ -134,7 +134,8 @@ impl<L: RunName, E: Link> Run<L, E> {
 
 // Whether a switch is to return.
 fn is_missing(world: &World, place: usize) -> bool
-    ensures { IsTrue result ↔ (IsEnabled world.now (event.Controller (of_controller.Rejoin place)) × ¬ IsLast world.now) }
+    ensures { IsTrue result ↔
+        (IsEnabled world.now (event.Controller (of_controller.Rejoin place)) × ¬ IsLast world.now) }
 {
     !is_last(world) && world.enabled(&Event::Controller(ControllerEvent::Rejoin(place)))
 }

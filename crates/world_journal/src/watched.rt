@@ -47,7 +47,8 @@ impl<L: RunName, P: Poster, E: Link> Model for Watched<L, P, E> {
 
     ghost view = { λ w. record { run = w.run; posts = P.posts w.pen } };
 
-    ghost invariant = { λ w. ArePosts L.start (events_of w.run.held.journal) (P.posts w.pen) × (w.run.closed ≡ false → IsPosted (events_of w.run.held.journal) (P.posts w.pen)) };
+    ghost invariant = { λ w. ArePosts L.start (events_of w.run.held.journal) (P.posts w.pen) ×
+        (w.run.closed ≡ false → IsPosted (events_of w.run.held.journal) (P.posts w.pen)) };
 }
 
 impl<L: RunName, P: Poster, E: Link> Watched<L, P, E> {
@@ -87,7 +88,8 @@ pub(crate) fn post_step<L: RunName, P: Poster, E: Link>(run: &mut Run<L, E>, pen
     ensures pen { MayPost run.old (P.posts pen.old) (P.posts pen.new) }
     ensures posts { ArePosts L.start (events_of run.new.held.journal) (P.posts pen.new) }
     ensures posted { run.new.closed ≡ false → IsPosted (events_of run.new.held.journal) (P.posts pen.new) }
-    ensures still { IsPosted (events_of run.old.held.journal) (P.posts pen.old) → (run.new ≡ run.old) × (P.posts pen.new ≡ P.posts pen.old) }
+    ensures still { IsPosted (events_of run.old.held.journal) (P.posts pen.old) → (run.new ≡ run.old) ×
+        (P.posts pen.new ≡ P.posts pen.old) }
 {
     let count = run.journal().len() as u64;
     if pen.newest().count >= count {

@@ -1,7 +1,8 @@
 //! The texts of policies in a document, piece by piece.
 //!
 //! Layer: texts that are read; private. Called by `going`.
-ghost use Rattle.std.specs.Prelude.{◌≡◌, ◌≤◌, ◌<◌, true, false, ℕ, Bool, [], ◌∷◌, ◌++◌, length, OnOk, OnErr, IfOk, vec_len, vec_capacity};
+ghost use Rattle.std.specs.Prelude.{◌≡◌, ◌≤◌, ◌<◌, true, false, ℕ, Bool, [], ◌∷◌, ◌++◌, length, OnOk, OnErr, IfOk};
+ghost use Rattle.std.specs.Prelude.{vec_len, vec_capacity};
 ghost use Rattle.document_text.specs.declared.doc_reader.Spot.TheVariants as spot;
 ghost use Rattle.document_text.specs.Feeding.{Reaches, IsThrough, KeepsLine, KeepsSpot, HandsBack, GivesNothing, left};
 ghost use Rattle.netkat_parser.specs.Readers.{StandsFor};

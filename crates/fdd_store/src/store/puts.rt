@@ -25,7 +25,8 @@ impl Store {
     fn put(&mut self, shape: Shape, digest: Digest) -> Result<Id, AllocError>
         requires below { IsBelow (length self.old.shapes) shape }
         requires made { IsMade (shape_tree (all_trees self.old.shapes) shape) }
-        requires right { IsDigest self.old (length self.old.shapes) (shape_tree (all_trees self.old.shapes) shape) digest }
+        requires right { IsDigest self.old (length self.old.shapes) (shape_tree (all_trees self.old.shapes) shape)
+            digest }
         ensures grows { Grows self.old self.new }
         ensures place { IfOk result (λ i. Gives self.new i (λ t. t ≡ shape_tree (all_trees self.old.shapes) shape)) }
         ensures err { OnErr result (self.new ≡ self.old) }
@@ -76,7 +77,8 @@ impl Store {
         requires has_else { Has self.old e }
         requires made { IsMade (trees.Node l (tree_at self.old t) (tree_at self.old e)) }
         ensures grows { Grows self.old self.new }
-        ensures place { IfOk result (λ i. Gives self.new i (λ x. x ≡ trees.Node l (tree_at self.old t) (tree_at self.old e))) }
+        ensures place { IfOk result
+            (λ i. Gives self.new i (λ x. x ≡ trees.Node l (tree_at self.old t) (tree_at self.old e))) }
         ensures err { OnErr result (self.new ≡ self.old) }
     {
         let digest = self.digest_of(l, t, e);
@@ -88,7 +90,8 @@ impl Store {
     fn digest_of(&self, l: Lit, t: Id, e: Id) -> Digest
         requires has_then { Has self.now t }
         requires has_else { Has self.now e }
-        ensures { IsDigest self.now (length self.now.shapes) (trees.Node l (tree_at self.now t) (tree_at self.now e)) result }
+        ensures { IsDigest self.now (length self.now.shapes) (trees.Node l (tree_at self.now t) (tree_at self.now e))
+            result }
     {
         let (yes, no) = (self.digest(t), self.digest(e));
         Digest {

@@ -63,7 +63,8 @@ fn queue_of(
     queues: &mut Vec<Queue>,
     switch: u64,
 ) -> Result<usize, AllocError>
-    ensures kept { (marks : List MarkValue) (next : ℕ) → IsKept (get nat_eq places.old) queues.old.items marks next → IsKept (get nat_eq places.new) queues.new.items marks next }
+    ensures kept { (marks : List MarkValue) (next : ℕ) → IsKept (get nat_eq places.old) queues.old.items marks next →
+        IsKept (get nat_eq places.new) queues.new.items marks next }
     ensures same { (place : ℕ) → queue_at queues.new.items place ≡ queue_at queues.old.items place }
     ensures found { IfOk result (λ place. get nat_eq places.new switch ≡ Some place) }
 {
@@ -82,7 +83,8 @@ fn free_number(queues: &mut Vec<Queue>, marks: &mut VecDeque<Mark>, next: u64) -
     requires { AreMarked queues.old.items marks.old.items next }
     ensures marked { AreMarked queues.new.items marks.new.items result }
     ensures merged { merged queues.new.items marks.new.items ≡ merged queues.old.items marks.old.items }
-    ensures flights { (place : ℕ) → flights_of (queue_at queues.new.items place) ≡ flights_of (queue_at queues.old.items place) }
+    ensures flights { (place : ℕ) →
+        flights_of (queue_at queues.new.items place) ≡ flights_of (queue_at queues.old.items place) }
     ensures count { length queues.new.items ≡ length queues.old.items }
 {
     if next < u64::MAX {
@@ -96,7 +98,8 @@ fn number_anew(queues: &mut Vec<Queue>, marks: &mut VecDeque<Mark>) -> u64
     requires { AreMarked queues.old.items marks.old.items (2 ^ 64) }
     ensures marked { AreMarked queues.new.items marks.new.items result }
     ensures merged { merged queues.new.items marks.new.items ≡ merged queues.old.items marks.old.items }
-    ensures flights { (place : ℕ) → flights_of (queue_at queues.new.items place) ≡ flights_of (queue_at queues.old.items place) }
+    ensures flights { (place : ℕ) →
+        flights_of (queue_at queues.new.items place) ≡ flights_of (queue_at queues.old.items place) }
     ensures count { length queues.new.items ≡ length queues.old.items }
 {
     for place in 0..marks.len() {

@@ -19,7 +19,8 @@ impl Table {
     pub(super) fn add(&mut self, alloc: Global, change: &mut FlowMod) -> Result<(), ChangeError>
         ensures ok { OnOk result (AreAfter (IsKept self.old.rows (row_of change.old)) self.new.rows) }
         ensures capacity { self.new.capacity ≡ self.old.capacity }
-        ensures full { (result ≡ Err (Fault ChangeFault.Full)) ↔ ((self.old.capacity ≤ length self.old.rows) × IsNew self.old.rows change.old.pattern change.old.priority) }
+        ensures full { (result ≡ Err (Fault ChangeFault.Full)) ↔
+            ((self.old.capacity ≤ length self.old.rows) × IsNew self.old.rows change.old.pattern change.old.priority) }
         ensures err { OnErr result ((self.new ≡ self.old) × (change.new ≡ change.old)) }
     {
         let pattern = &change.pattern;

@@ -66,7 +66,8 @@ impl Reading {
     // Ends a `not` with its operand.
     fn end_not(&mut self, alloc: Global, pol: Pol, atom: bool, was: bool) -> Result<bool, Halt>
         requires { vec_len self.old.levels < vec_capacity self.old.levels }
-        ensures { (g : Sign) → (atom ≡ true → g ≢ to_sign.Star) → Moves (within self.old (stage.Behind pol atom) (level.Not was)) g (view_of self.new) result }
+        ensures { (g : Sign) → (atom ≡ true → g ≢ to_sign.Star) →
+            Moves (within self.old (stage.Behind pol atom) (level.Not was)) g (view_of self.new) result }
     {
         match Box::new(alloc, pred_of(pol)) {
             Ok(pred) => {

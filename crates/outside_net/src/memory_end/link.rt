@@ -25,9 +25,11 @@ enum Delivery {
 impl<R: Wait + Drop> MemoryEnd<R> {
     ghost use Rattle.std.specs.Prelude.{IsTrue, IsSome, false};
     ghost use Rattle.outside_net.specs.Troubles.{Spoils};
-    ghost use Rattle.outside_net.specs.Memory.{end_call, end_effect, end_failed, end_faults, end_full, end_met, CallIsListed, IsSameEnd};
+    ghost use Rattle.outside_net.specs.Memory.{end_call, end_effect, end_failed, end_faults, end_full, end_met};
+    ghost use Rattle.outside_net.specs.Memory.{CallIsListed, IsSameEnd};
 
-    // Takes bytes of those on their way. There are none where the pipe is closed, or for an end that was met if none came.
+    // Takes bytes of those on their way. There are none where the pipe is closed, or for an end that was met if none
+    // came.
     fn take(&self, place: &mut [u8]) -> Option<usize>
         ensures within { IfSome result (λ n. n ≤ length place.new) }
         ensures pair { end_met self.now ≡ false → IsSome result }
@@ -97,7 +99,8 @@ impl<R: Wait + Drop> Link for MemoryEnd<R> {
     ghost use Rattle.outside_io.specs.Lists.{AppendsPrefix};
     ghost use Rattle.outside_net.specs.Causes.{LinkCause};
     ghost use Rattle.outside_net.specs.Told.{Grows};
-    ghost use Rattle.outside_net.specs.Memory.{end_failed, end_failing, end_faults, end_met, end_name, end_received, end_sent, CallIsListed, HasByteRoom, SendIsToFail};
+    ghost use Rattle.outside_net.specs.Memory.{end_failed, end_failing, end_faults, end_met, end_name, end_received};
+    ghost use Rattle.outside_net.specs.Memory.{end_sent, CallIsListed, HasByteRoom, SendIsToFail};
 
     ghost named = { λ e. e.name };
 
@@ -126,7 +129,8 @@ impl<R: Wait + Drop> Link for MemoryEnd<R> {
         self.out.make_room(&self.rt, bytes)
     }
 
-    // An end of a pair that is open and has room fails exactly if the call is listed, the send is, or the pipe has no room.
+    // An end of a pair that is open and has room fails exactly if the call is listed, the send is, or the pipe has no
+    // room.
     fn send(&mut self, bytes: &[u8]) -> Result<(), LinkFault>
         ensures ok { OnOk result (Appends (Some (end_sent self.old)) (Some (end_sent self.new)) bytes.now) }
         ensures err { OnErr result (AppendsPrefix (Some (end_sent self.old)) (Some (end_sent self.new)) bytes.now) }
@@ -134,7 +138,8 @@ impl<R: Wait + Drop> Link for MemoryEnd<R> {
         ensures named { end_name self.new ≡ end_name self.old }
         ensures cause { LinkCause (end_faults self.old) (end_faults self.new) result }
         ensures listed { end_failed self.old ≡ false → SendIsToFail self.new → result ≡ Err LinkFault.Failed }
-        ensures fails { end_failed self.old ≡ false → end_met self.old ≡ false → HasByteRoom self.old (length bytes.now) → result ≡ Err LinkFault.Failed → SendIsToFail self.new }
+        ensures fails { end_failed self.old ≡ false → end_met self.old ≡ false →
+            HasByteRoom self.old (length bytes.now) → result ≡ Err LinkFault.Failed → SendIsToFail self.new }
         ensures closed { end_failed self.old ≡ true → end_met self.old ≡ false → result ≡ Err LinkFault.Closed }
         ensures shut { result ≡ Err LinkFault.Failed → end_failed self.new ≡ true }
         ensures open { result ≢ Err LinkFault.Failed → end_failed self.new ≡ end_failed self.old }
@@ -167,13 +172,15 @@ impl<R: Wait + Drop> Link for MemoryEnd<R> {
     // An end of a pair that is open and has room fails exactly if the call is listed.
     fn recv(&mut self, place: &mut [u8]) -> Result<usize, LinkFault>
         ensures within { IfOk result (λ n. n ≤ length place.new) }
-        ensures ok { IfOk result (λ n. Grows (Some (end_received self.old)) (Some (end_received self.new)) (take n place.new)) }
+        ensures ok { IfOk result
+            (λ n. Grows (Some (end_received self.old)) (Some (end_received self.new)) (take n place.new)) }
         ensures err { OnErr result (Some (end_received self.new) ≡ Some (end_received self.old)) }
         ensures sent { Some (end_sent self.new) ≡ Some (end_sent self.old) }
         ensures named { end_name self.new ≡ end_name self.old }
         ensures cause { LinkCause (end_faults self.old) (end_faults self.new) result }
         ensures listed { end_failed self.old ≡ false → CallIsListed self.new → result ≡ Err LinkFault.Failed }
-        ensures fails { end_failed self.old ≡ false → end_met self.old ≡ false → HasByteRoom self.old (length place.old) → result ≡ Err LinkFault.Failed → CallIsListed self.new }
+        ensures fails { end_failed self.old ≡ false → end_met self.old ≡ false →
+            HasByteRoom self.old (length place.old) → result ≡ Err LinkFault.Failed → CallIsListed self.new }
         ensures closed { end_failed self.old ≡ true → end_met self.old ≡ false → result ≡ Err LinkFault.Closed }
         ensures shut { result ≡ Err LinkFault.Failed → end_failed self.new ≡ true }
         ensures open { result ≢ Err LinkFault.Failed → end_failed self.new ≡ end_failed self.old }

@@ -3,7 +3,8 @@
 //! Layer: the program; public. Called by `causes` here, and by drive_text.
 ghost use Rattle.std.specs.Prelude.{◌≡◌, ◌++◌, ◌-◌, OnOk, option_map, string_bytes};
 ghost use Rattle.value_text.specs.Values.{line};
-ghost use Rattle.report_text.specs.Causes.{bytes_text, front_text, failure_text, fault_number, switch_cause, cause_text, halt_text};
+ghost use Rattle.report_text.specs.Causes.{bytes_text, front_text, failure_text, fault_number, switch_cause};
+ghost use Rattle.report_text.specs.Causes.{cause_text, halt_text};
 
 use crate::events::side_text;
 use openflow_wire::{Octets, WireFault};
@@ -18,7 +19,8 @@ pub(super) fn put_halt(
     out: &mut String,
     halt: Option<&Cause>,
 ) -> Result<(), AllocError>
-    ensures { OnOk result (string_bytes out.new ≡ string_bytes out.old ++ halt_text (option_map (λ c. c.now) halt.entry)) }
+    ensures { OnOk result (string_bytes out.new ≡ string_bytes out.old ++ halt_text
+        (option_map (λ c. c.now) halt.entry)) }
 {
     match halt {
         None => Ok(()),
@@ -86,7 +88,8 @@ fn put_foreign(
     expected: &Option<Octets>,
     got: &Octets,
 ) -> Result<(), AllocError>
-    ensures { OnOk result (string_bytes out.new ≡ string_bytes out.old ++ cause_text (Cause.Foreign sw side expected.now got.now)) }
+    ensures { OnOk result (string_bytes out.new ≡ string_bytes out.old ++ cause_text
+        (Cause.Foreign sw side expected.now got.now)) }
 {
     let receiver = side_text(side);
     write!(out, "switch {sw} foreign {receiver} ")?;

@@ -38,8 +38,8 @@ impl Switch {
         }
     }
 
-    /// Applies the flow mod at a place among those that are pending, and takes it from there. `Full` tells that it finds
-    /// the table full: then `refuse` answers it. After an `Err` the switch is as it was.
+    /// Applies the flow mod at a place among those that are pending, and takes it from there. `Full` tells that it
+    /// finds the table full: then `refuse` answers it. After an `Err` the switch is as it was.
     pub fn change(&mut self, alloc: Global, place: usize) -> Result<(), ChangeError>
         requires { place < length self.old.pending }
         ensures ok { OnOk result (IsApplied place self.old self.new None) }
@@ -53,8 +53,8 @@ impl Switch {
         Ok(())
     }
 
-    /// Takes the flow mod at a place from there, which finds the table full, and gives the error that tells so. After an
-    /// `Err` the switch is as it was.
+    /// Takes the flow mod at a place from there, which finds the table full, and gives the error that tells so. After
+    /// an `Err` the switch is as it was.
     pub fn refuse(&mut self, alloc: Global, at: usize) -> Result<Message, AllocError>
         requires { FindsFull at self.old }
         ensures ok { IfOk result (λ answer. IsApplied at self.old self.new (Some answer)) }

@@ -2,7 +2,8 @@
 //!
 //! Layer: values and policies; private. Called by `draft`.
 ghost use Rattle.std.specs.Prelude.{◌≡◌, ◌&&◌, IsTrue, IfOk, IfErr, OnOk, OnErr, Option, Some, None};
-ghost use Rattle.std.specs.Prelude.{ℕ, ◌<◌, ◌≤◌, ◌+◌, ◌==◌, length, nat_eq, vec_len, vec_capacity, if◌then◌else◌, IsTrue, is_some};
+ghost use Rattle.std.specs.Prelude.{ℕ, ◌<◌, ◌≤◌, ◌+◌, ◌==◌, length, nat_eq, vec_len, vec_capacity, if◌then◌else◌};
+ghost use Rattle.std.specs.Prelude.{IsTrue, is_some};
 ghost use Rattle.std.specs.List.{list_any};
 ghost use Rattle.std.specs.HashMap.{get, spare};
 ghost use Rattle.topology_model.specs.Ends.{entry, same_end};
@@ -107,7 +108,9 @@ fn put_place(places: &mut HashMap<u16, usize>, sw: u16, place: usize)
 // Puts the ports of a switch, with no link. There is room for them.
 fn put_edges(far_ends: &mut HashMap<PortRef, Option<PortRef>>, sw: u16, ports: &[u16])
     requires { length ports.now ≤ spare far_ends.old }
-    ensures { (e : ℕ × ℕ) → entry far_ends.new e ≡ (if sw == e.0 && list_any (λ n. n == e.1) ports.now then Some None else entry far_ends.old e) }
+    ensures { (e : ℕ × ℕ) →
+        entry far_ends.new e ≡ (if sw ==
+        e.0 && list_any (λ n. n == e.1) ports.now then Some None else entry far_ends.old e) }
 {
     for port in ports {
         put_edge(far_ends, (sw, *port));

@@ -54,7 +54,8 @@ pub(super) fn put_round(
     round: usize,
 ) -> Result<(), AllocError>
     requires { 1 ≤ round }
-    ensures { OnOk result (batch.new ≡ batch.old ++ map (mod_of adds) (round_rows adds round band (map (λ p. p.now) ports.now))) }
+    ensures { OnOk result (batch.new ≡ batch.old ++ map (mod_of adds)
+        (round_rows adds round band (map (λ p. p.now) ports.now))) }
 {
     for port in ports {
         let rows = by_rounds(band, port.kind, port.rows.as_slice());
@@ -73,7 +74,8 @@ fn put_rows(batch: &mut Batch, adds: bool, rows: &[Row]) -> Result<(), AllocErro
 }
 
 fn put_row(batch: &mut Batch, adds: bool, row: Option<&Row>) -> Result<(), AllocError>
-    ensures { OnOk result (batch.new ≡ batch.old ++ map (mod_of adds) (option_to_list (option_map (λ r. r.now) row.entry))) }
+    ensures { OnOk result (batch.new ≡ batch.old ++ map (mod_of adds)
+        (option_to_list (option_map (λ r. r.now) row.entry))) }
 {
     if let Some(row) = row {
         batch.push(mod_of(adds, row)?)?;

@@ -2,7 +2,8 @@
 //!
 //! Layer: the program; private. Called by `rules`.
 ghost use Rattle.std.specs.Prelude.{◌≡◌, ◌++◌, OnOk, string_bytes};
-ghost use Rattle.value_text.specs.Rules.{in_text, vlan_text, fixed_text, address_of, frame_text, network_text, pattern_text};
+ghost use Rattle.value_text.specs.Rules.{in_text, vlan_text, fixed_text, address_of, frame_text, network_text};
+ghost use Rattle.value_text.specs.Rules.{pattern_text};
 
 use crate::numbers::put_number;
 use crate::values::{put_ascii, put_field};

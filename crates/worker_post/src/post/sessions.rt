@@ -45,8 +45,10 @@ impl<'a, D: Desk, G: Gate> Post<'a, D, G> {
         requires fresh { IfSome (D.End.received end) (λ xs. xs ≡ []) }
         ensures seat { D.seated seat.new × (D.place seat.new ≡ D.place seat.old) }
         ensures anew { OnNew (IsNew D.place_of D.End.named D.End.received (D.place seat.old)) result }
-        ensures worked { Serves D.End.sent D.End.received (D.kept seat.new) (D.given seat.old) (D.told seat.old) (D.End.sent end) (D.End.received end) (D.given seat.new) (D.told seat.new) result }
-        ensures noted { Notes (Unit {0}) D.End.faults (D.kept seat.new) (D.End.named end) (D.End.faults end) (D.notices seat.old) (D.notices seat.new) result }
+        ensures worked { Serves D.End.sent D.End.received (D.kept seat.new) (D.given seat.old) (D.told seat.old)
+            (D.End.sent end) (D.End.received end) (D.given seat.new) (D.told seat.new) result }
+        ensures noted { Notes (Unit {0}) D.End.faults (D.kept seat.new) (D.End.named end) (D.End.faults end)
+            (D.notices seat.old) (D.notices seat.new) result }
     {
         let mut end = end;
         let mut inbox = Inbox {
@@ -71,8 +73,11 @@ impl<'a, D: Desk, G: Gate> Post<'a, D, G> {
         requires seat { D.seated seat.old × (D.place_of (D.End.named end) ≡ D.place seat.old) }
         requires fresh { IfSome (D.End.received end) (λ xs. xs ≡ []) }
         ensures seat { D.seated seat.new × (D.place seat.new ≡ D.place seat.old) }
-        ensures worked { IfSome (last_end result.end (D.kept seat.new)) (λ e. IsEnd (D.given seat.old) (D.told seat.old) (D.End.sent end) (D.End.received end) (D.given seat.new) (D.told seat.new) (D.End.sent e) (D.End.received e)) }
-        ensures noted { IsNotedOf D.End.faults (last_end result.end (D.kept seat.new)) (D.End.named end) (D.End.faults end) (D.notices seat.old) (D.notices seat.new) }
+        ensures worked { IfSome (last_end result.end (D.kept seat.new))
+            (λ e. IsEnd (D.given seat.old) (D.told seat.old) (D.End.sent end) (D.End.received end) (D.given seat.new)
+            (D.told seat.new) (D.End.sent e) (D.End.received e)) }
+        ensures noted { IsNotedOf D.End.faults (last_end result.end (D.kept seat.new)) (D.End.named end)
+            (D.End.faults end) (D.notices seat.old) (D.notices seat.new) }
         ensures anew { IfSome result.next (IsNew D.place_of D.End.named D.End.received (D.place seat.old)) }
     {
         match self.serve(rt, seat, end) {
@@ -105,13 +110,16 @@ impl<'a, D: Desk, G: Gate> Post<'a, D, G> {
 
     /// Works until it is to stop, one session after the other, each over an end of its own. An end that was not kept
     /// comes back. Over the end of each session went exactly the encodings of the messages that the desk gave in it, in
-    /// order, the last perhaps in part. What was told in it is, in order, a prefix of the stream that this end received. Of an
-    /// end that was kept this is so if the desk tells it. That the end failed was told exactly if a call on it failed, once.
+    /// order, the last perhaps in part. What was told in it is, in order, a prefix of the stream that this end
+    /// received. Of an end that was kept this is so if the desk tells it. That the end failed was told exactly if a
+    /// call on it failed, once.
     pub fn work<R: Wait>(&self, rt: &R, seat: &mut D::Seat, end: D::End) -> Option<D::End>
         requires seat { D.seated seat.old × (D.place_of (D.End.named end) ≡ D.place seat.old) }
         requires fresh { IfSome (D.End.received end) (λ xs. xs ≡ []) }
         ensures seat { D.seated seat.new × (D.place seat.new ≡ D.place seat.old) }
-        ensures worked { HasWorked D.End.sent D.End.received D.End.named D.End.faults end (D.kept seat.new) (D.given seat.old) (D.told seat.old) (D.notices seat.old) (D.given seat.new) (D.told seat.new) (D.notices seat.new) result }
+        ensures worked { HasWorked D.End.sent D.End.received D.End.named D.End.faults end (D.kept seat.new)
+            (D.given seat.old) (D.told seat.old) (D.notices seat.old) (D.given seat.new) (D.told seat.new)
+            (D.notices seat.new) result }
     {
         let mut end = end;
         for _ in rt.forever() {

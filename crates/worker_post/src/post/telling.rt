@@ -9,7 +9,8 @@ ghost use Rattle.worker_desk.specs.Answers.{grown};
 ghost use Rattle.worker_post.specs.Working.{Continues, IsFollowing, TellsStream};
 ghost use Rattle.worker_post.specs.Noting.{NextNotes, Notes};
 ghost use Rattle.worker_post.specs.Sessions.{IsNew};
-ghost use Rattle.worker_post.specs.Turns.{EndIs, GoesOn, GoesOnWith, HasEnd, NextGoesOn, NextHasEnd, NextOnNew, OnNew, ToldTurn};
+ghost use Rattle.worker_post.specs.Turns.{EndIs, GoesOn, GoesOnWith, HasEnd, NextGoesOn, NextHasEnd, NextOnNew, OnNew};
+ghost use Rattle.worker_post.specs.Turns.{ToldTurn};
 
 use super::{Inbox, Post, RoundEnd};
 use crate::messages::{Transfer, receive};
@@ -36,12 +37,15 @@ impl<'a, D: Desk, G: Gate> Post<'a, D, G> {
         requires following { IsFollowing (D.End.received end) inbox.old.framer inbox.old.told }
         ensures seat { D.seated seat.new × (D.place seat.new ≡ D.place seat.old) }
         ensures given { D.given seat.new ≡ D.given seat.old }
-        ensures sent { EndIs (λ e. (D.End.sent e ≡ D.End.sent end) × (D.End.named e ≡ D.End.named end)) (D.kept seat.new) result }
+        ensures sent { EndIs (λ e. (D.End.sent e ≡ D.End.sent end) × (D.End.named e ≡ D.End.named end))
+            (D.kept seat.new) result }
         ensures following { GoesOnWith (λ e. IsFollowing (D.End.received e) inbox.new.framer inbox.new.told) result }
-        ensures told { (t0 : Option (List (List ℕ))) (r0 : Option (List ℕ)) → Continues t0 (D.told seat.old) r0 (D.End.received end) inbox.old.framer inbox.old.told
+        ensures told { (t0 : Option (List (List ℕ))) (r0 : Option (List ℕ)) →
+            Continues t0 (D.told seat.old) r0 (D.End.received end) inbox.old.framer inbox.old.told
             → ToldTurn D.End.received (D.kept seat.new) t0 r0 (D.told seat.new) inbox.new.framer inbox.new.told result }
         ensures anew { OnNew (IsNew D.place_of D.End.named D.End.received (D.place seat.old)) result }
-        ensures noted { Notes ⊥ D.End.faults (D.kept seat.new) (D.End.named end) (D.End.faults end) (D.notices seat.old) (D.notices seat.new) result }
+        ensures noted { Notes ⊥ D.End.faults (D.kept seat.new) (D.End.named end) (D.End.faults end)
+            (D.notices seat.old) (D.notices seat.new) result }
     {
         match self.tell_next(seat, end, inbox) {
             Delivery::Told(after) => after,
@@ -55,12 +59,15 @@ impl<'a, D: Desk, G: Gate> Post<'a, D, G> {
         requires following { IsFollowing (D.End.received end) inbox.old.framer inbox.old.told }
         ensures seat { D.seated seat.new × (D.place seat.new ≡ D.place seat.old) }
         ensures given { D.given seat.new ≡ D.given seat.old }
-        ensures sent { EndIs (λ e. (D.End.sent e ≡ D.End.sent end) × (D.End.named e ≡ D.End.named end)) (D.kept seat.new) result }
+        ensures sent { EndIs (λ e. (D.End.sent e ≡ D.End.sent end) × (D.End.named e ≡ D.End.named end))
+            (D.kept seat.new) result }
         ensures following { GoesOnWith (λ e. IsFollowing (D.End.received e) inbox.new.framer inbox.new.told) result }
-        ensures told { (t0 : Option (List (List ℕ))) (r0 : Option (List ℕ)) → Continues t0 (D.told seat.old) r0 (D.End.received end) inbox.old.framer inbox.old.told
+        ensures told { (t0 : Option (List (List ℕ))) (r0 : Option (List ℕ)) →
+            Continues t0 (D.told seat.old) r0 (D.End.received end) inbox.old.framer inbox.old.told
             → ToldTurn D.End.received (D.kept seat.new) t0 r0 (D.told seat.new) inbox.new.framer inbox.new.told result }
         ensures anew { OnNew (IsNew D.place_of D.End.named D.End.received (D.place seat.old)) result }
-        ensures noted { Notes ⊥ D.End.faults (D.kept seat.new) (D.End.named end) (D.End.faults end) (D.notices seat.old) (D.notices seat.new) result }
+        ensures noted { Notes ⊥ D.End.faults (D.kept seat.new) (D.End.named end) (D.End.faults end)
+            (D.notices seat.old) (D.notices seat.new) result }
     {
         let mut end = end;
         match receive(&mut end, &mut inbox.framer) {
@@ -86,12 +93,17 @@ impl<'a, D: Desk, G: Gate> Post<'a, D, G> {
         ensures given { D.given seat.new ≡ D.given seat.old }
         ensures same { NextHasEnd end (D.kept seat.new) result }
         ensures anew { NextOnNew (IsNew D.place_of D.End.named D.End.received (D.place seat.old)) result }
-        ensures following { NextGoesOn result (IsFollowing (D.End.received end) inbox.new.framer inbox.new.told) (Unit {0}) }
-        ensures told { (t0 : Option (List (List ℕ))) (r0 : Option (List ℕ)) → Continues t0 (D.told seat.old) r0 (D.End.received end) inbox.old.framer inbox.old.told
-            → NextGoesOn result (Continues t0 (D.told seat.new) r0 (D.End.received end) inbox.new.framer inbox.new.told) (Tells t0 (D.told seat.new) r0 (D.End.received end)) }
-        ensures noted { NextNotes D.End.faults (D.kept seat.new) (D.End.named end) (D.End.faults end) (D.notices seat.old) (D.notices seat.new) result }
+        ensures following { NextGoesOn result (IsFollowing (D.End.received end) inbox.new.framer inbox.new.told)
+            (Unit {0}) }
+        ensures told { (t0 : Option (List (List ℕ))) (r0 : Option (List ℕ)) →
+            Continues t0 (D.told seat.old) r0 (D.End.received end) inbox.old.framer inbox.old.told
+            → NextGoesOn result (Continues t0 (D.told seat.new) r0 (D.End.received end) inbox.new.framer
+            inbox.new.told) (TellsStream t0 (D.told seat.new) r0 (D.End.received end)) }
+        ensures noted { NextNotes D.End.faults (D.kept seat.new) (D.End.named end) (D.End.faults end)
+            (D.notices seat.old) (D.notices seat.new) result }
         // A fault is told, whatever memory there is.
-        ensures fault { (f : WireFault) → inbox.old.told < 2 ^ 64 - 1 → IsFault inbox.old.framer f → D.told seat.new ≡ grown (D.told seat.old) (inbox.old.framer ∷ []) }
+        ensures fault { (f : WireFault) → inbox.old.told < 2 ^ 64 - 1 → IsFault inbox.old.framer f →
+            D.told seat.new ≡ grown (D.told seat.old) (inbox.old.framer ∷ []) }
     {
         if inbox.told == u64::MAX {
             self.desk.close(seat);
@@ -120,10 +132,14 @@ impl<'a, D: Desk, G: Gate> Post<'a, D, G> {
         ensures given { D.given seat.new ≡ D.given seat.old }
         ensures same { HasEnd end (D.kept seat.new) result }
         ensures anew { OnNew (IsNew D.place_of D.End.named D.End.received (D.place seat.old)) result }
-        ensures following { GoesOn result (IsFollowing (D.End.received end) inbox.new.framer inbox.new.told) (Unit {0}) }
-        ensures told { (t0 : Option (List (List ℕ))) (r0 : Option (List ℕ)) → Continues t0 (D.told seat.old) r0 (D.End.received end) inbox.old.framer inbox.old.told
-            → GoesOn result (Continues t0 (D.told seat.new) r0 (D.End.received end) inbox.new.framer inbox.new.told) (Tells t0 (D.told seat.new) r0 (D.End.received end)) }
-        ensures noted { Notes ⊥ D.End.faults (D.kept seat.new) (D.End.named end) (D.End.faults end) (D.notices seat.old) (D.notices seat.new) result }
+        ensures following { GoesOn result (IsFollowing (D.End.received end) inbox.new.framer inbox.new.told)
+            (Unit {0}) }
+        ensures told { (t0 : Option (List (List ℕ))) (r0 : Option (List ℕ)) →
+            Continues t0 (D.told seat.old) r0 (D.End.received end) inbox.old.framer inbox.old.told
+            → GoesOn result (Continues t0 (D.told seat.new) r0 (D.End.received end) inbox.new.framer inbox.new.told)
+            (TellsStream t0 (D.told seat.new) r0 (D.End.received end)) }
+        ensures noted { Notes ⊥ D.End.faults (D.kept seat.new) (D.End.named end) (D.End.faults end)
+            (D.notices seat.old) (D.notices seat.new) result }
     {
         let (message, _) = inbox.framer.held().split_at(len);
         match self.desk.tell(seat, message, end, inbox.told) {
@@ -150,10 +166,14 @@ impl<'a, D: Desk, G: Gate> Post<'a, D, G> {
         ensures given { D.given seat.new ≡ D.given seat.old }
         ensures same { HasEnd end (D.kept seat.new) result }
         ensures anew { OnNew (IsNew D.place_of D.End.named D.End.received (D.place seat.old)) result }
-        ensures following { GoesOn result (IsFollowing (D.End.received end) inbox.now.framer inbox.now.told) (Unit {0}) }
-        ensures told { (t0 : Option (List (List ℕ))) (r0 : Option (List ℕ)) → Continues t0 (D.told seat.old) r0 (D.End.received end) inbox.now.framer inbox.now.told
-            → GoesOn result (Continues t0 (D.told seat.new) r0 (D.End.received end) inbox.now.framer inbox.now.told) (Tells t0 (D.told seat.new) r0 (D.End.received end)) }
-        ensures noted { Notes ⊥ D.End.faults (D.kept seat.new) (D.End.named end) (D.End.faults end) (D.notices seat.old) (D.notices seat.new) result }
+        ensures following { GoesOn result (IsFollowing (D.End.received end) inbox.now.framer inbox.now.told)
+            (Unit {0}) }
+        ensures told { (t0 : Option (List (List ℕ))) (r0 : Option (List ℕ)) →
+            Continues t0 (D.told seat.old) r0 (D.End.received end) inbox.now.framer inbox.now.told
+            → GoesOn result (Continues t0 (D.told seat.new) r0 (D.End.received end) inbox.now.framer inbox.now.told)
+            (TellsStream t0 (D.told seat.new) r0 (D.End.received end)) }
+        ensures noted { Notes ⊥ D.End.faults (D.kept seat.new) (D.End.named end) (D.End.faults end)
+            (D.notices seat.old) (D.notices seat.new) result }
         ensures fault { D.told seat.new ≡ grown (D.told seat.old) (inbox.now.framer ∷ []) }
     {
         match self.desk.tell(seat, inbox.framer.held(), end, inbox.told) {

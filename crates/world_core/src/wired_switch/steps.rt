@@ -11,7 +11,8 @@ use update_coordinator::{Coordinator, Move};
 
 impl WiredSwitch {
     ghost use Rattle.update_coordinator.specs.Sending.{MaySend};
-    ghost use Rattle.world_core.specs.Ends.{channel, IsTaken, IsAppliedAt, IsSentTo, IsAnswering, IsHeardFrom, HasSession, MayRejoin, IsBackAt, left};
+    ghost use Rattle.world_core.specs.Ends.{channel, IsTaken, IsAppliedAt, IsSentTo, IsAnswering, IsHeardFrom};
+    ghost use Rattle.world_core.specs.Ends.{HasSession, MayRejoin, IsBackAt, left};
 
     /// The coordinator's next message goes into the channel.
     pub(crate) fn send(

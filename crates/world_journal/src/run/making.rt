@@ -29,9 +29,12 @@ impl<L: RunName, E: Link> Run<L, E> {
         requires all { all ≡ L.all }
         ensures held { IfSome result (λ r. r.held ≡ held) }
         ensures back { IfSome result (λ r. (r.back ≡ 0) × (r.closed ≡ false)) }
-        ensures waits { IfSome result (λ r. (r.to_waits ≡ replicate (switches L.start) false) × (r.back_waits ≡ replicate (switches L.start) true)) }
+        ensures waits { IfSome result
+            (λ r. (r.to_waits ≡ replicate (switches L.start) false) ×
+            (r.back_waits ≡ replicate (switches L.start) true)) }
         ensures arrived { IfSome result (λ r. r.arrived ≡ replicate (length L.lines) false) }
-        ensures seat { (seat.new.worker ≡ seat.old.worker) × (seat.new.share.parts ≡ seat.old.share.parts) × (seat.new.share.amount ≡ seat.old.share.amount) }
+        ensures seat { (seat.new.worker ≡ seat.old.worker) × (seat.new.share.parts ≡ seat.old.share.parts) ×
+            (seat.new.share.amount ≡ seat.old.share.amount) }
     {
         let left = lines.len();
         let count = held.switch_count();

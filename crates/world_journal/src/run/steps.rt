@@ -15,7 +15,8 @@ use std::alloc::Global;
 use world_core::{Event, StepFault};
 
 impl<L: RunName, E: Link> Run<L, E> {
-    ghost use Rattle.std.specs.Prelude.{◌<◌, ◌≤◌, ◌+◌, false, true, OnOk, OnErr, Err, IfErr, IfSome, IfNone, length, None, Some, slice_get};
+    ghost use Rattle.std.specs.Prelude.{◌<◌, ◌≤◌, ◌+◌, false, true, OnOk, OnErr, Err, IfErr, IfSome, IfNone, length};
+    ghost use Rattle.std.specs.Prelude.{None, Some, slice_get};
     ghost use Rattle.world_core.specs.Steps.{IsEnabled};
     ghost use Rattle.world_core.specs.declared.event.Event.TheVariants as event;
     ghost use Rattle.world_core.specs.declared.fault.StepFault.TheVariants as faults;

@@ -6,7 +6,7 @@ use Rattle.policy_rows.specs.declared.version.Version.{Version}
 use Rattle.policy_rows.specs.Means.{RowsMean}
 use Rattle.program_answer.specs.Input.{policies_of}
 use Rattle.program_answer.proofs.Lists.{same_count, version_at}
-use Rattle.report_text.specs.Traces.{Adds, AreTexts}
+use Rattle.report_text.specs.Traces.{AddsText, AreTexts}
 use Rattle.value_text.proofs.TextLaws.{IsFront, no_text, next_text, last_text, whole_text}
 use Rattle.plain_commands.specs.Trace.{IsTracedPolicyText}
 use Rattle.plain_commands.proofs.trace.traces.Goals as goal
@@ -14,7 +14,7 @@ use Rattle.plain_commands.proofs.trace.traces.Goals as goal
 pub loop-before-init : goal.loop-before-init
 loop-before-init c =
     let d = c.args.document.now in
-    subst (λ text. Adds (IsFront (IsTracedPolicyText (doc_of d)) (policies_of d) (policies_of d) 0) [] text) (sym c.new-out.ensures.bytes)
+    subst (λ text. AddsText (IsFront (IsTracedPolicyText (doc_of d)) (policies_of d) (policies_of d) 0) [] text) (sym c.new-out.ensures.bytes)
     (no_text (IsTracedPolicyText (doc_of d)) (policies_of d) [])
 
 pub put_policy-requires-clause-means : goal.put_policy-requires-clause-means
