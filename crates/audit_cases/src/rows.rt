@@ -107,7 +107,7 @@ fn exact() -> Pattern {
 pub fn row_text(alloc: Global, row: &Row) -> Result<String, AllocError> {
     let mut text = key_text(alloc, row)?;
     text.push_str(" :")?;
-    for action in row.actions.as_slice() {
+    for action in &row.actions {
         if let Action::Output(port) = action {
             text.push_str(&format!(in alloc; " {port}")?)?;
         }

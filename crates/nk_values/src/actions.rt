@@ -2,7 +2,7 @@
 //!
 //! Layer: values and policies; public. Called by `row` here, and by many crates.
 ghost use Rattle.std.specs.Prelude.{◌≡◌, ◌↔◌, [], ◌∷◌, length, IsTrue, IfOk};
-ghost use Rattle.std.specs.Slice.Iter.{iter_rest};
+ghost use Rattle.std.specs.Slice.Iter.{iter_rest, iter_steps};
 
 use crate::action::Action;
 use crate::list::List;
@@ -112,6 +112,24 @@ impl Actions {
     pub fn iter(&self) -> slice::Iter<'_, Action>
         ensures { iter_rest result ≡ self.now }
     {
+        self.as_slice().iter()
+    }
+}
+
+/// The actions, one after another.
+impl<'a> IntoIterator for &'a Actions {
+    ghost use Rattle.std.specs.Prelude.{◌^◌, ◌<◌};
+    ghost use Rattle.std.specs.Iterator.Runs.{EveryRun, ItemsMapTo};
+    ghost use Rattle.nk_values.specs.declared.action.Action.{Action};
+
+    type Item = &'a Action;
+
+    type IntoIter = slice::Iter<'a, Action>;
+
+    ghost into_iter_gives = { λ l it. (iter_rest it ≡ l.now) × (length (iter_rest it) < 2 ^ 64)
+        × EveryRun (iter_steps {A = Action}) (λ p. ItemsMapTo p (λ x. x.now) (iter_rest p.from)) };
+
+    fn into_iter(self) -> slice::Iter<'a, Action> {
         self.as_slice().iter()
     }
 }

@@ -5,6 +5,7 @@
 ghost use Rattle.std.specs.Prelude.{◌≡◌};
 ghost use Rattle.nk_values.specs.Faults.{text_number, text_name};
 
+use std::error::Error;
 use std::fmt;
 
 /// A fault of a text: of a policy 1 to 7, of a document 8 to 13, of its topology 31 to 36.
@@ -119,3 +120,5 @@ impl fmt::Display for TextFault {
         write!(f, "{number} {name}")
     }
 }
+
+impl Error for TextFault {}
