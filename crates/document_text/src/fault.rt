@@ -3,9 +3,11 @@
 //! Layer: texts that are read; public. Called by many modules here, and by many crates.
 use nk_values::TextFault;
 use std::alloc::{AllocError, AllocFailed};
+use thiserror::Error;
 
 /// A fault and where it is: its line and column, both from 1. Outside policies the column is 1.
-#[derive(Clone, Copy, Debug, PartialEq, Eq)]
+#[derive(Clone, Copy, Debug, PartialEq, Eq, Error)]
+#[error("line {line} column {column}: {fault}")]
 pub struct DocFault {
     pub fault: TextFault,
     pub line: u64,
@@ -13,9 +15,11 @@ pub struct DocFault {
 }
 
 /// Why no document was read: the text's first fault, or out of memory.
-#[derive(Clone, Copy, Debug, PartialEq, Eq)]
+#[derive(Clone, Copy, Debug, PartialEq, Eq, Error)]
 pub enum DocumentError {
+    #[error("{0}")]
     Fault(DocFault),
+    #[error("out of memory")]
     Memory,
 }
 

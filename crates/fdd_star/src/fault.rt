@@ -3,18 +3,22 @@
 //! Layer: diagrams; public. Called by `parts`, `reach` and `repetition` here, and by fdd_compile.
 use nk_values::Packet;
 use std::alloc::AllocError;
+use thiserror::Error;
 
 /// Why a star can't be made: a packet, and an output of it that takes 513 turns.
-#[derive(Clone, Copy)]
+#[derive(Debug, Clone, Copy, Error)]
+#[error("a star has an output that takes 513 iterations")]
 pub struct StarFault {
     pub packet: Packet,
     pub output: Packet,
 }
 
 /// A star can't be made, or memory ran out.
-#[derive(Drop)]
+#[derive(Debug, Drop, Error)]
 pub enum StarError {
+    #[error("{0}")]
     Fault(StarFault),
+    #[error("out of memory")]
     Memory,
 }
 

@@ -4,6 +4,7 @@
 //! policy_cases and text_tests.
 use nk_values::TextFault;
 use std::alloc::AllocError;
+use thiserror::Error;
 
 /// A place in a text: its line and column, both from 1, the column in bytes.
 #[derive(Clone, Copy, Debug, PartialEq, Eq)]
@@ -13,7 +14,8 @@ pub struct Position {
 }
 
 /// A fault and where it is: its line and column, both from 1, the column in bytes.
-#[derive(Clone, Copy, Debug, PartialEq, Eq)]
+#[derive(Clone, Copy, Debug, PartialEq, Eq, Error)]
+#[error("line {line} column {column}: {fault}")]
 pub struct ParseFault {
     pub fault: TextFault,
     pub line: u64,
@@ -21,9 +23,11 @@ pub struct ParseFault {
 }
 
 /// Why no policy was read: the text's first fault, or out of memory.
-#[derive(Clone, Copy, Debug, PartialEq, Eq)]
+#[derive(Clone, Copy, Debug, PartialEq, Eq, Error)]
 pub enum ParseError {
+    #[error("{0}")]
     Fault(ParseFault),
+    #[error("out of memory")]
     Memory,
 }
 

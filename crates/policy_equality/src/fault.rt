@@ -4,12 +4,15 @@
 use fdd_apart::Side;
 use nk_values::CompileFault;
 use std::alloc::AllocError;
+use thiserror::Error;
 
 /// A policy has no diagram, or memory ran out.
-#[derive(Clone, Copy, Debug, PartialEq, Eq)]
+#[derive(Clone, Copy, Debug, PartialEq, Eq, Error)]
 pub enum CompareError {
     /// The fault of one of the two policies.
+    #[error("{fault}")]
     Fault { side: Side, fault: CompileFault },
+    #[error("out of memory")]
     Memory,
 }
 

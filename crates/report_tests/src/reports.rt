@@ -43,11 +43,6 @@ fn push_switch(
     Ok(())
 }
 
-fn push_switches(alloc: Global, switches: &mut Vec<DeclaredSwitch>) -> Result<(), AllocError> {
-    push_switch(alloc, switches, 1)?;
-    push_switch(alloc, switches, 7)
-}
-
 // Puts bytes from nobody at the end.
 fn push_foreign(
     alloc: Global,
@@ -74,12 +69,12 @@ fn push_events(alloc: Global, events: &mut Events) -> Result<(), AllocError> {
     push_foreign(alloc, events, 1, Side::Switch)
 }
 
-// Whether it was told so.
+// Whether the text is this one.
 fn is(told: Result<Text, AllocError>, text: &str) -> Result<bool, AllocError> {
     Ok(told?.as_str() == text)
 }
 
-// The report of these events where no packet came in.
+// The report of these events if no packet came in.
 fn report_over(
     alloc: Global,
     switches: &[DeclaredSwitch],
@@ -109,7 +104,8 @@ fn report(
     text: &str,
 ) -> Result<bool, AllocError> {
     let mut switches = Vec::new(alloc);
-    push_switches(alloc, &mut switches)?;
+    push_switch(alloc, &mut switches, 1)?;
+    push_switch(alloc, &mut switches, 7)?;
     let flights = Flights::new(alloc);
     is(report_over(alloc, &switches, &flights, state, events), text)
 }

@@ -7,12 +7,14 @@ ghost use Rattle.stamp_planner.specs.Stamps.{released};
 
 use nk_values::GREATEST_VLAN_ID;
 use std::marker::Model;
+use thiserror::Error;
 
 // How many numbers a stamp may be below.
 const NUMBERS: usize = GREATEST_VLAN_ID as usize + 1;
 
 /// Every stamp is live.
-#[derive(Clone, Copy, Debug, PartialEq, Eq)]
+#[derive(Clone, Copy, Debug, PartialEq, Eq, Error)]
+#[error("every stamp is live")]
 pub struct NoStamp;
 
 /// Gives the stamps of a range, which lies in 1 to 4094, one after another and going round, and leaves out

@@ -5,11 +5,14 @@ ghost use Rattle.std.specs.Prelude.{◌≡◌};
 
 use nk_values::TextFault;
 use std::alloc::AllocError;
+use thiserror::Error;
 
 /// Why a line could not be added.
-#[derive(Clone, Copy, Debug, PartialEq, Eq)]
+#[derive(Clone, Copy, Debug, PartialEq, Eq, Error)]
 pub enum LineError {
+    #[error("{0}")]
     Fault(TextFault),
+    #[error("out of memory")]
     Memory,
 }
 
@@ -40,9 +43,11 @@ impl LineError {
 
 /// Why lines make no topology: the first fault, with the place of its line in the list
 /// (for `NoEdge` the list's length), or out of memory.
-#[derive(Clone, Copy, Debug, PartialEq, Eq)]
+#[derive(Clone, Copy, Debug, PartialEq, Eq, Error)]
 pub enum TopoError {
+    #[error("{fault}")]
     Fault { fault: TextFault, place: usize },
+    #[error("out of memory")]
     Memory,
 }
 

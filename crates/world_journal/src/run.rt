@@ -11,6 +11,7 @@ use crate::seat::Seat;
 use outside_net::Link;
 use std::marker::Model;
 use std::sync::ledger::Share;
+use thiserror::Error;
 use world_core::{Event, StepFault, World};
 
 mod ending;
@@ -21,13 +22,16 @@ mod steps;
 pub(crate) use ending::is_last;
 
 /// Why a run gave no journal.
-#[derive(Clone, Copy, Debug, PartialEq, Eq)]
+#[derive(Clone, Copy, Debug, PartialEq, Eq, Error)]
 pub enum RunFault {
     /// A thread could not be made.
+    #[error("a thread could not be made")]
     NoThread,
     /// A pair of ends could not be made.
+    #[error("a pair of ends could not be made")]
     NetFault,
     /// Out of memory.
+    #[error("out of memory")]
     Memory,
 }
 
