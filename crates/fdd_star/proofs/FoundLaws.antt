@@ -4,7 +4,7 @@ use Rattle.std.proofs.Common.{Bor, rules, ◌≡◌, ℕ, Bool, true, Option, So
 use Rattle.nk_values.specs.declared.packet.Packet.{Packet}
 use Rattle.fdd_nodes.specs.Trees.{Tree, Leaf, leaf_at}
 use Rattle.fdd_star.specs.declared.keys.Key.{Key}
-use Rattle.fdd_star.specs.declared.repetition.Found.{Found}
+use Rattle.fdd_star.specs.declared.found.Found.{Found}
 use Rattle.fdd_star.specs.declared.visits.Visit.{Visit}
 use Rattle.fdd_star.specs.declared.visits.Visits.{Visits}
 use Rattle.fdd_star.specs.Asks.{AsksMore, ComesTo, IsVisitOf, IsVisitAt, AreVisits}

@@ -314,6 +314,7 @@ grows_one p c x r s copy a k = record {
             | inl v ↦ inl v
             | inr v ↦ inr (leaf_assigns p (apply x c) m (among_lists (leaf_at p (apply x c)) w.0 m w.1 v))
           ];
+          follows = λ s f pk. ap (λ (z : List Lit). apply z (apply s pk)) w.2 ∙ after_apply x w.0 (apply s pk) copy ∙ ap (apply w.0) (f pk) ∙ sym (after_apply x w.0 pk copy) ∙ ap (λ (z : List Lit). apply z pk) (sym w.2);
         },
       );
   late = a.late;

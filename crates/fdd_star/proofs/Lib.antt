@@ -1,7 +1,9 @@
+pub mod EndLaws
 pub mod EqualLaws
 pub mod FaultLaws
 pub mod FieldLaws
 pub mod FillLaws
+pub mod FirstLaws
 pub mod FoundLaws
 pub mod GrowLaws
 pub mod KeptLaws

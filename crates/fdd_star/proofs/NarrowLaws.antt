@@ -56,13 +56,14 @@ narrowed_on p c cs r h o = record {
 
 -- so its stars are those of the diagram
 
-pub star_narrowed : (p b : Tree) (c : Packet) (ls : List Lit) (r : Tree) → IsNarrowed p c b → StarBut b c ls r → StarBut p c ls r
-star_narrowed p b c ls r h s = record {
+pub star_narrowed : (f : List Lit) (p b : Tree) (c : Packet) (ls : List Lit) (r : Tree) → IsNarrowed p c b → StarBut f b c ls r → StarBut f p c ls r
+star_narrowed f p b c ls r h s = record {
   made = λ pk out a miss k. let w = s.made pk out a miss k in (w.0, w.1, h.only w.0 pk out a w.2);
   all = λ n pk out a miss k. s.all n pk out a miss (h.has n pk out a k);
   normal = s.normal;
-  names = record { tests = λ m k. h.names.tests m (s.names.tests m k); assigns = λ m k. h.names.assigns m (s.names.assigns m k) };
+  names = record { tests = λ m k. h.names.tests m (s.names.tests m k); assigns = λ m k. elim (s.names.assigns m k) [ inl w ↦ inl w | inr w ↦ inr (h.names.assigns m w) ] };
   is_open = s.is_open;
+  first = s.first;
 }
 
 pub narrowed_within : (p b : Tree) (c : Packet) (l : Lit) → IsOpen c (lit_field l) → IsNarrowed p c b → IsNarrowed p (put l c) b

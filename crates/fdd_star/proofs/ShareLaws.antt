@@ -15,10 +15,11 @@ use Rattle.fdd_nodes.specs.Trees.{Tree, Leaf, Node, leaf_at, apply, answers, Sam
 use Rattle.fdd_nodes.proofs.CellLaws.{agrees_with}
 use Rattle.fdd_nodes.proofs.MakesLaws.{source, outcome, among_lists}
 use Rattle.fdd_nodes.proofs.SplitLaws.{leaf_at-then, leaf_at-else}
-use Rattle.fdd_star.specs.Reaches.{Misses, StarBut}
+use Rattle.fdd_star.specs.Reaches.{HoldsAll, Misses, StarBut}
 use Rattle.fdd_star.specs.Stars.{Turns}
 use Rattle.fdd_star.proofs.FaultLaws.{open_besides, put_holds}
 use Rattle.fdd_star.proofs.FillLaws.{leaf_assigns}
+use Rattle.fdd_star.proofs.FirstLaws.{held_apart, put_held}
 use Rattle.fdd_star.proofs.FieldLaws.{agrees_out}
 use Rattle.fdd_star.proofs.StarLaws.{open_within}
 use Rattle.fdd_store.specs.Operations.{LeavesOut}
@@ -31,7 +32,7 @@ put_over j m x e = same_packet _ _ (λ f. elim (field_cases (lit_field m) f) [
   | inr d ↦ get-with_other (put j x) (lit_field m) f (lit_value m) d ∙ get-with_other x (lit_field j) f (lit_value j) (λ s. d (e ∙ s)) ∙ sym (get-with_other x (lit_field m) f (lit_value m) d)
 ])
 
-put_beside : (j m : Lit) (x : Packet) → ¬ (lit_field m ≡ lit_field j) → put m (put j x) ≡ put j (put m x)
+pub put_beside : (j m : Lit) (x : Packet) → ¬ (lit_field m ≡ lit_field j) → put m (put j x) ≡ put j (put m x)
 put_beside j m x n = same_packet _ _ (λ f. elim (field_cases (lit_field m) f) [
   | inl s ↦ subst (λ (g : Field). get (put m (put j x)) g ≡ get (put j (put m x)) g) s
       (get-with_same (put j x) (lit_field m) (lit_value m) ∙ sym (get-with_other (put m x) (lit_field j) (lit_field m) (lit_value j) (λ e. n (sym e)) ∙ get-with_same x (lit_field m) (lit_value m)))
@@ -41,14 +42,8 @@ put_beside j m x n = same_packet _ _ (λ f. elim (field_cases (lit_field m) f) [
   ]
 ])
 
-put_held : (j : Lit) (x : Packet) → Holds x j → put j x ≡ x
-put_held j x h = same_packet _ _ (λ f. elim (field_cases (lit_field j) f) [
-  | inl s ↦ subst (λ (g : Field). get (put j x) g ≡ get x g) s (get-with_same x (lit_field j) (lit_value j) ∙ sym h)
-  | inr d ↦ get-with_other x (lit_field j) f (lit_value j) d
-])
-
 -- a diagram that leaves a field out comes to the same leaf whatever is there
-leaf_same : (t : Tree) (f : Field) (x y : Packet) → LeavesOut f t → ((g : Field) → ¬ (f ≡ g) → get x g ≡ get y g) → leaf_at t x ≡ leaf_at t y
+pub leaf_same : (t : Tree) (f : Field) (x y : Packet) → LeavesOut f t → ((g : Field) → ¬ (f ≡ g) → get x g ≡ get y g) → leaf_at t x ≡ leaf_at t y
 leaf_same (Leaf cs) f x y out same = refl
 leaf_same (Node l t e) f x y out same =
     let at = same (lit_field l) (λ s. out l (inl refl) (sym s)) in
@@ -124,13 +119,16 @@ module _ (i j : Lit) (field : lit_field j ≡ lit_field i) where
     turns_from (suc n) x y r s k = let a = answer_from x y k.0 s k.1 in let b = turns_from n a.0 k.0 r a.2 k.2 in (b.0, (a.0, a.1, b.1), b.2)
 
   -- so the part where i holds is the part where j holds
-  module _ (p q : Tree) (c : Packet) (ls : List Lit) (r : Tree) (at_i : (x : Packet) → Holds x i → SameAnswers (answers q x) (answers p x)) (at_j : (x : Packet) → Holds x j → SameAnswers (answers q x) (answers p x))
-      (assigns : (m : Lit) → Assigns q m → Assigns p m) (past : LeavesOut (lit_field i) q) (unset : ¬ Assigns p i) (o : IsOpen c (lit_field i)) (h : StarBut p (put i c) ls r) where
+  module _ (first : List Lit) (p q : Tree) (c : Packet) (ls : List Lit) (r : Tree) (held_first : HoldsAll c first) (at_i : (x : Packet) → Holds x i → SameAnswers (answers q x) (answers p x)) (at_j : (x : Packet) → Holds x j → SameAnswers (answers q x) (answers p x))
+      (assigns : (m : Lit) → Assigns q m → Assigns p m) (past : LeavesOut (lit_field i) q) (unset : ¬ Assigns p i) (o : IsOpen c (lit_field i)) (h : StarBut first p (put i c) ls r) where
     itself : (x : Packet) → SameAnswers (answers r x) (answers r x)
     itself x = record { front = λ z k. k; back = λ z k. k }
 
     outside : LeavesOut (lit_field i) r
     outside m k e = (open_within c i (lit_field m) (h.is_open m k)).0 (sym e)
+
+    unset_too : ¬ Assigns r i
+    unset_too w = elim (h.names.assigns i w) [ inl v ↦ held_apart first c (lit_field i) held_first o i v refl | inr v ↦ unset v ]
 
     moved : (m : Lit) → IsOpen (put i c) (lit_field m) → IsOpen (put j c) (lit_field m)
     moved m w = let v = open_within c i (lit_field m) w in open_besides j c (lit_field m) (λ e. v.0 (sym field ∙ e)) v.1
@@ -146,20 +144,21 @@ module _ (i j : Lit) (field : lit_field j ≡ lit_field i) where
     stands : (pk : Packet) → Holds pk j → Stands (put i pk) pk
     stands pk held = record { which = inl (get-with_same pk (lit_field i) (lit_value i), sym (put_over i j pk field ∙ put_held j pk held)) }
 
-    pub star_shared : StarBut p (put j c) ls r
+    pub star_shared : StarBut first p (put j c) ls r
     star_shared = record {
       made = λ pk out a miss k.
-          let x = answer_from r r (λ v _. itself v) (λ v _. itself v) (λ m w. w) outside (λ w. unset (h.names.assigns i w)) (put i pk) pk out (stands pk (held pk a)) k in
+          let x = answer_from r r (λ v _. itself v) (λ v _. itself v) (λ m w. w) outside unset_too (put i pk) pk out (stands pk (held pk a)) k in
           let w = h.made (put i pk) x.0 (inner pk a) (misses pk miss) x.1 in
           let y = turns_to p q at_i at_j assigns past unset w.0 (put i pk) pk x.0 (stands pk (held pk a)) w.2 in
           (w.0, w.1, subst (Turns p w.0 pk) (stands_once x.0 y.0 out y.2 x.2) y.1);
       all = λ n pk out a miss k.
           let x = turns_from p q at_i at_j assigns past unset n (put i pk) pk out (stands pk (held pk a)) k in
-          let y = answer_to r r (λ v _. itself v) (λ v _. itself v) (λ m w. w) outside (λ w. unset (h.names.assigns i w)) (put i pk) pk x.0 (stands pk (held pk a)) (h.all n (put i pk) x.0 (inner pk a) (misses pk miss) x.1) in
+          let y = answer_to r r (λ v _. itself v) (λ v _. itself v) (λ m w. w) outside unset_too (put i pk) pk x.0 (stands pk (held pk a)) (h.all n (put i pk) x.0 (inner pk a) (misses pk miss) x.1) in
           subst (IsIn (answers r pk)) (stands_once x.0 y.0 out y.2 x.2) y.1;
       normal = h.normal;
       names = h.names;
       is_open = λ m k. moved m (h.is_open m k);
+      first = h.first;
     }
       where
         held : (pk : Packet) → Agrees (put j c) pk → Holds pk j

@@ -18,7 +18,7 @@ use Rattle.fdd_nodes.specs.Cells.{IsOpen}
 use Rattle.fdd_nodes.specs.Trees.{Tree, Assigns}
 use Rattle.fdd_star.specs.declared.shared.Shared.{Shared}
 use Rattle.fdd_star.specs.Kept.{EachIs}
-use Rattle.fdd_star.specs.Reaches.{StarBut}
+use Rattle.fdd_star.specs.Reaches.{HoldsAll, StarBut}
 use Rattle.fdd_star.specs.Shared.{AreShared, IsLeft, IsShared, MovesTo}
 use Rattle.fdd_star.proofs.KeptLaws.{each_on, right_added}
 use Rattle.fdd_star.proofs.NamedLaws.{same_lits, with_has, with_kept}
@@ -31,47 +31,47 @@ use Rattle.fdd_store.proofs.StoreLaws.{gives_as, gives_grown, has_grown, tree_gr
 
 -- in a store that grows
 
-shared_on : (old new : Kept) (p : Tree) (c : Packet) (ls : List Lit) (f : Field) (q a : ℕ) → Grows old new → IsShared old p c ls f q a → IsShared new p c ls f q a
-shared_on old new p c ls f q a g h = record {
+shared_on : (old new : Kept) (first : List Lit) (p : Tree) (c : Packet) (ls : List Lit) (f : Field) (q a : ℕ) → Grows old new → IsShared old first p c ls f q a → IsShared new first p c ls f q a
+shared_on old new first p c ls f q a g h = record {
   has = has_grown old new q g h.has;
   star = λ l e w. gives_grown old new a _ g (h.star l e (subst (CofactorOf l p) (tree_grown old new q g h.has) w));
 }
 
-pub shared_grown : (old new : Kept) (p : Tree) (c : Packet) (ls : List Lit) (s : Shared) → Grows old new → AreShared old p c ls s → AreShared new p c ls s
-shared_grown old new p c ls s g h = each_on _ _ s.parts.entries (λ q a w. shared_on old new p c ls s.field q a g w) h
+pub shared_grown : (old new : Kept) (first : List Lit) (p : Tree) (c : Packet) (ls : List Lit) (s : Shared) → Grows old new → AreShared old first p c ls s → AreShared new first p c ls s
+shared_grown old new first p c ls s g h = each_on _ _ s.parts.entries (λ q a w. shared_on old new first p c ls s.field q a g w) h
 
-pub shared_none : (k : Kept) (p : Tree) (c : Packet) (ls : List Lit) (s : Shared) → s.parts.entries ≡ [] → AreShared k p c ls s
-shared_none k p c ls s e = subst (EachIs (IsShared k p c ls s.field)) (sym e) tt
+pub shared_none : (k : Kept) (first : List Lit) (p : Tree) (c : Packet) (ls : List Lit) (s : Shared) → s.parts.entries ≡ [] → AreShared k first p c ls s
+shared_none k first p c ls s e = subst (EachIs (IsShared k first p c ls s.field)) (sym e) tt
 
 -- when the last literal is missed no more, and a field's parts are kept at most
 
-shared_on_move : (k : Kept) (p : Tree) (c : Packet) (ls ms : List Lit) (l : Lit) (q a : ℕ) → ls ≡ ms ++ l ∷ [] → IsShared k p c ls (lit_field l) q a → IsShared k p c ms (lit_field l) q a
-shared_on_move k p c ls ms l q a e h = record {
+shared_on_move : (k : Kept) (first : List Lit) (p : Tree) (c : Packet) (ls ms : List Lit) (l : Lit) (q a : ℕ) → ls ≡ ms ++ l ∷ [] → IsShared k first p c ls (lit_field l) q a → IsShared k first p c ms (lit_field l) q a
+shared_on_move k first p c ls ms l q a e h = record {
   has = h.has;
-  star = λ j s w. gives_as _ _ _ _ (λ r x. star_as p (put j c) ls ms r (λ m i o. elim (in-either ms (l ∷ []) m (subst (λ (xs : List Lit). IsIn xs m) e i)) [
+  star = λ j s w. gives_as _ _ _ _ (λ r x. star_as first p (put j c) ls ms r (λ m i o. elim (in-either ms (l ∷ []) m (subst (λ (xs : List Lit). IsIn xs m) e i)) [
     | inl n ↦ n
     | inr n ↦ elim n [ inl y ↦ absurd ((open_within c j (lit_field m) o).0 (s ∙ ap lit_field y)) | inr z ↦ absurd z ]
   ]) x) (h.star j s w);
 }
 
-pub shared_moved : (k : Kept) (p : Tree) (c : Packet) (ls ms : List Lit) (l : Lit) (s t : Shared) → ls ≡ ms ++ l ∷ [] → MovesTo (lit_field l) s t → AreShared k p c ls s → AreShared k p c ms t
-shared_moved k p c ls ms l s t e turns h = elim turns.kept [
+pub shared_moved : (k : Kept) (first : List Lit) (p : Tree) (c : Packet) (ls ms : List Lit) (l : Lit) (s t : Shared) → ls ≡ ms ++ l ∷ [] → MovesTo (lit_field l) s t → AreShared k first p c ls s → AreShared k first p c ms t
+shared_moved k first p c ls ms l s t e turns h = elim turns.kept [
   | inl w ↦
-      let old = subst (λ (f : Field). EachIs (IsShared k p c ls f) s.parts.entries) w.0 h in
-      let new = each_on (IsShared k p c ls (lit_field l)) (IsShared k p c ms (lit_field l)) s.parts.entries (λ q a. shared_on_move k p c ls ms l q a e) old in
-      subst (EachIs (IsShared k p c ms t.field)) (sym w.1) (subst (λ (f : Field). EachIs (IsShared k p c ms f) s.parts.entries) (sym turns.field) new)
-  | inr w ↦ shared_none k p c ms t w
+      let old = subst (λ (f : Field). EachIs (IsShared k first p c ls f) s.parts.entries) w.0 h in
+      let new = each_on (IsShared k first p c ls (lit_field l)) (IsShared k first p c ms (lit_field l)) s.parts.entries (λ q a. shared_on_move k first p c ls ms l q a e) old in
+      subst (EachIs (IsShared k first p c ms t.field)) (sym w.1) (subst (λ (f : Field). EachIs (IsShared k first p c ms f) s.parts.entries) (sym turns.field) new)
+  | inr w ↦ shared_none k first p c ms t w
 ]
 
 -- the part where a literal holds is that of the others of which the same is left
-pub shared_of : (k : Kept) (p : Tree) (c : Packet) (ls : List Lit) (l : Lit) (q a : ℕ) → Has k q → CofactorOf l p (tree_at k q) → LeavesOut (lit_field l) (tree_at k q) → ¬ Assigns p l → IsOpen c (lit_field l) → Gives k a (StarBut p (put l c) ls) → IsShared k p c ls (lit_field l) q a
-shared_of k p c ls l q a has w out unset o g = record {
+pub shared_of : (k : Kept) (first : List Lit) (p : Tree) (c : Packet) (ls : List Lit) (l : Lit) (q a : ℕ) → HoldsAll c first → Has k q → CofactorOf l p (tree_at k q) → LeavesOut (lit_field l) (tree_at k q) → ¬ Assigns p l → IsOpen c (lit_field l) → Gives k a (StarBut first p (put l c) ls) → IsShared k first p c ls (lit_field l) q a
+shared_of k first p c ls l q a held has w out unset o g = record {
   has = has;
-  star = λ j e v. gives_as _ _ _ _ (λ r x. star_shared l j e p (tree_at k q) c ls r w.answer v.answer w.assigns out unset o x) g;
+  star = λ j e v. gives_as _ _ _ _ (λ r x. star_shared l j e first p (tree_at k q) c ls r held w.answer v.answer w.assigns out unset o x) g;
 }
 
-pub shared_kept : (k : Kept) (p : Tree) (c : Packet) (ls : List Lit) (s t : Shared) (q a : ℕ) → t.field ≡ s.field → t.parts.entries ≡ insert_entry id_eq s.parts.entries q a → AreShared k p c ls s → IsShared k p c ls s.field q a → AreShared k p c ls t
-shared_kept k p c ls s t q a e e' h w = subst (λ (f : Field). EachIs (IsShared k p c ls f) t.parts.entries) (sym e) (subst (EachIs (IsShared k p c ls s.field)) (sym e') (right_added id_eq same_id (IsShared k p c ls s.field) q a s.parts.entries h w))
+pub shared_kept : (k : Kept) (first : List Lit) (p : Tree) (c : Packet) (ls : List Lit) (s t : Shared) (q a : ℕ) → t.field ≡ s.field → t.parts.entries ≡ insert_entry id_eq s.parts.entries q a → AreShared k first p c ls s → IsShared k first p c ls s.field q a → AreShared k first p c ls t
+shared_kept k first p c ls s t q a e e' h w = subst (λ (f : Field). EachIs (IsShared k first p c ls f) t.parts.entries) (sym e) (subst (EachIs (IsShared k first p c ls s.field)) (sym e') (right_added id_eq same_id (IsShared k first p c ls s.field) q a s.parts.entries h w))
 
 -- tests that were asked, one by one
 

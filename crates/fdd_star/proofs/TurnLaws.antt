@@ -13,8 +13,9 @@ use Rattle.nk_values.specs.Lits.{lit_field}
 use Rattle.nk_values.specs.Packets.{IsInRange}
 use Rattle.fdd_nodes.specs.Cells.{IsFresh, IsValid, fill}
 use Rattle.fdd_nodes.proofs.CellLaws.{fill_in_range}
-use Rattle.fdd_star.specs.Reaches.{reached_copies, Starts, Grows, Fewer, Turned, IsClosed}
+use Rattle.fdd_star.specs.Reaches.{reached_copies, Follows, HoldsAll, Starts, Grows, Fewer, Turned, IsClosed}
 use Rattle.fdd_star.specs.Stars.{Turns, IsDeep}
+use Rattle.fdd_star.proofs.FirstLaws.{apply_held, first_follows}
 use Rattle.fdd_star.proofs.FillLaws.{asks_free, asks_tests, turns_free, turns_filled, filled_turns, filled_once, fresh_escapes}
 
 -- a turn more at the end
@@ -49,15 +50,16 @@ fewer_turn : (p : Tree) (n : ℕ) (c q r : Packet) → Fewer p n c q → IsIn (a
 fewer_turn p n c q r h k = (suc h.0, (let b = h.1 in omega (arith, b)), turn_more p h.0 c q r h.2 k)
 
 -- nothing more is reached by the next turn from what fewer than n turns reach
-pub turned_start : (p : Tree) (c : Packet) (r : Reach) → Starts c r → Turned p c 0 0 r
-turned_start p c r s = record {
+pub turned_start : (f : List Lit) (p : Tree) (c : Packet) (r : Reach) → HoldsAll c f → Starts f c r → Turned f p c 0 0 r
+turned_start f p c r held s = record {
   told = s.told;
   within = omega arith;
-  made = λ x h. elim (in_same _ _ x s.copies h) [ inl e ↦ (0, omega arith, ap (λ (y : List Lit). apply y c) e) | inr n ↦ absurd n ];
-  all = λ q h. outcome_in _ _ c q (sym s.copies) (inl (no_turn p h.0 c q (let b = h.1 in omega (arith, b)) h.2));
+  made = λ x h. elim (in_same _ _ x s.copies h) [ inl e ↦ (0, omega arith, sym (apply_held f c held) ∙ ap (λ (y : List Lit). apply y c) e) | inr n ↦ absurd n ];
+  all = λ q h. outcome_in _ _ c q (sym s.copies) (inl (apply_held f c held ∙ no_turn p h.0 c q (let b = h.1 in omega (arith, b)) h.2));
   early = λ x h. absurd h;
   late = λ x h k. (let b = k.1 in omega (arith, b));
-  named = λ x m h k. elim (in_same _ _ x s.copies h) [ inl e ↦ absurd (in_same _ _ m (sym e) k) | inr n ↦ absurd n ];
+  named = λ x m h k. elim (in_same _ _ x s.copies h) [ inl e ↦ inl (in_same _ _ m (sym e) k) | inr n ↦ absurd n ];
+  follows = λ x h. elim (in_same _ _ x s.copies h) [ inl e ↦ subst (Follows f) e (first_follows f c held) | inr n ↦ absurd n ];
   asks = λ x m h k. absurd h;
   is_open = λ m h. absurd (in_same _ _ m s.asked h);
   tests = λ m h. absurd (in_same _ _ m s.asked h);
@@ -68,9 +70,9 @@ turned_start p c r s = record {
     no_turn p (suc k) c q b h = absurd (omega (arith, b))
 
 -- all that one turn more reaches is noted
-turned_all : (p : Tree) (c : Packet) (n place : ℕ) (r s : Reach) → Turned p c n place r → Grows p c (drop place (reached_copies r)) r s → (k : ℕ) (q : Packet) → k < suc (suc n) → Turns p k c q → IsIn (outcomes (reached_copies s) c) q
-turned_all p c n place r s t g zero q b h = outcome_in _ _ c q (sym g.joined) (outcome_left _ _ c q (t.all q (0, omega arith, h)))
-turned_all p c n place r s t g (suc k) q b h =
+turned_all : (f : List Lit) (p : Tree) (c : Packet) (n place : ℕ) (r s : Reach) → Turned f p c n place r → Grows p c (drop place (reached_copies r)) r s → (k : ℕ) (q : Packet) → k < suc (suc n) → Turns p k c q → IsIn (outcomes (reached_copies s) c) q
+turned_all f p c n place r s t g zero q b h = outcome_in _ _ c q (sym g.joined) (outcome_left _ _ c q (t.all q (0, omega arith, h)))
+turned_all f p c n place r s t g (suc k) q b h =
     let w = last_turn p k c q h in
     let o = source (reached_copies r) c w.0 (t.all w.0 (k, omega (arith, b), w.1)) in
     let step = subst (λ (y : Packet). IsIn (answers p y) q) (sym o.makes) w.2 in
@@ -79,8 +81,8 @@ turned_all p c n place r s t g (suc k) q b h =
       | inr i ↦ g.has o.copy q i step
     ]
 
-pub turned_more : (p : Tree) (c : Packet) (n place : ℕ) (r s : Reach) → Turned p c n place r → Grows p c (drop place (reached_copies r)) r s → Turned p c (suc n) (length (reached_copies r)) s
-turned_more p c n place r s t g =
+pub turned_more : (f : List Lit) (p : Tree) (c : Packet) (n place : ℕ) (r s : Reach) → Turned f p c n place r → Grows p c (drop place (reached_copies r)) r s → Turned f p c (suc n) (length (reached_copies r)) s
+turned_more f p c n place r s t g =
     let front = ap (take (length (reached_copies r))) g.joined ∙ take-append_seam (reached_copies r) g.more in
     let behind = ap (drop (length (reached_copies r))) g.joined ∙ drop-append_seam (reached_copies r) g.more in
     let from_drop : (x : List Lit) → IsIn (drop place (reached_copies r)) x → IsIn (reached_copies r) x = λ x i. in_same _ _ x (take-append-drop place (reached_copies r)) (in-right (take place (reached_copies r)) (drop place (reached_copies r)) x i) in
@@ -91,12 +93,16 @@ turned_more p c n place r s t g =
         | inl i ↦ fewer_more p (suc n) c (apply x c) (t.made x i)
         | inr i ↦ let w = g.only x i in fewer_turn p (suc n) c (apply w.0 c) (apply x c) (t.made w.0 (from_drop w.0 w.1)) w.2.made
       ];
-      all = λ q h. turned_all p c n place r s t g h.0 q h.1 h.2;
+      all = λ q h. turned_all f p c n place r s t g h.0 q h.1 h.2;
       early = λ x h. t.made x (in_same _ _ x front h);
       late = λ x h k. g.late x (in_same _ _ x behind h) (t.all (apply x c) k);
       named = λ x m h k. elim (in-either (reached_copies r) g.more x (in_same _ _ x g.joined h)) [
         | inl i ↦ t.named x m i k
-        | inr i ↦ let w = g.only x i in elim (w.2.named m k) [ inl v ↦ t.named w.0 m (from_drop w.0 w.1) v | inr v ↦ v ]
+        | inr i ↦ let w = g.only x i in elim (w.2.named m k) [ inl v ↦ t.named w.0 m (from_drop w.0 w.1) v | inr v ↦ inr v ]
+      ];
+      follows = λ x h. elim (in-either (reached_copies r) g.more x (in_same _ _ x g.joined h)) [
+        | inl i ↦ t.follows x i
+        | inr i ↦ let w = g.only x i in w.2.follows f (t.follows w.0 (from_drop w.0 w.1))
       ];
       asks = λ x m h k. elim (in_parts place (reached_copies r) x (in_same _ _ x front h)) [
         | inl i ↦ g.kept m (t.asks x m i k)
@@ -110,29 +116,30 @@ turned_more p c n place r s t g =
     }
 
 -- where the last turn added nothing, no number of turns does
-closed_all : (p : Tree) (c : Packet) (n : ℕ) (r : Reach) → Turned p c n (length (reached_copies r)) r → (k : ℕ) (q : Packet) → Turns p k c q → IsIn (outcomes (reached_copies r) c) q
-closed_all p c n r t zero q h = t.all q (0, omega arith, h)
-closed_all p c n r t (suc k) q h =
+closed_all : (f : List Lit) (p : Tree) (c : Packet) (n : ℕ) (r : Reach) → Turned f p c n (length (reached_copies r)) r → (k : ℕ) (q : Packet) → Turns p k c q → IsIn (outcomes (reached_copies r) c) q
+closed_all f p c n r t zero q h = t.all q (0, omega arith, h)
+closed_all f p c n r t (suc k) q h =
     let w = last_turn p k c q h in
-    let o = source (reached_copies r) c w.0 (closed_all p c n r t k w.0 w.1) in
+    let o = source (reached_copies r) c w.0 (closed_all f p c n r t k w.0 w.1) in
     t.all q (fewer_turn p n c (apply o.copy c) q (t.early o.copy (in_same _ _ o.copy (sym (take-length (reached_copies r))) o.among)) (subst (λ (y : Packet). IsIn (answers p y) q) (sym o.makes) w.2))
 
-pub closed_of : (p : Tree) (c : Packet) (n place : ℕ) (r : Reach) → n ≤ 513 → place ≡ length (reached_copies r) → Turned p c n place r → IsClosed p c r
-closed_of p c n place r b e t' =
-    let t = subst (λ (k : ℕ). Turned p c n k r) e t' in
+pub closed_of : (f : List Lit) (p : Tree) (c : Packet) (n place : ℕ) (r : Reach) → n ≤ 513 → place ≡ length (reached_copies r) → Turned f p c n place r → IsClosed f p c r
+closed_of f p c n place r b e t' =
+    let t = subst (λ (k : ℕ). Turned f p c n k r) e t' in
     let whole : (x : List Lit) → IsIn (reached_copies r) x → IsIn (take (length (reached_copies r)) (reached_copies r)) x = λ x h. in_same _ _ x (sym (take-length (reached_copies r))) h in
     record {
       made = λ x h. let w = t.early x (whole x h) in (w.0, (let k = w.1 in omega (arith, k, b)), w.2);
-      all = closed_all p c n r t;
+      all = closed_all f p c n r t;
       named = t.named;
+      follows = t.follows;
       asks = λ x m h k. t.asks x m (whole x h) k;
       is_open = t.is_open;
       tests = t.tests;
     }
 
 -- what a turn more than 512 adds is late, also for the packet that is filled with a fresh one
-pub deep_of : (p : Tree) (c : Packet) (place : ℕ) (r : Reach) (x : List Lit) (g : Packet) → IsValid c → IsInRange g → IsFresh g p → Turned p c 513 place r → IsIn (drop place (reached_copies r)) x → IsDeep p (fill c g) (fill (apply x c) g)
-deep_of p c place r x g v range fresh t h =
+pub deep_of : (f : List Lit) (p : Tree) (c : Packet) (place : ℕ) (r : Reach) (x : List Lit) (g : Packet) → IsValid c → IsInRange g → IsFresh g p → Turned f p c 513 place r → IsIn (drop place (reached_copies r)) x → IsDeep p (fill c g) (fill (apply x c) g)
+deep_of f p c place r x g v range fresh t h =
     let w = t.made x (in_same _ _ x (take-append-drop place (reached_copies r)) (in-right (take place (reached_copies r)) (drop place (reached_copies r)) x h)) in
     record {
       in_range = fill_in_range c g v range;
@@ -145,17 +152,17 @@ deep_of p c place r x g v range fresh t h =
 
 -- the same, as a loop has it
 
-pub turned_next : (p : Tree) (c : Packet) (n place until : ℕ) (r s : Reach) → until ≡ length (reached_copies r) → Turned p c n place r → Grows p c (drop place (reached_copies r)) r s → Turned p c (n + 1) until s
-turned_next p c n place until r s e t g = subst (λ (k : ℕ). Turned p c k until s) (sym (add-one n)) (subst (λ (k : ℕ). Turned p c (suc n) k s) (sym e) (turned_more p c n place r s t g))
+pub turned_next : (f : List Lit) (p : Tree) (c : Packet) (n place until : ℕ) (r s : Reach) → until ≡ length (reached_copies r) → Turned f p c n place r → Grows p c (drop place (reached_copies r)) r s → Turned f p c (n + 1) until s
+turned_next f p c n place until r s e t g = subst (λ (k : ℕ). Turned f p c k until s) (sym (add-one n)) (subst (λ (k : ℕ). Turned f p c (suc n) k s) (sym e) (turned_more f p c n place r s t g))
 
 in_drop : (n : ℕ) (xs : List (List Lit)) (x : List Lit) → n < length xs → x ≡ get_or xs n x → IsIn (drop n xs) x
 in_drop n [] x h e = absurd (omega (arith, h))
 in_drop zero (y ∷ ys) x h e = inl (sym e)
 in_drop (suc n) (y ∷ ys) x h e = in_drop n ys x (omega (arith, h)) e
 
-pub deep_named : (p : Tree) (c q : Packet) (n place : ℕ) (r : Reach) (x : List Lit) (g pk out : Packet) → pk ≡ fill c g → out ≡ fill q g → q ≡ apply x c → IsValid c → IsInRange g → IsFresh g p
-    → n ≡ 513 → Turned p c n place r → place < length (reached_copies r) → x ≡ get_or (reached_copies r) place x → IsDeep p pk out
-deep_named p c q n place r x g pk out epk eout eq v range fresh en turned b at =
+pub deep_named : (f : List Lit) (p : Tree) (c q : Packet) (n place : ℕ) (r : Reach) (x : List Lit) (g pk out : Packet) → pk ≡ fill c g → out ≡ fill q g → q ≡ apply x c → IsValid c → IsInRange g → IsFresh g p
+    → n ≡ 513 → Turned f p c n place r → place < length (reached_copies r) → x ≡ get_or (reached_copies r) place x → IsDeep p pk out
+deep_named f p c q n place r x g pk out epk eout eq v range fresh en turned b at =
     let out' = eout ∙ ap (λ (z : Packet). fill z g) eq in
-    let turned' = subst (λ (k : ℕ). Turned p c k place r) en turned in
-    subst (λ (z : Packet). IsDeep p z out) (sym epk) (subst (IsDeep p (fill c g)) (sym out') (deep_of p c place r x g v range fresh turned' (in_drop place (reached_copies r) x b at)))
+    let turned' = subst (λ (k : ℕ). Turned f p c k place r) en turned in
+    subst (λ (z : Packet). IsDeep p z out) (sym epk) (subst (IsDeep p (fill c g)) (sym out') (deep_of f p c place r x g v range fresh turned' (in_drop place (reached_copies r) x b at)))

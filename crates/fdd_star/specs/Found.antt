@@ -3,7 +3,7 @@ use Rattle.std.specs.Prelude.{◌≡◌, ℕ, List}
 use Rattle.nk_values.specs.declared.packet.Packet.{Packet}
 use Rattle.nk_values.specs.declared.lit.Lit.{Lit}
 use Rattle.fdd_nodes.specs.Trees.{Tree}
-use Rattle.fdd_star.specs.declared.repetition.Found.{Found}
+use Rattle.fdd_star.specs.declared.found.Found.{Found}
 use Rattle.fdd_star.specs.Asks.{AreVisits}
 use Rattle.fdd_star.specs.Reaches.{StarBut}
 use Rattle.fdd_store.specs.Stores.{Kept, Gives}
@@ -12,9 +12,10 @@ use Rattle.fdd_store.specs.Stores.{Kept, Gives}
 pub record AreFound (k : Kept) (n : Found) : Type 0 where
   pub visits : AreVisits k n.visits
 
--- the store's diagram r is the star of p on the packets of the cell c that hold none of old; and as many are missed now
-pub record IsPart (k : Kept) (p : Tree) (c : Packet) (old : List Lit) (n : Found) (new : List Lit) (r : ℕ) : Type 0
-  where
-    pub star : Gives k r (StarBut p c old)
-    pub found : AreFound k n
-    pub missed : new ≡ old
+-- the store's diagram r is the star of p, after the copy s, on the packets of the cell c that hold none of old; and as
+-- many are missed now
+pub record IsPart (k : Kept) (s : List Lit) (p : Tree) (c : Packet) (old : List Lit) (n : Found) (new : List Lit)
+    (r : ℕ) : Type 0 where
+  pub star : Gives k r (StarBut s p c old)
+  pub found : AreFound k n
+  pub missed : new ≡ old

@@ -12,10 +12,11 @@ use Rattle.fdd_star.specs.Reaches.{StarBut}
 use Rattle.fdd_star.specs.Shared.{AreShared}
 use Rattle.fdd_store.specs.Stores.{Kept, Gives, tree_at}
 
--- The star of p in the cell c is made but for what is left: the tests that are missed in new, and were not in old.
-pub record HasParts (k : Kept) (p : Tree) (c : Packet) (old new : List Lit) (s : Parts) : Type 0 where
-  pub all : Gives k s.all (StarBut p c new)
-  pub missed : new ≡ old ++ s.left.items
-  pub asked : (m : Lit) → IsIn s.left.items m → IsOpen c (lit_field m) × Tests p m
-  pub body : IsDiagramAt k (IsNarrowed p c) s.body
-  pub shared : AreShared k (tree_at k s.body) c new s.shared
+-- The star of p, after the copy s, in the cell c is made but for what is left: the tests that are missed in new, and
+-- were not in old.
+pub record HasParts (k : Kept) (s : List Lit) (p : Tree) (c : Packet) (old new : List Lit) (a : Parts) : Type 0 where
+  pub all : Gives k a.all (StarBut s p c new)
+  pub missed : new ≡ old ++ a.left.items
+  pub asked : (m : Lit) → IsIn a.left.items m → IsOpen c (lit_field m) × Tests p m
+  pub body : IsDiagramAt k (IsNarrowed p c) a.body
+  pub shared : AreShared k s (tree_at k a.body) c new a.shared

@@ -5,7 +5,7 @@ use Rattle.nk_values.specs.declared.lit.Lit.{Lit}
 use Rattle.nk_values.specs.Held.{Holds}
 use Rattle.nk_values.specs.Lits.{lit_field}
 use Rattle.nk_values.specs.Members.{IsIn}
-use Rattle.fdd_nodes.specs.Trees.{Tree, apply, outcomes, answers, Tests, Assigns}
+use Rattle.fdd_nodes.specs.Trees.{Tree, apply, outcomes, answers, SameAnswers, Tests, Assigns}
 use Rattle.fdd_nodes.specs.Cells.{Agrees, IsOpen}
 use Rattle.fdd_nodes.specs.Normals.{IsNormal}
 use Rattle.fdd_star.specs.declared.reach.Reach.{Reach}
@@ -22,10 +22,18 @@ asked_of r = r.asked.keys
 abbrev pub IsTold : Packet → Reach → Type 0
 IsTold c r = r.cells.keys ≡ outcomes (reached_copies r) c
 
--- the cell's packet alone, and nothing was asked
-pub record Starts (c : Packet) (r : Reach) : Type 0 where
+-- the packet holds each of the literals
+abbrev pub HoldsAll : Packet → List Lit → Type 0
+HoldsAll c ls = (m : Lit) → IsIn ls m → Holds c m
+
+-- the copy x makes the same of a packet whether or not the copy s comes first
+abbrev pub Follows : List Lit → List Lit → Type 0
+Follows s x = (pk : Packet) → apply x (apply s pk) ≡ apply x pk
+
+-- what the first copy makes of the cell's packet alone, and nothing was asked
+pub record Starts (s : List Lit) (c : Packet) (r : Reach) : Type 0 where
   pub told : IsTold c r
-  pub copies : reached_copies r ≡ [] ∷ []
+  pub copies : reached_copies r ≡ s ∷ []
   pub asked : asked_of r ≡ []
 
 -- new has the literals among what was asked, beside what old has
@@ -45,6 +53,7 @@ pub record NotesPacket (q : Packet) (x : List Lit) (old new : Reach) : Type 0 wh
 pub record IsNextCopy (p : Tree) (c : Packet) (x y : List Lit) : Type 0 where
   pub made : IsIn (answers p (apply x c)) (apply y c)
   pub named : (m : Lit) → IsIn y m → IsIn x m ⊎ Assigns p m
+  pub follows : (s : List Lit) → Follows s x → Follows s y
 
 -- Behind the copies of old, new has copies that make the answers to what the copies xs make; and what is asked of
 -- these.
@@ -65,27 +74,29 @@ pub record Grows (p : Tree) (c : Packet) (xs : List (List Lit)) (old new : Reach
 abbrev pub Fewer : Tree → ℕ → Packet → Packet → Type 0
 Fewer p n pk out = (k : ℕ) × (k < n) × Turns p k pk out
 
--- After n turns the copies make exactly what at most n turns reach from the cell's packet. Those before the place make
--- what fewer do, and what they ask is noted; the others make nothing of that.
-pub record Turned (p : Tree) (c : Packet) (n place : ℕ) (r : Reach) : Type 0 where
+-- After the first copy s and n turns the copies make exactly what at most n turns reach from the cell's packet. Those
+-- before the place make what fewer do, and what they ask is noted; the others make nothing of that.
+pub record Turned (s : List Lit) (p : Tree) (c : Packet) (n place : ℕ) (r : Reach) : Type 0 where
   pub told : IsTold c r
   pub within : place ≤ length (reached_copies r)
   pub made : (x : List Lit) → IsIn (reached_copies r) x → Fewer p (suc n) c (apply x c)
   pub all : (q : Packet) → Fewer p (suc n) c q → IsIn (outcomes (reached_copies r) c) q
   pub early : (x : List Lit) → IsIn (take place (reached_copies r)) x → Fewer p n c (apply x c)
   pub late : (x : List Lit) → IsIn (drop place (reached_copies r)) x → ¬ Fewer p n c (apply x c)
-  pub named : (x : List Lit) (m : Lit) → IsIn (reached_copies r) x → IsIn x m → Assigns p m
+  pub named : (x : List Lit) (m : Lit) → IsIn (reached_copies r) x → IsIn x m → IsIn s m ⊎ Assigns p m
+  pub follows : (x : List Lit) → IsIn (reached_copies r) x → Follows s x
   pub asks : (x : List Lit) (m : Lit) → IsIn (take place (reached_copies r)) x → Asks p (apply x c) m →
       IsIn (asked_of r) m
   pub is_open : (m : Lit) → IsIn (asked_of r) m → IsOpen c (lit_field m)
   pub tests : (m : Lit) → IsIn (asked_of r) m → Tests p m
 
 -- All that any number of turns reach from the cell's packet is reached in 512; what was asked on the way is of fields
--- that the cell leaves open.
-pub record IsClosed (p : Tree) (c : Packet) (r : Reach) : Type 0 where
+-- that the cell leaves open. Each copy begins with the first copy s.
+pub record IsClosed (s : List Lit) (p : Tree) (c : Packet) (r : Reach) : Type 0 where
   pub made : (x : List Lit) → IsIn (reached_copies r) x → AtMost p 512 c (apply x c)
   pub all : (n : ℕ) (q : Packet) → Turns p n c q → IsIn (outcomes (reached_copies r) c) q
-  pub named : (x : List Lit) (m : Lit) → IsIn (reached_copies r) x → IsIn x m → Assigns p m
+  pub named : (x : List Lit) (m : Lit) → IsIn (reached_copies r) x → IsIn x m → IsIn s m ⊎ Assigns p m
+  pub follows : (x : List Lit) → IsIn (reached_copies r) x → Follows s x
   pub asks : (x : List Lit) (m : Lit) → IsIn (reached_copies r) x → Asks p (apply x c) m → IsIn (asked_of r) m
   pub is_open : (m : Lit) → IsIn (asked_of r) m → IsOpen c (lit_field m)
   pub tests : (m : Lit) → IsIn (asked_of r) m → Tests p m
@@ -95,14 +106,21 @@ pub record IsNamedBy (p a : Tree) : Type 0 where
   pub tests : (m : Lit) → Tests a m → Tests p m
   pub assigns : (m : Lit) → Assigns a m → Assigns p m
 
+-- a tests only what p tests, and assigns only what p assigns and what s has
+pub record NamesOf (s : List Lit) (p a : Tree) : Type 0 where
+  pub tests : (m : Lit) → Tests a m → Tests p m
+  pub assigns : (m : Lit) → Assigns a m → IsIn s m ⊎ Assigns p m
+
 -- the packet holds none of the literals of fields that the cell leaves open
 abbrev pub Misses : Packet → List Lit → Packet → Type 0
 Misses c ls pk = (m : Lit) → IsIn ls m → IsOpen c (lit_field m) → ¬ Holds pk m
 
--- on each packet of the cell that holds none of some literals, r answers as the star of p
-pub record StarBut (p : Tree) (c : Packet) (ls : List Lit) (r : Tree) : Type 0 where
+-- On each packet of the cell that holds none of some literals, r answers as the star of p. On any packet it answers as
+-- if the copy s came first.
+pub record StarBut (s : List Lit) (p : Tree) (c : Packet) (ls : List Lit) (r : Tree) : Type 0 where
   pub made : (pk out : Packet) → Agrees c pk → Misses c ls pk → IsIn (answers r pk) out → AtMost p 512 pk out
   pub all : (n : ℕ) (pk out : Packet) → Agrees c pk → Misses c ls pk → Turns p n pk out → IsIn (answers r pk) out
   pub normal : IsNormal r
-  pub names : IsNamedBy p r
+  pub names : NamesOf s p r
   pub is_open : (m : Lit) → Tests r m → IsOpen c (lit_field m)
+  pub first : (pk : Packet) → SameAnswers (answers r pk) (answers r (apply s pk))

@@ -14,14 +14,15 @@ use Rattle.fdd_store.specs.Operations.{CofactorOf}
 use Rattle.fdd_store.specs.contracts.id.IdPartialEq.TheImpl as id_impl
 use Rattle.fdd_store.specs.Stores.{Kept, Has, Gives, tree_at}
 
--- where any literal of the field f holds that leaves q of p, the store's diagram a is the star of p on the packets of
--- the cell c that hold none of ls
-pub record IsShared (k : Kept) (p : Tree) (c : Packet) (ls : List Lit) (f : Field) (q a : ℕ) : Type 0 where
-  pub has : Has k q
-  pub star : (l : Lit) → lit_field l ≡ f → CofactorOf l p (tree_at k q) → Gives k a (StarBut p (put l c) ls)
+-- where any literal of the field f holds that leaves q of p, the store's diagram a is the star of p, after the copy s,
+-- on the packets of the cell c that hold none of ls
+pub record IsShared (k : Kept) (s : List Lit) (p : Tree) (c : Packet) (ls : List Lit) (f : Field) (q a : ℕ) : Type 0
+  where
+    pub has : Has k q
+    pub star : (l : Lit) → lit_field l ≡ f → CofactorOf l p (tree_at k q) → Gives k a (StarBut s p (put l c) ls)
 
-abbrev pub AreShared : Kept → Tree → Packet → List Lit → Shared → Type 0
-AreShared k p c ls s = EachIs (IsShared k p c ls s.field) s.parts.entries
+abbrev pub AreShared : Kept → List Lit → Tree → Packet → List Lit → Shared → Type 0
+AreShared k s p c ls a = EachIs (IsShared k s p c ls a.field) a.parts.entries
 
 abbrev pub id_eq : ℕ → ℕ → Bool
 id_eq = id_impl.eq-value.it

@@ -1,7 +1,8 @@
 -- Finite repetition of a diagram.
-use Rattle.std.specs.Prelude.{◌≡◌, ℕ, zero, suc, ◌≤◌}
+use Rattle.std.specs.Prelude.{◌≡◌, ◌⊎◌, ℕ, zero, suc, ◌≤◌}
 use Rattle.nk_values.specs.declared.packet.Packet.{Packet}
 use Rattle.nk_values.specs.declared.lit.Lit.{Lit}
+use Rattle.nk_values.specs.Held.{put}
 use Rattle.nk_values.specs.Members.{IsIn}
 use Rattle.nk_values.specs.Packets.{IsInRange}
 use Rattle.fdd_nodes.specs.Trees.{Tree, answers, Tests, Assigns}
@@ -36,6 +37,16 @@ pub record IsDeep (p : Tree) (pk out : Packet) : Type 0 where
 -- no packet in range has an output that takes 513 turns
 abbrev pub IsShallow : Tree → Type 0
 IsShallow p = (pk out : Packet) → ¬ IsDeep p pk out
+
+-- On each packet in range r answers what the assignment l makes of what p makes in any number of turns, of which 512
+-- do. r is normal, and names only what p names, and l. No packet in range has an output of p that takes 513 turns.
+pub record EndedStarOf (p : Tree) (l : Lit) (r : Tree) : Type 0 where
+  pub made : (pk out : Packet) → IsIn (answers r pk) out → (q : Packet) × AtMost p 512 pk q × (out ≡ put l q)
+  pub all : (n : ℕ) (pk q : Packet) → IsInRange pk → Turns p n pk q → IsIn (answers r pk) (put l q)
+  pub normal : IsNormal r
+  pub tests : (m : Lit) → Tests r m → Tests p m
+  pub assigns : (m : Lit) → Assigns r m → (l ≡ m) ⊎ Assigns p m
+  pub shallow : IsShallow p
 
 -- nothing is said of memory
 abbrev pub IsErrorOf : Tree → StarError → Type 0

@@ -1,6 +1,6 @@
 //! Why a star can't be made.
 //!
-//! Layer: diagrams; public. Called by `parts`, `reach` and `repetition` here, and by fdd_compile.
+//! Layer: diagrams; public. Called by many modules here, and by fdd_compile.
 use nk_values::Packet;
 use std::alloc::AllocError;
 use thiserror::Error;

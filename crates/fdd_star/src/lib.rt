@@ -4,7 +4,9 @@
 #![tactic(auto)]
 
 mod cells;
+mod ending;
 mod fault;
+mod found;
 mod keys;
 mod names;
 mod narrow;
@@ -14,5 +16,6 @@ mod repetition;
 mod shared;
 mod visits;
 
+pub use ending::ended_star;
 pub use fault::{StarError, StarFault};
 pub use repetition::star;

@@ -1,6 +1,6 @@
 //! What a diagram of a store names.
 //!
-//! Layer: diagrams; private. Called by `repetition`.
+//! Layer: diagrams; private. Called by `ending` and `repetition`.
 ghost use Rattle.std.specs.Prelude.{OnOk};
 ghost use Rattle.nk_values.specs.Members.{IsIn};
 ghost use Rattle.fdd_nodes.specs.Trees.{IsSetBy};

@@ -11,20 +11,21 @@ ghost use Rattle.fdd_store.specs.Stores.{Has, Grows, tree_at};
 
 use crate::cells::add_led_to;
 use crate::shared::is_shared;
-use fdd_nodes::{Cell, Known};
+use fdd_nodes::{Assignments, Cell, Known};
 use fdd_store::{Id, Look, Store};
 use indexmap::IndexSet;
 use nk_values::Lit;
 use std::alloc::{AllocError, Global};
 
 /// The body of which parts are taken at a cell for the literals that were asked there: that without the tests which
-/// come out one way in all turns from the cell, if it has fewer parts. It makes the same turns. If the cell fixes
-/// nothing, no test comes out one way.
+/// come out one way in all turns from the cell, if it has fewer parts. It makes the same turns. If the cell fixes what
+/// the first copy does and no more, no test comes out one way.
 pub(crate) fn narrowed(
     alloc: Global,
     store: &mut Store,
     allowance: &mut usize,
     assigned: &IndexSet<Lit>,
+    first: &Assignments,
     p: Id,
     cell: &Cell,
     asked: &[Lit],
@@ -34,7 +35,7 @@ pub(crate) fn narrowed(
     ensures grows { Grows store.old store.new }
     ensures body { IfOk result (IsDiagramAt store.new (IsNarrowed (tree_at store.old p) cell.now)) }
 {
-    if asked.len() < 2 || *cell == Cell::open() {
+    if asked.len() < 2 || *cell == Cell::open().after(first) {
         return Ok(p);
     }
     let many = parts(alloc, store, assigned, p, asked)?;

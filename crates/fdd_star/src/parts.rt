@@ -5,11 +5,11 @@ ghost use Rattle.std.specs.Prelude.{IfOk};
 ghost use Rattle.fdd_star.specs.Shared.{IsLeft};
 
 use crate::fault::StarError;
+use crate::found::Found;
 use crate::narrow::narrowed;
 use crate::reach::Reach;
-use crate::repetition::Found;
 use crate::shared::Shared;
-use fdd_nodes::{Cell, Leaf};
+use fdd_nodes::{Assignments, Cell, Leaf};
 use fdd_store::{Id, Store};
 use indexmap::{IndexMap, IndexSet};
 use nk_values::{Field, Lit, Packet};
@@ -37,10 +37,11 @@ impl Parts {
     ghost use Rattle.fdd_star.specs.Faults.{IsErrorIn};
     ghost use Rattle.fdd_star.specs.Found.{AreFound};
     ghost use Rattle.fdd_star.specs.Parts.{HasParts};
+    ghost use Rattle.fdd_star.specs.Reaches.{HoldsAll};
     ghost use Rattle.fdd_store.specs.Stores.{Has, Grows, tree_at};
 
     /// The packet of the cell alone: no part is made yet. The tests that were asked are added to the literals that are
-    /// missed.
+    /// missed. The cell holds the first copy.
     pub(crate) fn of(
         alloc: Global,
         store: &mut Store,
@@ -48,6 +49,7 @@ impl Parts {
         missed: &mut IndexSet<Lit>,
         other: &Packet,
         assigned: &IndexSet<Lit>,
+        first: &Assignments,
         p: Id,
         cell: &Cell,
     ) -> Result<Parts, StarError>
@@ -57,10 +59,11 @@ impl Parts {
         requires found { AreFound store.old found.old }
         requires range { IsInRange other.now }
         requires fresh { IsFresh other.now (tree_at store.old p) }
+        requires held { HoldsAll cell.now first.now }
         ensures grows { Grows store.old store.new }
         ensures found { OnOk result (AreFound store.new found.new) }
         ensures parts { MatchResult result
-            (HasParts store.new (tree_at store.old p) cell.now missed.old.keys missed.new.keys)
+            (HasParts store.new first.now (tree_at store.old p) cell.now missed.old.keys missed.new.keys)
             (λ e. IsErrorIn (tree_at store.old p) cell.now other.now e) }
     {
         let Reach { copies, asked, .. } = Reach::of(
@@ -68,6 +71,7 @@ impl Parts {
             store,
             &mut found.visits,
             other,
+            first,
             p,
             cell,
         )?;
@@ -75,7 +79,16 @@ impl Parts {
         let left = left_of(alloc, missed, asked)?;
         let leaf = Leaf::gathered(alloc, copies)?;
         let all = store.put_leaf(alloc, leaf)?;
-        let body = narrowed(alloc, store, &mut found.allowance, assigned, p, cell, &left)?;
+        let body = narrowed(
+            alloc,
+            store,
+            &mut found.allowance,
+            assigned,
+            first,
+            p,
+            cell,
+            &left,
+        )?;
         Ok(Parts {
             all,
             left,

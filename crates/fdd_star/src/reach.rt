@@ -28,16 +28,18 @@ impl Reach {
     ghost use Rattle.fdd_nodes.specs.Trees.{Tree, apply};
     ghost use Rattle.fdd_star.specs.Asks.{AreVisits, IsVisitOf};
     ghost use Rattle.fdd_star.specs.Faults.{IsErrorIn};
-    ghost use Rattle.fdd_star.specs.Reaches.{reached_copies, Starts, IsTold, NotesPacket, AsksAll, Grows, IsClosed};
+    ghost use Rattle.fdd_star.specs.Reaches.{reached_copies, HoldsAll, Starts, IsTold, NotesPacket, AsksAll, Grows};
+    ghost use Rattle.fdd_star.specs.Reaches.{IsClosed};
     ghost use Rattle.fdd_store.specs.Stores.{Has, tree_at};
 
-    /// What any number of turns reach, or an output that takes 513 turns. The fault fills the cell with another packet,
-    /// which has nothing that the diagram names.
+    /// What any number of turns reach after the first copy, or an output that takes 513 turns. The fault fills the cell
+    /// with another packet, which has nothing that the diagram names.
     pub(crate) fn of(
         alloc: Global,
         store: &Store,
         visits: &mut Visits,
         other: &Packet,
+        first: &Assignments,
         p: Id,
         cell: &Cell,
     ) -> Result<Reach, StarError>
@@ -46,11 +48,12 @@ impl Reach {
         requires visits { AreVisits store.now visits.old }
         requires range { IsInRange other.now }
         requires fresh { IsFresh other.now (tree_at store.now p) }
+        requires held { HoldsAll cell.now first.now }
         ensures visits { OnOk result (AreVisits store.now visits.new) }
-        ensures reach { MatchResult result (λ r. IsClosed (tree_at store.now p) cell.now r)
+        ensures reach { MatchResult result (λ r. IsClosed first.now (tree_at store.now p) cell.now r)
             (λ e. IsErrorIn (tree_at store.now p) cell.now other.now e) }
     {
-        let mut all = Reach::start(alloc, cell)?;
+        let mut all = Reach::start(alloc, cell, first)?;
         let mut from = 0;
         for turn in 0..513u64 {
             let until = all.copies.len();
@@ -70,9 +73,10 @@ impl Reach {
         }
     }
 
-    // The packet of the cell, before the first turn.
-    fn start(alloc: Global, cell: &Cell) -> Result<Reach, AllocError>
-        ensures { IfOk result (λ r. Starts cell.now r) }
+    // The packet of the cell, before the first turn. It holds the first copy.
+    fn start(alloc: Global, cell: &Cell, first: &Assignments) -> Result<Reach, AllocError>
+        requires { HoldsAll cell.now first.now }
+        ensures { IfOk result (λ r. Starts first.now cell.now r) }
     {
         let mut all = Reach {
             cells: IndexSet::new(alloc),
@@ -80,7 +84,7 @@ impl Reach {
             asked: BTreeSet::new(alloc),
         };
         all.cells.insert(*cell)?;
-        all.copies.push(Assignments::none(alloc)?)?;
+        all.copies.push(first.copy()?)?;
         Ok(all)
     }
 

@@ -1,56 +1,35 @@
 //! The star of a diagram, cell by cell.
 //!
-//! Layer: diagrams; public. Called by `parts` here, and by fdd_compile.
-ghost use Rattle.std.specs.Prelude.{◌≡◌, MatchResult, OnOk};
+//! Layer: diagrams; public. Called by `ending` here, and by fdd_compile.
+ghost use Rattle.std.specs.Prelude.{◌≡◌, [], ◌∷◌, MatchResult, OnOk};
 ghost use Rattle.nk_values.specs.Held.{put};
 ghost use Rattle.nk_values.specs.Lits.{lit_field};
 ghost use Rattle.nk_values.specs.declared.packet.Packet.{Packet};
 ghost use Rattle.nk_values.specs.Packets.{IsInRange};
 ghost use Rattle.fdd_nodes.specs.Cells.{IsFresh, IsOpen, IsValid};
-ghost use Rattle.fdd_nodes.specs.Names.{IsFew};
+ghost use Rattle.fdd_nodes.specs.Names.{AreFew, IsFew};
+ghost use Rattle.fdd_nodes.specs.Trees.{Leaf};
 ghost use Rattle.fdd_star.specs.Faults.{IsErrorIn};
 ghost use Rattle.fdd_star.specs.Found.{AreFound, IsPart};
 ghost use Rattle.fdd_star.specs.Named.{Covers};
 ghost use Rattle.fdd_star.specs.Narrow.{IsNarrowed};
+ghost use Rattle.fdd_star.specs.Reaches.{HoldsAll};
 ghost use Rattle.fdd_star.specs.Shared.{AreShared};
 ghost use Rattle.fdd_star.specs.Stars.{StarOf, IsErrorOf, IsShallow};
 ghost use Rattle.fdd_store.specs.Operations.{CofactorOf};
-ghost use Rattle.fdd_store.specs.Stores.{Has, Kept, Grows, Gives, tree_at};
+ghost use Rattle.fdd_store.specs.Stores.{Has, Grows, Gives, tree_at};
 
 use crate::fault::StarError;
+use crate::found::Found;
 use crate::names::Names;
 use crate::parts::Parts;
 use crate::shared::{Shared, is_shared};
-use crate::visits::Visits;
 use fdd_differ::{Listed, unnamed};
-use fdd_nodes::Cell;
+use fdd_nodes::{Assignments, Cell};
 use fdd_store::{Id, Store};
 use indexmap::IndexSet;
 use nk_values::{Lit, Packet};
 use std::alloc::Global;
-
-// How many places of diagrams may be gone through to narrow bodies, and one more for each four copies that were found.
-const FIRST_ALLOWANCE: usize = 1_048_576;
-
-/// What was found of the stars of a store's diagrams: where packets come to. And how many places of diagrams may still
-/// be gone through to narrow bodies.
-#[derive(Drop)]
-pub(crate) struct Found {
-    pub(crate) visits: Visits,
-    pub(crate) allowance: usize,
-}
-
-impl Found {
-    /// Nothing yet.
-    pub(crate) fn new(alloc: Global) -> Found
-        ensures { (k : Kept) → AreFound k result }
-    {
-        Found {
-            visits: Visits::new(alloc),
-            allowance: FIRST_ALLOWANCE,
-        }
-    }
-}
 
 /// The star `p*` of a diagram of a store: what any number of turns give (ICFP 2015, section 3).
 ///
@@ -67,6 +46,7 @@ pub fn star(alloc: Global, store: &mut Store, p: Id) -> Result<Id, StarError>
         (λ e. IsErrorOf (tree_at store.old p) e) }
     ensures never_deep { OnOk result (IsShallow (tree_at store.old p)) }
 {
+    let none = Assignments::none(alloc)?;
     let names = Names::of(alloc, store, p)?;
     let other = unnamed(&Listed {
         lits: names.named.as_slice(),
@@ -81,36 +61,40 @@ pub fn star(alloc: Global, store: &mut Store, p: Id) -> Result<Id, StarError>
         &mut missed,
         &other,
         &names.assigned,
+        &none,
         p,
         &cell,
     )
 }
 
-// The star on the packets of a cell that hold none of the missed literals.
+/// The star on the packets of a cell that hold none of the missed literals. A first copy comes before it, which the
+/// cell holds.
 #[cycle(star)]
-fn part_in(
+pub(crate) fn part_in(
     alloc: Global,
     store: &mut Store,
     found: &mut Found,
     missed: &mut IndexSet<Lit>,
     other: &Packet,
     assigned: &IndexSet<Lit>,
+    first: &Assignments,
     p: Id,
     cell: &Cell,
 ) -> Result<Id, StarError>
     requires has { Has store.old p }
-    requires few { IsFew (tree_at store.old p) }
+    requires few { AreFew (Leaf (first.now ∷ [])) (tree_at store.old p) }
     requires valid { IsValid cell.now }
     requires found { AreFound store.old found.old }
     requires range { IsInRange other.now }
     requires fresh { IsFresh other.now (tree_at store.old p) }
     requires assigned { Covers assigned.now.keys (tree_at store.old p) }
+    requires held { HoldsAll cell.now first.now }
     ensures grows { Grows store.old store.new }
     ensures part { MatchResult result
-        (IsPart store.new (tree_at store.old p) cell.now missed.old.keys found.new missed.new.keys)
+        (IsPart store.new first.now (tree_at store.old p) cell.now missed.old.keys found.new missed.new.keys)
         (λ e. IsErrorIn (tree_at store.old p) cell.now other.now e) }
 {
-    let mut parts = Parts::of(alloc, store, found, missed, other, assigned, p, cell)?;
+    let mut parts = Parts::of(alloc, store, found, missed, other, assigned, first, p, cell)?;
     while let Some(l) = parts.left.pop() {
         missed.truncate(missed.len().saturating_sub(1));
         parts.shared.move_to(l.field());
@@ -122,6 +106,7 @@ fn part_in(
             &mut parts.shared,
             other,
             assigned,
+            first,
             parts.body,
             cell,
             &l,
@@ -142,25 +127,28 @@ fn part_of(
     shared: &mut Shared,
     other: &Packet,
     assigned: &IndexSet<Lit>,
+    first: &Assignments,
     body: Id,
     cell: &Cell,
     l: &Lit,
 ) -> Result<Id, StarError>
     requires has { Has store.old body }
-    requires few { IsFew (tree_at store.old body) }
+    requires few { AreFew (Leaf (first.now ∷ [])) (tree_at store.old body) }
     requires valid { IsValid cell.now }
     requires found { AreFound store.old found.old }
-    requires shared { AreShared store.old (tree_at store.old body) cell.now missed.old.keys shared.old }
+    requires shared { AreShared store.old first.now (tree_at store.old body) cell.now missed.old.keys shared.old }
     requires field { shared.old.field ≡ lit_field l.now }
     requires range { IsInRange other.now }
     requires fresh { IsFresh other.now (tree_at store.old body) }
     requires assigned { Covers assigned.now.keys (tree_at store.old body) }
+    requires held { HoldsAll cell.now first.now }
     requires is_open { IsOpen cell.now (lit_field l.now) }
     ensures grows { Grows store.old store.new }
     ensures part { MatchResult result
-        (IsPart store.new (tree_at store.old body) (put l.now cell.now) missed.old.keys found.new missed.new.keys)
-        (λ e. IsErrorIn (tree_at store.old body) (put l.now cell.now) other.now e) }
-    ensures shared { OnOk result (AreShared store.new (tree_at store.old body) cell.now missed.old.keys shared.new) }
+        (IsPart store.new first.now (tree_at store.old body) (put l.now cell.now) missed.old.keys found.new
+        missed.new.keys) (λ e. IsErrorIn (tree_at store.old body) (put l.now cell.now) other.now e) }
+    ensures shared { OnOk result
+        (AreShared store.new first.now (tree_at store.old body) cell.now missed.old.keys shared.new) }
 {
     let left = store.cofactor(alloc, body, *l)?;
     if let Some(part) = shared.parts.get(&left) {
@@ -174,6 +162,7 @@ fn part_of(
         missed,
         other,
         assigned,
+        first,
         inner,
         &cell.with(l),
     )?;

@@ -1,6 +1,6 @@
 //! Where packets come to in a diagram.
 //!
-//! Layer: diagrams; private. Called by `reach` and `repetition`.
+//! Layer: diagrams; private. Called by `found` and `reach`.
 ghost use Rattle.std.specs.Prelude.{IfOk, OnOk};
 ghost use Rattle.fdd_star.specs.Asks.{IsVisitOf, Walks};
 ghost use Rattle.fdd_store.specs.Stores.{Has, Kept, tree_at};

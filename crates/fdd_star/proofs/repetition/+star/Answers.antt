@@ -9,14 +9,14 @@ use Rattle.nk_values.specs.Held.{put}
 use Rattle.nk_values.specs.Lits.{lit_field}
 use Rattle.nk_values.proofs.MemberLaws.{in-left, in-right}
 use Rattle.fdd_nodes.specs.Cells.{IsFresh, IsValid}
-use Rattle.fdd_nodes.specs.Names.{IsFew}
-use Rattle.fdd_nodes.specs.Trees.{Assigns}
+use Rattle.fdd_nodes.specs.Names.{AreFew, IsFew}
+use Rattle.fdd_nodes.specs.Trees.{Assigns, Leaf}
 use Rattle.fdd_nodes.proofs.CellLaws.{valid_with}
 use Rattle.fdd_nodes.proofs.OpenLaws.{open_fields, fewer_open}
 use Rattle.fdd_star.specs.Faults.{IsErrorIn}
 use Rattle.fdd_star.specs.Named.{Covers}
 use Rattle.fdd_star.specs.Narrow.{IsNarrowed}
-use Rattle.fdd_star.specs.Reaches.{StarBut}
+use Rattle.fdd_star.specs.Reaches.{HoldsAll, StarBut}
 use Rattle.fdd_star.specs.Shared.{AreShared, IsShared, MovesTo}
 use Rattle.fdd_star.proofs.FaultLaws.{fault_narrowed, fault_within, fresh_within}
 use Rattle.fdd_star.proofs.FoundLaws.{found_grown, stays, stayed}
@@ -24,13 +24,20 @@ use Rattle.fdd_star.proofs.KeptLaws.{found_right}
 use Rattle.fdd_star.proofs.NarrowLaws.{narrowed_within, star_narrowed}
 use Rattle.fdd_star.proofs.FieldLaws.{id_eq, same_id}
 use Rattle.fdd_star.proofs.SharedLaws.{none_left, shared_grown, shared_kept, shared_of, shared_moved, took_last}
-use Rattle.fdd_star.proofs.StarLaws.{choice_few, few_within, star_more}
+use Rattle.fdd_star.proofs.FirstLaws.{held_within}
+use Rattle.fdd_star.proofs.StarLaws.{ended_few, few_alone, few_inside, star_more}
 use Rattle.fdd_star.proofs.TurnLaws.{in_same}
 use Rattle.fdd_store.specs.Operations.{CofactorOf, LeavesOut}
 use Rattle.fdd_store.specs.Stores.{Gives, tree_at}
 use Rattle.fdd_store.proofs.StoreLaws.{gives_as, gives_grown, grows_on, has_grown}
 use Rattle.fdd_star.proofs.repetition.+star.Goals as goal
 use Rattle.fdd_star.proofs.repetition.+star.Goals.{part_of-then-is_shared+in_ok-keep, part_of-else-is_shared}
+
+pub part_in-of-requires-clause-few : goal.part_in-of-requires-clause-few
+part_in-of-requires-clause-few t c = few_alone _ _ c.requires.few
+
+pub part_of-cofactor-requires-clause-few : goal.part_of-cofactor-requires-clause-few
+part_of-cofactor-requires-clause-few t c = few_alone _ _ c.requires.few
 
 pub part_in-loop-l-init : goal.part_in-loop-l-init
 part_in-loop-l-init t c = (c.in_ok-parts.ensures.grows, c.in_ok-parts.ensures.found, c.in_ok-parts.ensures.parts)
@@ -46,10 +53,10 @@ part_in-part_of-requires t c =
       (
         i.body.has,
         (
-          few_within _ _ c.requires.few names,
+          few_inside _ _ _ c.requires.few names,
           (
             c.requires.valid,
-            (c.loop-l.invariant.1, (shared_moved _ _ _ _ _ c.in-Some.l _ _ took.1 turns i.shared, (turns.field, (c.requires.range, (fresh_within _ _ _ names c.requires.fresh, ((λ m w. c.requires.assigned m (names.assigns m w)), there.0)))))),
+            (c.loop-l.invariant.1, (shared_moved _ _ _ _ _ _ c.in-Some.l _ _ took.1 turns i.shared, (turns.field, (c.requires.range, (fresh_within _ _ _ names c.requires.fresh, ((λ m w. c.requires.assigned m (names.assigns m w)), (c.requires.held, there.0))))))),
           ),
         ),
       ),
@@ -77,7 +84,7 @@ pub part_in-choice-requires-clause-few : goal.part_in-choice-requires-clause-few
 part_in-choice-requires-clause-few t c =
     let i = c.loop-l.invariant.2 in
     let there = i.asked c.in-Some.l (in_same _ _ _ (sym c.in-Some.ensures.items) (in-right c.pop.new.self.items (c.in-Some.l ∷ []) c.in-Some.l (inl refl))) in
-    choice_few (tree_at c.args.store.now c.args.p) _ _ _ c.requires.few there.1 (star_narrowed (tree_at c.args.store.now c.args.p) _ _ _ _ (narrowed_within _ _ c.args.cell.now c.in-Some.l there.0 i.body.is) c.in_ok-part.ensures.part.star.is).names (gives_grown _ _ _ _ c.in_ok-part.ensures.grows i.all).is.names
+    ended_few _ (tree_at c.args.store.now c.args.p) _ _ _ c.requires.few there.1 (star_narrowed _ (tree_at c.args.store.now c.args.p) _ _ _ _ (narrowed_within _ _ c.args.cell.now c.in-Some.l there.0 i.body.is) c.in_ok-part.ensures.part.star.is).names (gives_grown _ _ _ _ c.in_ok-part.ensures.grows i.all).is.names
 
 pub part_in-returns-in_err-parts-2-clause-grows : goal.part_in-returns-in_err-parts-2-clause-grows
 part_in-returns-in_err-parts-2-clause-grows t c = grows_on _ _ _ c.loop-l.invariant.0 (grows_on _ _ _ c.in_ok-part.ensures.grows c.in_err-parts-2.ensures.grows)
@@ -92,17 +99,17 @@ part_in-loop-l-preserved t c =
     let rest = gives_grown _ _ _ _ c.in_ok-part.ensures.grows i.all in
     let missed = c.in_ok-part.ensures.part.missed in
     let took = took_last _ _ _ _ _ c.in-Some.l _ i.missed c.in-Some.ensures.items c.truncate.ensures.keys (let s = c.saturating_sub.ensures in let n = c.len.ensures.len in omega (arith, s, n)) in
-    let part = star_narrowed (tree_at c.args.store.now c.args.p) _ _ _ _ (narrowed_within _ _ c.args.cell.now c.in-Some.l there.0 i.body.is) c.in_ok-part.ensures.part.star.is in
-    let shared = shared_grown _ _ _ _ _ c.part_of.new.shared c.in_ok-parts-2.ensures.grows c.in_ok-part.ensures.shared in (
+    let part = star_narrowed _ (tree_at c.args.store.now c.args.p) _ _ _ _ (narrowed_within _ _ c.args.cell.now c.in-Some.l there.0 i.body.is) c.in_ok-part.ensures.part.star.is in
+    let shared = shared_grown _ _ _ _ _ _ c.part_of.new.shared c.in_ok-parts-2.ensures.grows c.in_ok-part.ensures.shared in (
       grows_on _ _ _ c.loop-l.invariant.0 more,
       found_grown _ _ _ c.in_ok-parts-2.ensures.grows c.in_ok-part.ensures.part.found,
       record {
-        all = gives_as _ _ _ _ (λ x w. subst (λ (ls : List Lit). StarBut p c.args.cell.now ls x) (sym missed) (star_more p _ _ _ l _ _ x there.1 there.0 took.1 part rest.is w)) c.in_ok-parts-2.ensures.place;
+        all = gives_as _ _ _ _ (λ x w. subst (λ (ls : List Lit). StarBut c.args.first.now p c.args.cell.now ls x) (sym missed) (star_more _ p _ _ _ l _ _ x c.requires.held there.1 there.0 took.1 part rest.is w)) c.in_ok-parts-2.ensures.place;
         missed = missed ∙ took.0;
         asked = λ m k. i.asked m (in_same _ _ _ (sym c.in-Some.ensures.items) (in-left c.pop.new.self.items (l ∷ []) m k));
         body = record { has = has_grown _ _ _ more i.body.has; is = stays (IsNarrowed p c.args.cell.now) _ _ _ more i.body.has i.body.is };
-        shared = stays (λ b. AreShared c.choice.new.self b c.args.cell.now c.part_of.new.missed.keys c.part_of.new.shared) _ _ _ more i.body.has
-            (subst (λ (ls : List Lit). AreShared c.choice.new.self (tree_at c.loop-l.store c.loop-l.parts.body) c.args.cell.now ls c.part_of.new.shared) (sym missed) shared);
+        shared = stays (λ b. AreShared c.choice.new.self c.args.first.now b c.args.cell.now c.part_of.new.missed.keys c.part_of.new.shared) _ _ _ more i.body.has
+            (subst (λ (ls : List Lit). AreShared c.choice.new.self c.args.first.now (tree_at c.loop-l.store c.loop-l.parts.body) c.args.cell.now ls c.part_of.new.shared) (sym missed) shared);
       },
     )
 
@@ -114,19 +121,19 @@ part_in-returns-clause-part t c =
     let i = c.loop-l.invariant.2 in
     let none = none_left c.loop-l.parts.left.items (λ b. false≢true (c.in_default.ensures.variant.1 (let k = c.loop-l.parts.left.ok in omega (arith, b, k)))) in
     let missed = i.missed ∙ ap (λ (ls : List Lit). c.args.missed.now.keys ++ ls) none ∙ append-nil _ in
-    record { star = gives_as _ _ _ _ (λ x w. subst (λ (ls : List Lit). StarBut (tree_at c.args.store.now c.args.p) c.args.cell.now ls x) missed w) i.all; found = c.loop-l.invariant.1; missed = missed }
+    record { star = gives_as _ _ _ _ (λ x w. subst (λ (ls : List Lit). StarBut c.args.first.now (tree_at c.args.store.now c.args.p) c.args.cell.now ls x) missed w) i.all; found = c.loop-l.invariant.1; missed = missed }
 
 pub part_in-loop-l-smaller : goal.part_in-loop-l-smaller
 part_in-loop-l-smaller t c = let e = ap length c.in-Some.ensures.items ∙ length-append c.pop.new.self.items (c.in-Some.l ∷ []) in omega (arith, e)
 
 pub part_of-returns-in-Some-clause-shared : goal.part_of-returns-in-Some-clause-shared
-part_of-returns-in-Some-clause-shared t c = shared_grown _ _ _ _ _ c.args.shared.now c.in_ok-left.ensures.grows c.requires.shared
+part_of-returns-in-Some-clause-shared t c = shared_grown _ _ _ _ _ _ c.args.shared.now c.in_ok-left.ensures.grows c.requires.shared
 
 pub part_of-returns-in-Some-clause-part : goal.part_of-returns-in-Some-clause-part
 part_of-returns-in-Some-clause-part t c =
     let k = c.cofactor.new.self in
-    let P = IsShared k (tree_at c.args.store.now c.args.body) c.args.cell.now c.args.missed.now.keys c.args.shared.now.field in
-    let kept = shared_grown _ _ _ _ _ c.args.shared.now c.in_ok-left.ensures.grows c.requires.shared in
+    let P = IsShared k c.args.first.now (tree_at c.args.store.now c.args.body) c.args.cell.now c.args.missed.now.keys c.args.shared.now.field in
+    let kept = shared_grown _ _ _ _ _ _ c.args.shared.now c.in_ok-left.ensures.grows c.requires.shared in
     let here = subst (λ (o : Option (Bor ℕ)). IfSome o (λ v. P c.in_ok-left.left v.now)) c.in-Some.is (found_right id_eq same_id P _ _ _ kept c.get.ensures.value) in
     record { star = here.star c.args.l.now (sym c.requires.field) c.in_ok-left.ensures.place.is; found = found_grown _ _ _ c.in_ok-left.ensures.grows c.requires.found; missed = refl }
 
@@ -148,14 +155,17 @@ part_of-part_in-requires t c =
       (
         c.inner_of-inner.ensures.has,
         (
-          few_within _ _ (stays IsFew _ _ _ g c.requires.has c.requires.few) names,
+          few_inside _ _ _ (stays (AreFew (Leaf (c.args.first.now ∷ []))) _ _ _ g c.requires.has c.requires.few) names,
           (
             subst IsValid (sym c.with.ensures) (valid_with cell l c.requires.valid),
             (
               found_grown _ _ _ g c.requires.found,
               (
                 c.requires.range,
-                (fresh_within _ _ _ names (stays (IsFresh c.args.other.now) _ _ _ g c.requires.has c.requires.fresh), λ m w. stays (Covers c.args.assigned.now.keys) _ _ _ g c.requires.has c.requires.assigned m (names.assigns m w)),
+                (
+                  fresh_within _ _ _ names (stays (IsFresh c.args.other.now) _ _ _ g c.requires.has c.requires.fresh),
+                  ((λ m w. stays (Covers c.args.assigned.now.keys) _ _ _ g c.requires.has c.requires.assigned m (names.assigns m w)), subst (λ (q : Packet). HoldsAll q c.args.first.now) (sym c.with.ensures) (held_within _ cell l c.requires.held c.requires.is_open)),
+                ),
               ),
             ),
           ),
@@ -184,13 +194,13 @@ part_of-returns-in_err-part-clause-part t c =
     let w = stayed (λ x. IsErrorIn x cell g e) _ _ _ c.in_ok-left.ensures.grows c.requires.has (fault_narrowed _ _ cell g e (c.inner_of-inner.ensures.inner c.args.cell.now) inner) in
     search (rules, w)
 
-whole : (t : ℕ) (c : goal.part_of-Joined-is_shared t) → Gives c.part_in.new.store c.in_ok-part.part (StarBut (tree_at c.args.store.now c.args.body) (put c.args.l.now c.args.cell.now) c.args.missed.now.keys)
+whole : (t : ℕ) (c : goal.part_of-Joined-is_shared t) → Gives c.part_in.new.store c.in_ok-part.part (StarBut c.args.first.now (tree_at c.args.store.now c.args.body) (put c.args.l.now c.args.cell.now) c.args.missed.now.keys)
 whole t c =
     let k = c.cofactor.new.self in
     let cell = put c.args.l.now c.args.cell.now in
     let ls = c.args.missed.now.keys in
-    gives_as _ _ _ _ (λ r x. stayed (λ b. StarBut b cell ls r) _ _ _ c.in_ok-left.ensures.grows c.requires.has
-    (star_narrowed (tree_at k c.args.body) _ cell ls r (c.inner_of-inner.ensures.inner c.args.cell.now) (subst (λ (q : Packet). StarBut (tree_at k c.inner_of-inner.result) q ls r) c.with.ensures x))) c.in_ok-part.ensures.part.star
+    gives_as _ _ _ _ (λ r x. stayed (λ b. StarBut c.args.first.now b cell ls r) _ _ _ c.in_ok-left.ensures.grows c.requires.has
+    (star_narrowed _ (tree_at k c.args.body) _ cell ls r (c.inner_of-inner.ensures.inner c.args.cell.now) (subst (λ (q : Packet). StarBut c.args.first.now (tree_at k c.inner_of-inner.result) q ls r) c.with.ensures x))) c.in_ok-part.ensures.part.star
 
 pub part_of-returns-clause-part : goal.part_of-returns-clause-part
 part_of-returns-clause-part t c = record { star = whole t c; found = c.in_ok-part.ensures.part.found; missed = c.in_ok-part.ensures.part.missed }
@@ -205,11 +215,11 @@ part_of-returns-clause-shared t c =
     let more = c.in_ok-part.ensures.grows in
     let grown = grows_on _ _ _ c.in_ok-left.ensures.grows more in
     let place = c.in_ok-left.ensures.place in
-    let old = shared_grown _ n b cell ls c.args.shared.now grown c.requires.shared in
+    let old = shared_grown _ n _ b cell ls c.args.shared.now grown c.requires.shared in
     elim c.if-is_shared.branch [
       | part_of-then-is_shared+in_ok-keep w ↦
           let unset = stayed (λ x. ¬ Assigns x l) _ _ _ grown c.requires.has (c.is_shared.ensures (stays (Covers c.args.assigned.now.keys) _ _ _ grown c.requires.has c.requires.assigned) w.if-is_shared.true) in
-          let new = shared_of n b cell ls l c.in_ok-left.left c.in_ok-part.part (has_grown _ _ _ more place.has) (stays (CofactorOf l b) _ _ _ more place.has place.is) (stays (LeavesOut (lit_field l)) _ _ _ more place.has c.in_ok-left.ensures.past) unset c.requires.is_open (whole t c) in
-          subst (AreShared n b cell ls) (sym w.shared-is) (shared_kept n b cell ls c.args.shared.now w.keep.new.self _ _ w.in_ok-keep.ensures.field w.in_ok-keep.ensures.parts old (subst (λ (f : Field). IsShared n b cell ls f c.in_ok-left.left c.in_ok-part.part) (sym c.requires.field) new))
-      | part_of-else-is_shared w ↦ subst (AreShared n b cell ls) (sym w.shared-is) old
+          let new = shared_of n _ b cell ls l c.in_ok-left.left c.in_ok-part.part c.requires.held (has_grown _ _ _ more place.has) (stays (CofactorOf l b) _ _ _ more place.has place.is) (stays (LeavesOut (lit_field l)) _ _ _ more place.has c.in_ok-left.ensures.past) unset c.requires.is_open (whole t c) in
+          subst (AreShared n c.args.first.now b cell ls) (sym w.shared-is) (shared_kept n _ b cell ls c.args.shared.now w.keep.new.self _ _ w.in_ok-keep.ensures.field w.in_ok-keep.ensures.parts old (subst (λ (f : Field). IsShared n c.args.first.now b cell ls f c.in_ok-left.left c.in_ok-part.part) (sym c.requires.field) new))
+      | part_of-else-is_shared w ↦ subst (AreShared n c.args.first.now b cell ls) (sym w.shared-is) old
     ]

@@ -12,7 +12,7 @@ abbrev pub decreases-part_of : goal.decreases-part_of
 decreases-part_of l = 2 * open_fields l.cell.now
 
 abbrev pub invariant-part_in-loop-l : goal.invariant-part_in-loop-l
-invariant-part_in-loop-l l = Grows l.fn.store l.store × AreFound l.store l.found × HasParts l.store (tree_at l.fn.store l.fn.p) l.cell l.fn.missed.keys l.missed.keys l.parts
+invariant-part_in-loop-l l = Grows l.fn.store l.store × AreFound l.store l.found × HasParts l.store l.first (tree_at l.fn.store l.fn.p) l.cell l.fn.missed.keys l.missed.keys l.parts
 
 abbrev pub decreases-part_in-loop-l : goal.decreases-part_in-loop-l
 decreases-part_in-loop-l l = length l.parts.left.items

@@ -5,7 +5,7 @@ use Rattle.fdd_star.proofs.TurnLaws.{turned_start, turned_next, closed_of, deep_
 use Rattle.fdd_star.proofs.reach.Reach.of.Goals as goal
 
 pub loop-turn-init : goal.loop-turn-init
-loop-turn-init c = (turned_start _ _ _ c.in_ok-all.ensures, c.requires.visits)
+loop-turn-init c = (turned_start _ _ _ _ c.requires.held c.in_ok-all.ensures, c.requires.visits)
 
 pub returns-then-from-until : goal.returns-then-from-until
 returns-then-from-until c =
@@ -13,13 +13,13 @@ returns-then-from-until c =
     let e = c.if-from-until.true in
     let f = c.len-until.ensures in
     let k = c.loop-turn.all.copies.ok in
-    record { visits = c.loop-turn.invariant.1; reach = closed_of _ _ c.loop-turn.turn c.loop-turn.from _ (omega (arith, b)) (omega (arith, e, f, k)) c.loop-turn.invariant.0 }
+    record { visits = c.loop-turn.invariant.1; reach = closed_of _ _ _ c.loop-turn.turn c.loop-turn.from _ (omega (arith, b)) (omega (arith, e, f, k)) c.loop-turn.invariant.0 }
 
 pub loop-turn-preserved : goal.loop-turn-preserved
 loop-turn-preserved c =
     let f = c.len-until.ensures in
     let k = c.loop-turn.all.copies.ok in
-    (turned_next _ _ _ _ _ _ _ (omega (arith, f, k)) c.loop-turn.invariant.0 c.in_ok-turn.ensures.grown, c.in_ok-turn.ensures.visits)
+    (turned_next _ _ _ _ _ _ _ _ (omega (arith, f, k)) c.loop-turn.invariant.0 c.in_ok-turn.ensures.grown, c.in_ok-turn.ensures.visits)
 
 pub returns-in-None : goal.returns-in-None
 returns-in-None c =
@@ -27,7 +27,7 @@ returns-in-None c =
     let b = c.in-None.ensures.lookup.3 in
     let w = c.loop-turn.invariant.0.within in
     let e = ap length c.deref.ensures.value in
-    record { visits = c.loop-turn.invariant.1; reach = closed_of _ _ c.loop-turn.turn c.loop-turn.from _ (omega (arith, n)) (omega (arith, b, w, e)) c.loop-turn.invariant.0 }
+    record { visits = c.loop-turn.invariant.1; reach = closed_of _ _ _ c.loop-turn.turn c.loop-turn.from _ (omega (arith, n)) (omega (arith, b, w, e)) c.loop-turn.invariant.0 }
 
 pub returns-in-Some : goal.returns-in-Some
 returns-in-Some c =
@@ -39,5 +39,5 @@ returns-in-Some c =
     record {
       visits = tt;
       reach = fault_filled _ _ _ _ _ c.filled-packet.ensures
-          (deep_named _ _ _ c.loop-turn.turn c.loop-turn.from c.loop-turn.all _ _ _ _ c.filled-packet.ensures c.filled-output.ensures c.after.ensures.made c.requires.valid c.requires.range c.requires.fresh (omega (arith, n, m)) c.loop-turn.invariant.0 (omega (arith, b, e)) at);
+          (deep_named _ _ _ _ c.loop-turn.turn c.loop-turn.from c.loop-turn.all _ _ _ _ c.filled-packet.ensures c.filled-output.ensures c.after.ensures.made c.requires.valid c.requires.range c.requires.fresh (omega (arith, n, m)) c.loop-turn.invariant.0 (omega (arith, b, e)) at);
     }

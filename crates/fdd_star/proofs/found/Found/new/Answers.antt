@@ -1,4 +1,4 @@
-use Rattle.fdd_star.proofs.repetition.Found.new.Goals as goal
+use Rattle.fdd_star.proofs.found.Found.new.Goals as goal
 
 pub returns : goal.returns
 returns c = λ k. record { visits = c.new.ensures k }
