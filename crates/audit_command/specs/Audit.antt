@@ -29,7 +29,7 @@ HasAudits w (suc place) report text = (before : List ℕ) × (here : List ℕ) �
     IsAuditLine w place here × (text ≡ before ++ here)
 
 -- The text is the report of the events of the whole schedule and of the world then, and the lines of all switches
--- there; `halts` says whether the updates stand still then.
+-- there; `halts` says whether the updates are halted then.
 pub record IsAuditOf (halts : Bool) (d : Doc) (versions : List Version) (text : List ℕ) : Type 0 where
   pub events : List Event
   pub world : WorldValue
@@ -49,7 +49,7 @@ pub record IsAudit (halts : Bool) (xs text : List ℕ) : Type 0 where
   pub audit : IsAuditOf halts document versions text
 
 -- The source was read to its end, and the text is the report and the audits of its schedule: Halted if the updates
--- stand still then, and Done if not.
+-- are halted then, and Done if not.
 pub record IsAuditAnswer (source : SourceSeen) (status : Status) (text : List ℕ) : Type 0 where
   pub halts : Bool
   pub status_is : status ≡ report_status halts

@@ -16,7 +16,7 @@ pub record IsAuditedAs (d : Document) (versions : List Version) (a : Answer) : T
   pub status : a.status ≡ report_status halts
   pub audit : IsAuditOf halts (doc_of d) versions a.text
 
--- the report of these events and of the world then, with its audits, and the status by whether the updates stand still
+-- the report of these events and of the world then, with its audits, and the status by whether the updates are halted
 pub record AreAuditsOf (w : WorldValue) (events : List Event) (a : Answer) : Type 0 where
   pub status : a.status ≡ report_status (is_some w.fleet.control.halt)
   pub report : List ℕ

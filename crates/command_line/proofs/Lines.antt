@@ -13,7 +13,7 @@ use Rattle.command_line.specs.declared.command.Command.TheVariants.{Drive, Gener
 use Rattle.command_line.specs.Commands.{base_port, is_plain, workload_number}
 use Rattle.command_line.specs.Form.{asked_by, base, form, number}
 
--- ---- faults one behind another
+-- ---- faults one after another
 
 first-none : (a b : Kinds) → or_else a b ≡ [] → a ≡ []
 first-none [] b e = refl
@@ -38,7 +38,7 @@ not-dash : (b : Bool) → not b ≡ true → b ≡ false
 not-dash true e = absurd (cc)
 not-dash false e = refl
 
--- ---- behind the word of a subcommand
+-- ---- after the word of a subcommand
 
 append-none : {X : Type 0} (xs : List X) → xs ++ [] ≡ xs
 append-none [] = refl
@@ -48,7 +48,7 @@ append-one : {X : Type 0} (xs : List X) (z : X) (zs : List X) → (xs ++ z ∷ [
 append-one [] z zs = refl
 append-one (x ∷ xs) z zs = ap (λ ys. x ∷ ys) (append-one xs z zs)
 
--- the words behind it are kept for the subcommand
+-- the words after it are kept for the subcommand
 kept : (c : List Rule) (ns : Names) (name : Text) (xs zs : List Text) (w : Walk) → w.stopped ≡ Some (name, xs) → (fold (walked c ns) w zs).stopped ≡ Some (name, xs ++ zs)
 unfolding clap_on_literals
 kept c ns name xs [] w e = e ∙ ap (λ ys. Some (name, ys)) (sym (append-none xs))
@@ -84,7 +84,7 @@ stray : (name x : Text) → is_plain x ≡ true → turn_fault (leaf name) [] (w
 unfolding clap_on_literals
 stray name x p e = no-kinds _ _ (sym (turn-stray name x (not-dashes x p) (not-long x p) (not-short x p)) ∙ e)
 
--- more words behind a subcommand that takes none
+-- more words after a subcommand that takes none
 pub more-words : (name x : Text) (zs : List Text) → is_plain x ≡ true → level_fault (leaf name) [] nothing_held (x ∷ zs) false [] ≡ [] → ⊥
 unfolding clap_on_literals
 more-words name x zs p e = stray name x p (first-none _ _ (first-none _ _ e))
@@ -101,7 +101,7 @@ other-word : (n w : Text) (rest : List Text) → bytes_eq (codes "rules") w ≡ 
 unfolding clap_on_literals
 other-word n w rest a b c q u d o f g p e = no-kinds _ _ (sym (turn-other w a b c q u d o f g (not-dashes w p) (not-long w p) (not-short w p)) ∙ first-none _ _ (first-none _ _ e))
 
--- what is refused behind the word of a subcommand
+-- what is refused after the word of a subcommand
 behind : (n name x : Text) (zs : List Text) → (walked [] (names_of (built form)) (walk_from nothing_held) name).stopped ≡ Some (name, []) → fault_of form (n ∷ name ∷ x ∷ zs) ≡ [] → entered_fault (built form) (Some (name, x ∷ zs)) ≡ []
 unfolding clap_on_literals
 behind n name x zs stop e =
@@ -142,7 +142,7 @@ unfolding clap_on_literals
 watch-alone n [] p e = refl
 watch-alone n (x ∷ zs) p e = absurd (more-words (codes "watch") x zs (and-first _ _ p) (behind n (codes "watch") x zs refl e))
 
--- ---- behind `generate`
+-- ---- after `generate`
 
 turn-one : (x y : Text) → bytes_eq x (45 ∷ 45 ∷ []) ≡ false → long_of x ≡ None → short_of x ≡ None → bytes_eq y (45 ∷ 45 ∷ []) ≡ false → long_of y ≡ None → short_of y ≡ None
     → turn_fault generate [] (walked generate.rules [] (walk_from nothing_held) x) y ≡ stray_fault generate
@@ -157,7 +157,7 @@ number-taken : (n x : Text) → bytes_eq x (45 ∷ 45 ∷ []) ≡ false → long
 unfolding clap_on_literals
 number-taken n x a b c = rw (a, b, c)
 
--- a third word behind the number
+-- a third word after the number
 many-words : (x y : Text) (zs : List Text) → is_plain x ≡ true → is_plain y ≡ true → level_fault generate [] nothing_held (x ∷ y ∷ zs) false [] ≡ [] → ⊥
 unfolding clap_on_literals
 many-words x y zs p q e =
@@ -210,7 +210,7 @@ base-faultless n x p = port-taken n x (not-dashes x p) (not-long x p) (not-short
 
 -- ---- which word it is
 
--- The word behind the program's name, with what may stand behind it.
+-- The word after the program's name, with what may stand after it.
 pub data Taken (w : Text) (rest : List Text) : Type 0 where
   for_rules : w ≡ codes "rules" → rest ≡ [] → Taken w rest
   for_trace : w ≡ codes "trace" → rest ≡ [] → Taken w rest

@@ -211,7 +211,7 @@ plain_all (w ∷ ws) e (suc k) d l = plain_all ws (rest (is_plain (string_bytes 
     rest true b e = e
     rest false b e = absurd (cc)
 
--- behind the first word
+-- after the first word
 line-behind : (ws : List (String Global)) → list_all is_plain (drop 1 (map string_bytes ws)) ≡ true → All IsPlain (drop 1 ws)
 line-behind [] e = λ k d l. absurd (omega (arith, l))
 line-behind (w ∷ ws) e = plain_all ws e

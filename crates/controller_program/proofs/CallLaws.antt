@@ -154,7 +154,7 @@ written-fault fault.NoThread e = absurd (cc)
 written-fault fault.Report e = absurd (cc)
 written-fault fault.Usage e = absurd (cc)
 
--- a fault of the document, or one behind an accepted document, came without a failed read
+-- a fault of the document, or one after an accepted document, came without a failed read
 by-source : (P : List ℕ → Fault → Type 0) (s : SourceSeen) (f : Fault) → StopsBy P s f → status_of f ≢ status.ReadFault → IsSame s.faults
 by-source P s (fault.Line line column f) h n = h.faultless
 by-source P s (fault.NotEnabled line) h n = h.faultless

@@ -2,7 +2,7 @@
 use Rattle.std.specs.Prelude.{◌≡◌, ℕ, Bool, List, is_some}
 use Rattle.document_text.specs.Documents.{Doc}
 use Rattle.policy_rows.specs.declared.version.Version.{Version}
-use Rattle.document_text.specs.Site.{Site}
+use Rattle.document_text.specs.DeclaredSwitch.{DeclaredSwitch}
 use Rattle.update_coordinator.specs.Controls.{Control}
 use Rattle.program_answer.specs.Fault.{Fault}
 use Rattle.program_answer.specs.Fault.TheVariants as fault
@@ -84,7 +84,8 @@ DriveStops source ports threads reports error.Memory = IsSame source.faults
 -- ---- of a document, as the calls tell it
 
 -- the report of a journal with its coordinator, with the status by how it ends
-pub record IsToldAs (switches : List Site) (control : Control) (journal : List Steering) (a : Answer) : Type 0 where
+pub record IsToldAs (switches : List DeclaredSwitch) (control : Control) (journal : List Steering) (a : Answer) : Type
+    0 where
   pub status : a.status ≡ report_status (is_some control.halt)
   pub text : a.text ≡ drive_text switches journal control.phase control.halt
 

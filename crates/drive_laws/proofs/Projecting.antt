@@ -84,7 +84,7 @@ shown w (event.Controller (of_controller.Lost p)) v l h s = record {
       let lost = lost-control p w.fleet s.fleet s.step in
       one w.fleet.control lost.0 v.fleet.control (Lost p) lost.1 (control-of w v s.fleet s.now ∙ lost.2);
 }
-shown w (event.Controller (of_controller.Rejoin p)) v l h s = absurd (l.there p (s.step.back.site, s.step.back.here, s.step.back.away))
+shown w (event.Controller (of_controller.Rejoin p)) v l h s = absurd (l.there p (s.step.back.peer, s.step.back.here, s.step.back.away))
 shown w (event.Packet (of_packet.Stuck k)) v l h s = absurd h
 shown w (event.Foreign p side got) v l h s = absurd h
 

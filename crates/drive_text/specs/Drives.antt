@@ -37,6 +37,6 @@ steering_line switches e = line (codes "e " ++ steering_text switches e)
 abbrev pub steerings_text : List DeclaredSwitch → List Steering → List ℕ
 steerings_text switches journal = flat_map (steering_line switches) journal
 
--- The text of a drive, in which no drains overlap: its events, the phase, and why the updates stand still.
+-- The text of a drive, in which no drains overlap: its events, the phase, and why the updates are halted.
 abbrev pub drive_text : List DeclaredSwitch → List Steering → Phase → Option Cause → List ℕ
 drive_text switches journal ph halt = steerings_text switches journal ++ state_text [] [] ph halt

@@ -150,7 +150,7 @@ braced-is q f fs u =
     ap (λ (xs : List ℕ). 123 ∷ (xs ++ u)) (sym (append_assoc (field_text f (get q f)) (more_fields q fs) (125 ∷ [])))
     ∙ ap (λ (xs : List ℕ). 123 ∷ xs) (append_assoc (field_text f (get q f) ++ more_fields q fs) (125 ∷ []) u)
 
--- what comes behind a step does not begin with a brace
+-- what comes after a step does not begin with a brace
 no-brace : (u v : List ℕ) → stops in_step u ≡ true → u ≡ 123 ∷ v → ⊥
 no-brace u v t e = let s : false ≡ true = subst (λ (xs : List ℕ). stops in_step xs ≡ true) e t in false≢true s
 

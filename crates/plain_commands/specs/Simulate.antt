@@ -26,7 +26,7 @@ pub record IsOutcomeOf (d : Doc) (versions : List Version) (events : List Event)
   pub good : AreGood world
 
 -- The text is the report of the events of the whole schedule and of the world then; `halts` says whether the updates
--- stand still then.
+-- are halted then.
 pub record IsSimulationOf (halts : Bool) (d : Doc) (versions : List Version) (text : List ℕ) : Type 0 where
   pub events : List Event
   pub world : WorldValue
@@ -61,7 +61,7 @@ pub record IsScheduleRefusal (xs : List ℕ) (f : Fault) : Type 0 where
 abbrev pub IsSimulateRefused : List ℕ → Fault → Type 0
 IsSimulateRefused xs f = IsInputRefused xs f ⊎ IsScheduleRefusal xs f
 
--- The source was read to its end, and the text is the report of its schedule: Halted if the updates stand still then,
+-- The source was read to its end, and the text is the report of its schedule: Halted if the updates are halted then,
 -- and Done if not.
 pub record IsSimulateAnswer (source : SourceSeen) (status : Status) (text : List ℕ) : Type 0 where
   pub halts : Bool

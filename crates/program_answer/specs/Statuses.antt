@@ -31,7 +31,7 @@ status_of fault.NoThread = NoThread
 status_of fault.Report = ReportFault
 status_of fault.Usage = Usage
 
--- how a call ends once a report is written: `halts` says whether the updates stand still
+-- how a call ends once a report is written: `halts` says whether the updates are halted
 abbrev pub report_status : Bool → Status
 report_status false = Done
 report_status true = Halted

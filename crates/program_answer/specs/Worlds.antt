@@ -28,7 +28,7 @@ start_of_drive d versions =
     initial_world d.layout versions
     (record { hops = d.settings.hops; capacity = d.settings.capacity; rejoins = 0; overlap = None })
 
--- the report of these events and of the world then, and the status by whether the updates stand still
+-- the report of these events and of the world then, and the status by whether the updates are halted
 pub record IsWorldAnswer (w : WorldValue) (events : List Event) (a : Answer) : Type 0 where
   pub status : a.status ≡ report_status (is_some w.fleet.control.halt)
   pub report : IsWorldReport w events a.text

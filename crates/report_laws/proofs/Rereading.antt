@@ -93,7 +93,7 @@ value-ok n v = all-three (nat_le 1 n) (nat_le n 65535) (within 1 n v.low) (withi
 at-switch : (s : State) (place : ℕ) (x : DeclaredSwitch) (d : ScheduleStep) → IsTopology s.layout → slice_get s.layout.switches place ≡ Some x → at_switch s x.sw d ≡ Ok d
 at-switch s place x d k here =
     let m = at-in place s.layout.switches x here in
-    let value : is_value Sw x.sw ≡ true = value-ok x.sw (k.sound.peers x m).switch in
+    let value : is_value Sw x.sw ≡ true = value-ok x.sw (k.sound.sites x m).switch in
     let known : has_switch s.layout.switches x.sw ≡ true = any-in (λ (y : DeclaredSwitch). y.sw == x.sw) s.layout.switches x m ((Decides-eqb x.sw x.sw).1 refl) in
     ap (λ (b : Bool). cond (not b) (Err ValueRange) (cond (not (has_switch s.layout.switches x.sw)) (Err UnknownSwitch) (Ok d))) value
     ∙ ap (λ (b : Bool). cond (not b) (Err UnknownSwitch) (Ok d)) known
@@ -105,7 +105,7 @@ wide : (n : ℕ) → n ≤ 4294967295 → n < 2 ^ 64
 wide n h = omega (arith, h)
 
 sw-small : (s : State) (place : ℕ) (x : DeclaredSwitch) → IsTopology s.layout → slice_get s.layout.switches place ≡ Some x → x.sw ≤ 4294967295
-sw-small s place x k here = small x.sw (k.sound.peers x (at-in place s.layout.switches x here)).switch.high
+sw-small s place x k here = small x.sw (k.sound.sites x (at-in place s.layout.switches x here)).switch.high
 
 text-is : (s : State) (place : ℕ) (x : DeclaredSwitch) → slice_get s.layout.switches place ≡ Some x → number_at s.layout.switches place ≡ decimal x.sw
 text-is s place x here = ap (λ (o : Option DeclaredSwitch). number_text o) here

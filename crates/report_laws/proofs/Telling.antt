@@ -43,7 +43,7 @@ record Numbered (t : Layout) (place : ℕ) : Type 0 where
 numbered : (t : Layout) → IsTopology t → (place : ℕ) → place < length t.switches → Numbered t place
 numbered t k place l =
     let s = get-some place t.switches l in
-    record { site = s.0; here = s.1; high = (k.sound.peers s.0 (at-in place t.switches s.0 s.1)).switch.high }
+    record { site = s.0; here = s.1; high = (k.sound.sites s.0 (at-in place t.switches s.0 s.1)).switch.high }
 
 text-is : (t : Layout) (place : ℕ) (n : Numbered t place) → number_at t.switches place ≡ decimal n.site.sw
 text-is t place n = ap (λ (o : Option DeclaredSwitch). number_text o) n.here

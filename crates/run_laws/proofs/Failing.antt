@@ -100,10 +100,10 @@ state-is : (st : Stage) (halted : Bool) (s : SessionState) → halted ≡ false 
 state-is st halted s n (inl e) = absurd (false≢true (sym n ∙ e))
 state-is st halted s n (inr e) = e
 
-line-full : (c : Setting) (swept : ℕ) (ph : Phase) (halted : Bool) (l : Wire) → halted ≡ false → IsLine c swept ph halted l → l.site.away ≡ false → (m : Message) (rest : List Message) → l.back ≡ m ∷ rest → (f : SessionFault) → move_of l.site.session m ≡ Failed f → IsFull m f
+line-full : (c : Setting) (swept : ℕ) (ph : Phase) (halted : Bool) (l : Wire) → halted ≡ false → IsLine c swept ph halted l → l.peer.away ≡ false → (m : Message) (rest : List Message) → l.back ≡ m ∷ rest → (f : SessionFault) → move_of l.peer.session m ≡ Failed f → IsFull m f
 line-full c swept ph halted l n i there m rest front f h =
     let v = i.voice in
-    let is : l.site.session.state ≡ state_of i.stage = state-is i.stage halted l.site.session.state n i.standing.state in
+    let is : l.peer.session.state ≡ state_of i.stage = state-is i.stage halted l.peer.session.state n i.standing.state in
     let moves : move_in (state_of i.stage) l.switch.sw m ≡ Failed f = (λ j. move_in (sym is j) (sym i.standing.datapath j) m) ∙ h in
     by-error i.stage l.switch.sw m f moves
     (front-full i.stage l.switch.sw m rest v.before v.said v.behind f (sym i.away ∙ there) v.what (sym front ∙ v.is) (subst AreErrors v.parts i.full) moves)
@@ -117,8 +117,8 @@ failure-full : (w : WorldValue) (place : ℕ) (why : Cause) → IsKept w → (x 
 unfolding IsKept
 failure-full w place why k x =
     let h = end-here (setting w) w.fleet k.fleet place x.end_ x.here in
-    line-full (setting w) w.fleet.control.swept w.fleet.control.phase (is_some w.fleet.control.halt) (wire_of w.fleet.control x.session.site h.reply x.end_) (running w.fleet.control.halt x.session.running)
-    (k.fleet.lines place x.session.site h.reply x.end_ x.session.here h.reply_at x.here) x.session.there x.message x.rest x.front x.fault x.fails
+    line-full (setting w) w.fleet.control.swept w.fleet.control.phase (is_some w.fleet.control.halt) (wire_of w.fleet.control x.session.peer h.reply x.end_) (running w.fleet.control.halt x.session.running)
+    (k.fleet.lines place x.session.peer h.reply x.end_ x.session.here h.reply_at x.here) x.session.there x.message x.rest x.front x.fault x.fails
 
 leads-room : HasTableRoom → (events : List Event) (w : WorldValue) → LeadsTo events w → KeepsRoom w
 leads-room room events w l =
@@ -130,8 +130,8 @@ only-refused room events w place why l x =
     let k = leads-kept events w l in
     let full = failure-full w place why k x in
     record {
-      sw = x.session.site.sw;
-      is = x.is ∙ ap (λ (f : SessionFault). cause.Failed x.session.site.sw f) full.fault;
+      sw = x.session.peer.sw;
+      is = x.is ∙ ap (λ (f : SessionFault). cause.Failed x.session.peer.sw f) full.fault;
       short = λ n. elim (cases_lt w.capacity 130000) [
         | inl s ↦ s
         | inr r ↦ absurd (leads-room room events w l (n, r) place x.end_ x.here x.message (subst (λ (ms : List Message). IsIn ms x.message) (sym x.front) (inl refl)) full.error)

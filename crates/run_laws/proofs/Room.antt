@@ -117,7 +117,7 @@ step-room room w (event.Switch (of_switch.Take p)) v k s h =
 step-room room w (event.Switch (of_switch.Apply p n)) v k s h =
     ends-are w v s.fleet _ s.now (ap (λ (f : Fleet). f.ends) s.step.now)
     (λ l. set-back w.fleet.ends p s.step.old _ s.step.here (h l)
-    (none-told s.step.site.away s.step.answer s.step.old.back (room w p n v k l s) (h l p s.step.old s.step.here)))
+    (none-told s.step.peer.away s.step.answer s.step.old.back (room w p n v k l s) (h l p s.step.old s.step.here)))
 step-room room w (event.Switch (of_switch.Reply p)) v k s h =
     ends-are w v s.fleet _ s.now (ap (λ (f : Fleet). f.ends) s.step.now)
     (λ l. set-back w.fleet.ends p s.step.old _ s.step.here (h l)

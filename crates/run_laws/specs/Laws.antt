@@ -67,7 +67,7 @@ CopiesCarry = (events : List Event) (w : WorldValue) → LeadsTo events w → Co
 pub record IsLastLoss (place : ℕ) (w : WorldValue) (why : Cause) : Type 0 where
   pub session : HasSession place w.fleet.control
   pub none_left : w.fleet.control.rejoins ≡ 0
-  pub is : why ≡ cause.Lost session.site.sw
+  pub is : why ≡ cause.Lost session.peer.sw
 
 -- By the message at the front of the channel from it, the session fails.
 pub record IsFailure (place : ℕ) (w : WorldValue) (why : Cause) : Type 0 where
@@ -78,8 +78,8 @@ pub record IsFailure (place : ℕ) (w : WorldValue) (why : Cause) : Type 0 where
   pub rest : List Message
   pub front : end_.back ≡ message ∷ rest
   pub fault : SessionFault
-  pub fails : move_of session.site.session message ≡ Failed fault
-  pub is : why ≡ cause.Failed session.site.sw fault
+  pub fails : move_of session.peer.session message ≡ Failed fault
+  pub is : why ≡ cause.Failed session.peer.sw fault
 
 -- a copy with the stamp that is to be drained took as many hops as it may
 pub record IsUndrained (k : ℕ) (w : WorldValue) (why : Cause) : Type 0 where

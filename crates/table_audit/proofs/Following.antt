@@ -282,14 +282,14 @@ given t vs limit capacity overlap k a swept ph within sw rows over =
 
 -- ---- nothing is left
 
-nothing-to-come : (st : Stage) (js : List FlowMod) (due : Bool) (l : Wire) → IsAt st l → state.Up ≡ state_of st → l.site.unsent ≡ [] → l.there ≡ [] → (m : FlowMod) → IsIn (to_come js due st) m → ⊥
+nothing-to-come : (st : Stage) (js : List FlowMod) (due : Bool) (l : Wire) → IsAt st l → state.Up ≡ state_of st → l.peer.unsent ≡ [] → l.there ≡ [] → (m : FlowMod) → IsIn (to_come js due st) m → ⊥
 nothing-to-come Away js due l at up unsent there m n = let e : state.Up ≡ state.Fresh = up in absurd (cc)
 nothing-to-come (Meeting x left) js due l at up unsent there m n = let e : state.Up ≡ state.Fresh = up in absurd (cc)
 nothing-to-come (Asking x left) js due l at up unsent there m n = let e : state.Up ≡ state.Greeted = up in absurd (cc)
 nothing-to-come Telling js due l at up unsent there m n = let e : state.Up ≡ state.Greeted = up in absurd (cc)
 nothing-to-come (Sending x []) js due l at up unsent there m n = n
 nothing-to-come (Sending x (y ∷ ys)) js due l at up unsent there m n =
-    let e : [] ≡ numbered x (orders_of (y ∷ ys)) = sym (λ i. there i ++ numbered l.site.sent (unsent i)) ∙ at.messages in
+    let e : [] ≡ numbered x (orders_of (y ∷ ys)) = sym (λ i. there i ++ numbered l.peer.sent (unsent i)) ∙ at.messages in
     absurd (cc)
 nothing-to-come (Waiting x) js due l at up unsent there m n = n
 nothing-to-come (Answered x) js due l at up unsent there m n = n
@@ -307,7 +307,7 @@ no-errors (x ∷ errors) before said behind back full parts is none =
     put (inr m) = in-right before (said ++ behind) x (in-right said behind x m)
 
 -- the line of such a switch
-over-line : (c : Setting) (swept : ℕ) (ph : Phase) (l : Wire) → IsLine c swept ph false l → l.site.session.state ≡ state.Up → l.site.unsent ≡ [] → l.there ≡ [] → l.switch.pending ≡ [] → ((m : Message) → IsIn l.back m → ¬ IsError m) → Over c swept ph l.switch.sw l.switch.table.rows
+over-line : (c : Setting) (swept : ℕ) (ph : Phase) (l : Wire) → IsLine c swept ph false l → l.peer.session.state ≡ state.Up → l.peer.unsent ≡ [] → l.there ≡ [] → l.switch.pending ≡ [] → ((m : Message) → IsIn l.back m → ¬ IsError m) → Over c swept ph l.switch.sw l.switch.table.rows
 over-line c swept ph l i up unsent there pending errors =
     changing-same (adds c ph) (Base c swept ph l.switch.sw) (batch c ph l.switch.sw) (λ r. Left c ph l.switch.sw i.due i.stage i.held r ⊎ IsIn i.table.refused r) (λ r. ⊥) l.switch.table.rows
     (λ r m. elim m [ inl x ↦ elim x.1 [ inl y ↦ nothing-to-come i.stage (job c ph l.switch.sw) i.due l i.at reached unsent there _ y | inr y ↦ none-held _ y ] | inr x ↦ none-refused r x ])

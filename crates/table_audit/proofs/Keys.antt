@@ -67,7 +67,7 @@ at-site s a m = let r = from-map (λ n. place_of (s.sw, n)) s.ports a m in ap (�
 pub places-once : (t : Layout) → IsSound t → EachOnce (flat_map places_at t.switches)
 places-once t k = pairs-flat_map places_at (λ a b. a.sw ≢ b.sw) (λ a b. a ≢ b) t.switches (from-mapped (λ (s : DeclaredSwitch). s.sw) t.switches k.differ)
     (λ s m. pairs-map (λ n. place_of (s.sw, n)) (λ a b. a ≢ b) s.ports
-    (pairs-weaker (λ m n. m ≢ n) (λ m n. place_of (s.sw, m) ≢ place_of (s.sw, n)) s.ports (λ m n i j differ same. differ (ap (λ (a : Place). a.pt) same)) (k.peers s m).differ))
+    (pairs-weaker (λ m n. m ≢ n) (λ m n. place_of (s.sw, m) ≢ place_of (s.sw, n)) s.ports (λ m n i j differ same. differ (ap (λ (a : Place). a.pt) same)) (k.sites s m).differ))
     (λ a b x y m n differ i j same. differ (sym (at-site a x i) ∙ ap (λ (p : Place). p.sw) same ∙ at-site b y j))
 
 from-ports : (sw n : ℕ) (places : List Place) → IsIn (ports_in places sw) n → IsIn places (spot sw n)

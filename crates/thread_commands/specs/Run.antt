@@ -76,16 +76,16 @@ many_broken {E} faults ends = length (filter (λ (e : E). ltb 0 (faults e)) ends
 abbrev pub HasRisenBy : ℕ → Change ℕ → Type 0
 HasRisenBy n count = min (count.before + n) (2 ^ 64 - 1) ≤ count.after
 
--- A loss by which the updates come to stand still comes after as many others as the document lets return.
+-- A loss by which the updates halt comes after as many others as the document lets return.
 abbrev pub HaltsLast : Doc → List Version → Type 0
 HaltsLast d versions = (before : List Event) (v x : WorldValue) (s : ℕ) → Runs (start_of d versions) before v →
     Step v (event.Controller (of_controller.Lost s)) x → x.fleet.control.halt ≢ None →
     losses before ≡ d.settings.rejoins
 
 -- The events lead from the start of the document's policies to this world, and each packet that came in is handled by
--- one policy. Each line came in once and no copy may take another hop, also if the updates stand still. If they do not,
+-- one policy. Each line came in once and no copy may take another hop, also if the updates are halted. If they are not,
 -- the last policy handles all packets and none before it drains. Each lost session cost a broken end: the net's count
--- of these rose by as many. The updates stand still by a lost session only if as many as the document lets return were
+-- of these rose by as many. The updates are halted by a lost session only if as many as the document lets return were
 -- lost before it. Foreign bytes came next in the first stream that the net told in this call, after as many messages as
 -- that side of the switch was told before in its session. They halt, so their end is kept last and given back first. A
 -- net tells no names of ends, so none is said.
@@ -103,7 +103,7 @@ pub record IsRunBy (events : List Event) (world : WorldValue) (net : NetSeen) (d
       events ≡ before ++ event.Foreign s side got ∷ rest → AreToldSince net.gathered (HasNext (told s side before) got)
 
 -- The text is the report of a run of the document's policies and of the world that it led to; `halts` says whether the
--- updates stand still there.
+-- updates are halted there.
 pub record IsRunOf (halts : Bool) (net : NetSeen) (d : Doc) (versions : List Version) (text : List ℕ) : Type 0 where
   pub events : List Event
   pub world : WorldValue
@@ -120,7 +120,7 @@ pub record IsRun (halts : Bool) (net : NetSeen) (xs text : List ℕ) : Type 0 wh
   pub accepted : IsAcceptedAs xs document versions
   pub run : IsRunOf halts net document versions text
 
--- The source was read to its end, and the text is the report of a run: Halted if the updates stand still, and Done if
+-- The source was read to its end, and the text is the report of a run: Halted if the updates are halted, and Done if
 -- not.
 pub record IsRunAnswer (source : SourceSeen) (net : NetSeen) (status : Status) (text : List ℕ) : Type 0 where
   pub halts : Bool

@@ -25,7 +25,7 @@ pub record IsSeenAnswer (w : WorldValue) (events : List Event) (posts : List Pos
   pub text : a.text ≡ report.text ++ control_posts w.fleet.control posts
 
 -- The text is the report of a run of the document's policies, as `run` writes it, and then a line for each post that
--- was seen of it; `halts` says whether the updates stand still at its end.
+-- was seen of it; `halts` says whether the updates are halted at its end.
 pub record IsWatchOf (halts : Bool) (net : NetSeen) (d : Doc) (versions : List Version) (text : List ℕ) : Type 0 where
   pub events : List Event
   pub world : WorldValue
@@ -44,7 +44,7 @@ pub record IsWatch (halts : Bool) (net : NetSeen) (xs text : List ℕ) : Type 0 
   pub accepted : IsAcceptedAs xs document versions
   pub watch : IsWatchOf halts net document versions text
 
--- The source was read to its end, and the text is that of a watched run: Halted if the updates stand still, and Done if
+-- The source was read to its end, and the text is that of a watched run: Halted if the updates are halted, and Done if
 -- not.
 pub record IsWatchAnswer (source : SourceSeen) (net : NetSeen) (status : Status) (text : List ℕ) : Type 0 where
   pub halts : Bool

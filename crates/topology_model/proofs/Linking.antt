@@ -122,7 +122,7 @@ module _ (t : Layout) (a b : Place) (s : IsSound t) (fa : is_some (far_end t.lin
 
 pub sound : (t : Layout) (a b : ℕ × ℕ) → IsSound t → IsNewLink t a b → IsSound (record { switches = t.switches; links = t.links ++ (place_of a, place_of b) ∷ (place_of b, place_of a) ∷ [] })
 sound t a b s n = record {
-  sites = s.peers;
+  sites = s.sites;
   differ = s.differ;
   few = s.few;
   declared = λ x y m.

@@ -16,7 +16,7 @@ use Rattle.topology_model.proofs.Wires.{linked, joined}
 
 pub in_range : (t : Layout) (a : Place) → IsSound t → IsDeclared t a → IsValue Sw a.sw × IsValue Pt a.pt
 in_range t a s d =
-    let site = s.peers d.site d.among in
+    let site = s.sites d.site d.among in
     (subst (λ (n : ℕ). IsValue Sw n) d.switch site.switch, site.ports a.pt d.port)
 
 -- a place of a list of numbers

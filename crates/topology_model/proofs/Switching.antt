@@ -111,7 +111,7 @@ pub sound : (t : Layout) (sw : ℕ) (ports : List ℕ) → IsSound t → IsLineI
     IsSound (record { switches = t.switches ++ site sw ports ∷ []; links = t.links })
 sound t sw ports s r n = record {
   sites = λ x m. elim (in-either t.switches (site sw ports ∷ []) x m) [
-    | inl y ↦ s.peers x y
+    | inl y ↦ s.sites x y
     | inr y ↦ elim y [ inl e ↦ subst (λ (z : DeclaredSwitch). IsSite z) e (record { switch = r.0; ports = λ n k. each_in (IsValue Pt) ports n r.1 k; differ = no_repeat ports n.differ; few = n.few }) | inr y ↦ absurd y ]
   ];
   differ = differ_push t.switches sw ports s.differ (unnamed t.switches sw n.new);

@@ -95,10 +95,10 @@ away-is (Answered x) e = false-true e
 away-is Resting e = false-true e
 
 -- nothing goes to it or comes from it, and neither side waits for an answer
-pub away-line : (c : Setting) (swept : ℕ) (ph : Phase) (h : Bool) (l : Wire) → l.site.away ≡ true → IsLine c swept ph h l → IsGone l
+pub away-line : (c : Setting) (swept : ℕ) (ph : Phase) (h : Bool) (l : Wire) → l.peer.away ≡ true → IsLine c swept ph h l → IsGone l
 away-line c swept ph h l w i = subst (λ (st : Stage). IsAt st l) (away-is i.stage (sym i.away ∙ w)) i.at
 
-pub return-line : (c : Setting) (swept : ℕ) (ph : Phase) (xid : ℕ) (l : Wire) → l.site.away ≡ true → IsLine c swept ph false l → IsLine c swept ph false (returned_wire xid l)
+pub return-line : (c : Setting) (swept : ℕ) (ph : Phase) (xid : ℕ) (l : Wire) → l.peer.away ≡ true → IsLine c swept ph false l → IsLine c swept ph false (returned_wire xid l)
 return-line c swept ph xid l w i =
     let sw = l.switch.sw in
     let gone : i.stage ≡ Away = away-is i.stage (sym i.away ∙ w) in
@@ -106,13 +106,13 @@ return-line c swept ph xid l w i =
     let silent : i.voice.before ++ (i.voice.said ++ i.voice.behind) ≡ [] = sym i.voice.is ∙ a.back in
     let none : i.errors ≡ [] = i.voice.parts ∙ (λ j. empty-left i.voice.before (i.voice.said ++ i.voice.behind) silent j ++ empty-right i.voice.said i.voice.behind (empty-right i.voice.before (i.voice.said ++ i.voice.behind) silent) j) in
     record {
-      stage = Meeting l.site.sent (Greet ∷ []);
+      stage = Meeting l.peer.sent (Greet ∷ []);
       due = i.due;
       held = i.held;
       errors = [];
       due_is = i.due_is;
       suits = tt;
-      at = record { script = inl refl; messages = (λ j. a.there j ++ numbered l.site.sent (Greet ∷ [])); count = refl; awaited = a.awaited; free = a.free };
+      at = record { script = inl refl; messages = (λ j. a.there j ++ numbered l.peer.sent (Greet ∷ [])); count = refl; awaited = a.awaited; free = a.free };
       away = refl;
       pending = i.pending;
       voice = record { before = []; said = to.Hello 1 xid ∷ []; behind = []; what = (xid, refl); is = refl; parts = refl; last = tt };

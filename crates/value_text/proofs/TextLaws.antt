@@ -8,7 +8,7 @@ pub from_both : {T E : Type 0} (r : Result T E) (P Q R : T → Type 0) → ((x :
 from_both (Ok x) P Q R f p q = f x p q
 from_both (Err e) P Q R f p q = tt
 
--- the element at k, and those behind it
+-- the element at k, and those after it
 pub drop_next : {X : Type 0} (xs : List X) (k : ℕ) (x : X) → k < length xs → x ≡ get_or xs k x → drop k xs ≡ x ∷ drop (k + 1) xs
 drop_next xs k x l e = rw (add-one, drop-cons xs k x) (ap (λ y. y ∷ drop (suc k) xs) (sym e))
 
@@ -16,7 +16,7 @@ drop_next xs k x l e = rw (add-one, drop-cons xs k x) (ap (λ y. y ∷ drop (suc
 pub take_next : {X : Type 0} (xs : List X) (k : ℕ) (x : X) → k < length xs → x ≡ get_or xs k x → take (k + 1) xs ≡ take k xs ++ x ∷ []
 take_next xs k x l e = rw (add-one, take-suc xs k x) (ap (λ y. take k xs ++ y ∷ []) (sym e))
 
--- a text so far: with texts of the elements left behind it, it has those of all elements
+-- a text so far: with texts of the elements left after it, it has those of all elements
 abbrev pub IsFront : {X : Type 0} → (ℕ → X → List ℕ → Type 0) → List X → List X → ℕ → List ℕ → Type 0
 IsFront P xs left k text = (more : List ℕ) → AreTexts P k left more → AreTexts P 0 xs (text ++ more)
 
@@ -42,10 +42,10 @@ last_text P xs left k old now e a = record {
   all = a.all;
 }
 
--- a text behind nothing
+-- a text after nothing
 pub whole_text : (IsText : List ℕ → Type 0) (new : List ℕ) → AddsText IsText [] new → IsText new
 whole_text IsText new a = subst IsText (sym a.all) a.is
 
--- the text behind is also of another kind
+-- the text after is also of another kind
 pub of_kind : (P Q : List ℕ → Type 0) (old new : List ℕ) → ((t : List ℕ) → P t → Q t) → AddsText P old new → AddsText Q old new
 of_kind P Q old new f a = record { text = a.text; is = f a.text a.is; all = a.all }

@@ -14,7 +14,7 @@ use Rattle.value_text.specs.declared.fault.Fault.{Fault}
 use Rattle.value_text.specs.declared.fault.Fault.TheVariants as fault
 use Rattle.value_text.specs.Values.{line, packet_text}
 
--- a number and a name, behind a colon
+-- a number and a name, after a colon
 abbrev pub label_behind : ℕ → List ℕ → List ℕ
 label_behind number name = codes ": " ++ label number name
 

@@ -11,7 +11,7 @@ use Rattle.value_text.specs.Values.{field_text, place_text}
 abbrev pub changed : Packet → Packet → List Field
 changed p q = filter (λ f. not (get p f == get q f)) header_fields
 
--- fields with their numbers, each behind a comma
+-- fields with their numbers, each after a comma
 abbrev pub more_fields : Packet → List Field → List ℕ
 more_fields q [] = []
 more_fields q (f ∷ fs) = codes "," ++ (field_text f (get q f) ++ more_fields q fs)
@@ -21,11 +21,11 @@ abbrev pub braced : Packet → List Field → List ℕ
 braced q [] = []
 braced q (f ∷ fs) = codes "{" ++ (field_text f (get q f) ++ (more_fields q fs ++ codes "}"))
 
--- a packet behind p: where it stands, and what changed
+-- a packet after p: where it stands, and what changed
 abbrev pub step_text : Packet → Packet → List ℕ
 step_text p q = codes ">" ++ (place_text q.sw q.pt ++ braced q (changed p q))
 
--- the packets behind p, the last of which is q
+-- the packets after p, the last of which is q
 abbrev pub steps_text : Packet → List Packet → Packet → List ℕ
 steps_text p [] q = step_text p q
 steps_text p (r ∷ rs) q = step_text p r ++ steps_text r rs q

@@ -72,7 +72,7 @@ action_text (SetNwDst n) = set_text Ip4Dst n
 action_text (SetTpSrc n) = set_text TcpSrcPort n
 action_text (SetTpDst n) = set_text TcpDstPort n
 
--- actions, each behind a comma and a blank
+-- actions, each after a comma and a blank
 abbrev pub more_actions : List Action → List ℕ
 more_actions [] = []
 more_actions (a ∷ as') = codes ", " ++ (action_text a ++ more_actions as')
@@ -110,7 +110,7 @@ head_text i rows = codes "policy " ++
 abbrev pub version_text : ℕ → Rows → List DeclaredSwitch → List ℕ
 version_text i rows sites = head_text i rows ++ flat_map (switch_text rows.ports) sites
 
--- versions behind k others
+-- versions after k others
 abbrev pub versions_text : ℕ → List Version → Layout → List ℕ
 versions_text k [] t = []
 versions_text k (v ∷ vs) t = version_text (k + 1) v.rows t.switches ++ versions_text (k + 1) vs t

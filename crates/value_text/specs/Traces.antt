@@ -11,7 +11,7 @@ use Rattle.packet_tracer.specs.declared.flight.Walk.{Walk}
 use Rattle.value_text.specs.Histories.{history_text}
 use Rattle.value_text.specs.Values.{line}
 
--- new is old with such a text behind it
+-- new is old with such a text after it
 pub record AddsText (IsText : List ℕ → Type 0) (old new : List ℕ) : Type 0 where
   pub text : List ℕ
   pub is : IsText text
@@ -37,7 +37,7 @@ pub record IsPacketText (n : ℕ) (walk : Walk) (text : List ℕ) : Type 0 where
   pub in_flight : AreLinesOf (codes "open ") walk.in_flight.items still
   pub whole : text ≡ line (codes "packet " ++ decimal n) ++ (flat_map line done ++ flat_map line still)
 
--- texts of elements behind k others, one after another
+-- texts of elements after k others, one after another
 abbrev pub AreTexts : {X : Type 0} → (ℕ → X → List ℕ → Type 0) → ℕ → List X → List ℕ → Type 0
 AreTexts IsText k [] text = text ≡ []
 AreTexts IsText k (x ∷ xs) text = (first : List ℕ) × (more : List ℕ) × IsText (k + 1) x first ×

@@ -5,8 +5,8 @@ use Rattle.worker_desk.specs.Answers.{grown}
 use Rattle.worker_desk.specs.Notices.{Notice, Lost, NoMemory}
 use Rattle.worker_post.specs.declared.post.RoundEnd.{RoundEnd}
 use Rattle.worker_post.specs.declared.post.RoundEnd.TheVariants.{Going, Shut, New, Stop, Memory, Kept}
-use Rattle.worker_post.specs.declared.post.telling.Delivery.{Delivery}
-use Rattle.worker_post.specs.declared.post.telling.Delivery.TheVariants.{Rest, Told}
+use Rattle.worker_post.specs.declared.post.telling.TellOutcome.{TellOutcome}
+use Rattle.worker_post.specs.declared.post.telling.TellOutcome.TheVariants.{Rest, Told}
 
 -- No call on the end with this name failed, and nothing was told; or one failed, and that was told.
 abbrev pub NotesLoss : ℕ → ℕ → ℕ → Option (List Notice) → Option (List Notice) → Type 0
@@ -37,6 +37,6 @@ Notes asked faults kept name before old new Kept = (now : ℕ) × NotesLoss name
     IfSome kept (λ e. faults e ≡ now)
 
 abbrev pub NextNotes : {E : Type 0} → (E → ℕ) → Option E → ℕ → ℕ → Option (List Notice) → Option (List Notice) →
-    Delivery E → Type 0
+    TellOutcome E → Type 0
 NextNotes faults kept name before old new (Rest e) = new ≡ old
 NextNotes faults kept name before old new (Told after) = Notes ⊥ faults kept name before old new after

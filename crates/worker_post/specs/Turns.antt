@@ -7,8 +7,8 @@ use Rattle.worker_post.specs.Working.{TellsStream, Continues}
 use Rattle.worker_post.specs.Works.{IsWorkAt, IsEnd}
 use Rattle.worker_post.specs.declared.post.RoundEnd.{RoundEnd}
 use Rattle.worker_post.specs.declared.post.RoundEnd.TheVariants.{Going, Shut, New, Stop, Memory, Kept}
-use Rattle.worker_post.specs.declared.post.telling.Delivery.{Delivery}
-use Rattle.worker_post.specs.declared.post.telling.Delivery.TheVariants.{Rest, Told}
+use Rattle.worker_post.specs.declared.post.telling.TellOutcome.{TellOutcome}
+use Rattle.worker_post.specs.declared.post.telling.TellOutcome.TheVariants.{Rest, Told}
 
 -- the end is the one that was handed in, whether it comes back or was kept
 abbrev pub HasEnd : {E : Type 0} → E → Option E → RoundEnd E → Type 0
@@ -19,7 +19,7 @@ HasEnd end kept (Stop e) = e ≡ end
 HasEnd end kept (Memory e) = e ≡ end
 HasEnd end kept Kept = IfSome kept (λ e. e ≡ end)
 
-abbrev pub NextHasEnd : {E : Type 0} → E → Option E → Delivery E → Type 0
+abbrev pub NextHasEnd : {E : Type 0} → E → Option E → TellOutcome E → Type 0
 NextHasEnd end kept (Rest e) = e ≡ end
 NextHasEnd end kept (Told after) = HasEnd end kept after
 
@@ -32,7 +32,7 @@ GoesOn (Stop e) p q = q
 GoesOn (Memory e) p q = q
 GoesOn Kept p q = q
 
-abbrev pub NextGoesOn : {E : Type 0} → Delivery E → Type 0 → Type 0 → Type 0
+abbrev pub NextGoesOn : {E : Type 0} → TellOutcome E → Type 0 → Type 0 → Type 0
 NextGoesOn (Rest e) p q = p
 NextGoesOn (Told after) p q = GoesOn after p q
 
@@ -92,7 +92,7 @@ OnNew P (Stop e) = Unit {0}
 OnNew P (Memory e) = Unit {0}
 OnNew P Kept = Unit {0}
 
-abbrev pub NextOnNew : {E : Type 0} → (E → Type 0) → Delivery E → Type 0
+abbrev pub NextOnNew : {E : Type 0} → (E → Type 0) → TellOutcome E → Type 0
 NextOnNew P (Rest e) = Unit {0}
 NextOnNew P (Told after) = OnNew P after
 

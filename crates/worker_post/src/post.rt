@@ -21,7 +21,7 @@ use openflow_wire::Message;
 use std::alloc::Global;
 use worker_desk::{Desk, Gate, Given, Told};
 
-/// How a turn of a worker ended.
+/// How a round of a worker ended.
 #[derive(Drop)]
 pub enum RoundEnd<E> {
     /// It goes on.

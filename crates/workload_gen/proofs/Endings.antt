@@ -235,7 +235,7 @@ switch-in w s zero j e l m = absurd (omega (arith, l))
 switch-in w s (suc n) zero e l m = in-left (tried_at w s) (tried_from w (s + 1) n) e (subst (λ (i : ℕ). IsIn (tried_at w i) e) (omega arith) m)
 switch-in w s (suc n) (suc j) e l m = in-right (tried_at w s) (tried_from w (s + 1) n) e (switch-in w (s + 1) n j e (omega (arith, l)) (subst (λ (i : ℕ). IsIn (tried_at w i) e) (omega arith) m))
 
-module _ (lines : List PacketLine) (w : WorldValue) (long : length w.fleet.ends ≡ length w.topology.switches) (sites : length w.fleet.ends ≡ length w.fleet.control.peers) (present : ArePresent w.fleet.control.peers) (over : NoneIs w (tried lines w)) where
+module _ (lines : List PacketLine) (w : WorldValue) (long : length w.fleet.ends ≡ length w.topology.switches) (peers : length w.fleet.ends ≡ length w.fleet.control.peers) (present : ArePresent w.fleet.control.peers) (over : NoneIs w (tried lines w)) where
   -- an event of a switch
   at-switch : (s : ℕ) (e : Event) → s < length w.fleet.ends → IsIn (tried_at w s) e → ¬ (IsEnabled w e)
   at-switch s e l m = none-of w (tried lines w) e over
@@ -258,7 +258,7 @@ module _ (lines : List PacketLine) (w : WorldValue) (long : length w.fleet.ends 
     send = λ s h. at-switch s (event.Controller (of_controller.Send s)) (sends s h) (behind s (event.Controller (of_controller.Send s)) (inr (inl refl))) h;
     begin = last-of (event.Controller of_controller.Begin) (in-right (arrival lines) ((event.Controller of_controller.Begin) ∷ report (due w.fleet.control)) (event.Controller of_controller.Begin) (inl refl));
     drained = λ stamp h. last-of (event.Controller (of_controller.Drained stamp)) (in-right (arrival lines) ((event.Controller of_controller.Begin) ∷ report (due w.fleet.control)) (event.Controller (of_controller.Drained stamp)) (inr (reported stamp h.0))) h;
-    rejoin = λ s h. let none : true ≡ false = sym h.away ∙ present s h.site h.here in cc;
+    rejoin = λ s h. let none : true ≡ false = sym h.away ∙ present s h.peer h.here in cc;
     hop = λ k h. none-of w (tried lines w) (event.Packet (of_packet.Hop k)) over
         (in-right (tried_from w 0 (length w.topology.switches)) (hops_from 0 (length w.flights) ++ tried_last lines w) (event.Packet (of_packet.Hop k))
         (in-left (hops_from 0 (length w.flights)) (tried_last lines w) (event.Packet (of_packet.Hop k))
@@ -275,7 +275,7 @@ module _ (lines : List PacketLine) (w : WorldValue) (long : length w.fleet.ends 
           (subst (λ (i : ℕ). IsIn (applies_from s 0 (length h.end_.switch.pending)) (event.Switch (of_switch.Apply s i))) (omega arith) (apply-in s 0 (length h.end_.switch.pending) k h.is)))
 
       sends : (s : ℕ) → IsEnabled w (event.Controller (of_controller.Send s)) → s < length w.fleet.ends
-      sends s h = omega (arith, sites, get-within s w.fleet.control.peers h.site h.here)
+      sends s h = omega (arith, peers, get-within s w.fleet.control.peers h.peer h.here)
 
       reported : (stamp : ℕ) → drain_refusal w.fleet.control stamp ≡ None → IsIn (report (due w.fleet.control)) (event.Controller (of_controller.Drained stamp))
       reported stamp h =

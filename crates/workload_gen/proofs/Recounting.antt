@@ -204,7 +204,7 @@ no-next overlap rounds (Sweep i v) w q = cc
 no-next overlap rounds (Install i) w q = if-never (nat_lt 0 (get_or rounds (i - 1) 0)) (Flip i 1) (flipped overlap i) (Install i) (λ e. cc) (λ e. flipped-installs overlap i e) q
 no-next overlap rounds (Flip i r) w q = if-never (nat_lt r (get_or rounds (i - 1) 0)) (Flip i (r + 1)) (flipped overlap i) (Flip i r) (λ e. next-round i r e) (λ e. flipped-flips overlap i r e) q
 
--- the coordinator has the same peers as before, and stands still if it did
+-- the coordinator has the same peers as before, and is halted if it was
 record SamePeers (c d : Control) : Type 0 where
   halt : d.halt ≡ c.halt
   peers : d.peers ≡ c.peers

@@ -168,16 +168,16 @@ false-true e = absurd (cc)
 
 -- what is heard does not halt
 hears-on : (c : Setting) (place : ℕ) (f g : Fleet) → HearsAt place f g → IsFleet c f → AreMute f.ends → g.control.halt ≡ None
-hears-on c place f g h i mute = ap (λ (z : Fleet). z.control.halt) h.now ∙ moved-halt place h.heard.site.sw h.move _ h.control fails owed h.heard.now ∙ h.heard.running
+hears-on c place f g h i mute = ap (λ (z : Fleet). z.control.halt) h.now ∙ moved-halt place h.heard.peer.sw h.move _ h.control fails owed h.heard.now ∙ h.heard.running
   where
     there : Here f place
     there = end-here c f i place h.old h.here
 
     l : Wire
-    l = wire_of f.control h.heard.site there.reply h.old
+    l = wire_of f.control h.heard.peer there.reply h.old
 
     line : IsLine c f.control.swept f.control.phase false l
-    line = subst (λ (b : Bool). IsLine c f.control.swept f.control.phase b l) (ap (λ (o : Option Cause). is_some o) h.heard.running) (i.lines place h.heard.site there.reply h.old h.heard.here there.reply_at h.here)
+    line = subst (λ (b : Bool). IsLine c f.control.swept f.control.phase b l) (ap (λ (o : Option Cause). is_some o) h.heard.running) (i.lines place h.heard.peer there.reply h.old h.heard.here there.reply_at h.here)
 
     heard : HeardLine c f.control.swept f.control.phase h.message h.rest l
     heard = hear-line c f.control.swept f.control.phase h.message h.rest l h.front line
@@ -185,13 +185,13 @@ hears-on c place f g h i mute = ap (λ (z : Fleet). z.control.halt) h.now ∙ mo
     quiet : ¬ (IsError h.message)
     quiet = mute place h.old h.here h.message (subst (λ (ms : List Message). IsIn ms h.message) (sym h.front) (inl refl))
 
-    live : IsLive h.heard.site.session.state
+    live : IsLive h.heard.peer.session.state
     live = elim line.standing.state [ inl e ↦ false-true e | inr e ↦ subst IsLive (sym e) (live-at line.stage) ]
 
     fails : (x : SessionFault) → h.move ≡ moves.Failed x → ⊥
     fails x q =
-        let move : move_of h.heard.site.session h.message ≡ moves.Failed x = sym h.heard.is ∙ q in
-        no-fault h.heard.site.session.state h.heard.site.session.datapath h.message live quiet (move ∙ ap moves.Failed (heard.fault x (sym heard.is ∙ move)))
+        let move : move_of h.heard.peer.session h.message ≡ moves.Failed x = sym h.heard.is ∙ q in
+        no-fault h.heard.peer.session.state h.heard.peer.session.datapath h.message live quiet (move ∙ ap moves.Failed (heard.fault x (sym heard.is ∙ move)))
 
     owed : (x : ℕ) → h.move ≡ moves.Barrier x → Awaits f.control.replies place x
     owed x q = there.reply_at ∙ ap (λ (r : Awaited). Some r) (heard.owed x (sym heard.is ∙ sym h.heard.is ∙ q))
@@ -272,9 +272,9 @@ free-step room w (event.Switch (of_switch.Take p)) v d s f =
     free-in _ w v s f k (present-step w (event.Switch (of_switch.Take p)) v s refl f.present) (ap (λ (x : Fleet). x.control.halt) s.step.now ∙ f.running) (takes-mute w v p s f k)
 free-step room w (event.Switch (of_switch.Apply p n)) v d s f =
     let t = s.step in
-    let back : told_back t.site.away t.answer t.old.back ≡ t.old.back = ap (λ (o : Option Message). told_back t.site.away o t.old.back) (room w p n v f.kept f.room s) ∙ untold t.site.away t.old.back in
+    let back : told_back t.peer.away t.answer t.old.back ≡ t.old.back = ap (λ (o : Option Message). told_back t.peer.away o t.old.back) (room w p n v f.kept f.room s) ∙ untold t.peer.away t.old.back in
     free-in _ w v s f (step-keeps w (event.Switch (of_switch.Apply p n)) v s f.kept) (present-step w (event.Switch (of_switch.Apply p n)) v s refl f.present) (ap (λ (x : Fleet). x.control.halt) t.now ∙ f.running)
-    (subst (λ (x : Fleet). AreMute x.ends) (sym t.now) (mute-put p w.fleet.ends t.old (record t.old { back = told_back t.site.away t.answer t.old.back; switch = t.switch }) t.here
+    (subst (λ (x : Fleet). AreMute x.ends) (sym t.now) (mute-put p w.fleet.ends t.old (record t.old { back = told_back t.peer.away t.answer t.old.back; switch = t.switch }) t.here
     (λ m i. f.mute p t.old t.here m (subst (λ (ms : List Message). IsIn ms m) back i)) f.mute))
 free-step room w (event.Switch (of_switch.Reply p)) v d s f =
     let t = s.step in

@@ -89,7 +89,7 @@ fn add_links(alloc: Global, switches: u16, lines: &mut Vec<TopoLine>) -> Result<
     Ok(())
 }
 
-// So many packets; words draw where each comes in and where it goes.
+// Packets, as many as are asked for; words draw where each comes in and where it goes.
 fn packets(
     alloc: Global,
     switches: u16,

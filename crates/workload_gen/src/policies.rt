@@ -15,7 +15,7 @@ use nk_values::{Field, Lit};
 use rand_pcg::Lcg64Xsh32;
 use std::alloc::{AllocError, Global};
 
-/// So many policies on a line of switches, each of which blocks a destination that a word draws.
+/// As many policies as are asked for, on a line of switches, each of which blocks a destination that a word draws.
 pub(crate) fn policies(
     alloc: Global,
     switches: u16,

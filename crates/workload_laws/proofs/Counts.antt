@@ -30,7 +30,7 @@ then_one f s l t e h = record { field = λ m k. h.field m (inr (inl k)); low = �
 else_one : (f : Field) (s : ℕ) (l : Lit) (t e : Tree) → TestsOne f s (Node l t e) → TestsOne f s e
 else_one f s l t e h = record { field = λ m k. h.field m (inr (inr k)); low = λ m k. h.low m (inr (inr k)); high = λ m k. h.high m (inr (inr k)) }
 
--- behind the field there is no test left
+-- after the field there is no test left
 one_leaf : (f : Field) (s : ℕ) (t : Tree) → IsOrderedFrom (step * (place f + 1)) t → TestsOne f s t → path_count t ≡ 1
 one_leaf f s (Leaf cs) o h = refl
 one_leaf f s (Node l t e) o h =

@@ -124,7 +124,7 @@ no_fault s o p d t stamp f bs bo fw g r top h = elim h.here [
       (leaves_of (λ m. IsAmong Pt o (lit_field m) (lit_value m)) d (λ m i. fw.assigns (lit_field m) (lit_value m) (g.assigns m i))) k.here
   | inr k ↦
       let among : IsIn t.switches h.site = subst (λ (l : List DeclaredSwitch). IsIn l h.site) (sym h.all) (in-right h.before (h.site ∷ h.behind) h.site (inl refl)) in
-      let ports = (top.sound.peers h.site among).few in
+      let ports = (top.sound.sites h.site among).few in
       let rows = few_on s o p d h.site h.site.ports bs fw g in
       let many = k.many in
       omega (arith, ports, rows, many)

@@ -66,7 +66,7 @@ start-kept t vs settings k v l = record {
   places = numbers-kept settings.capacity (numbers_of t.switches);
   rows = refl;
   distinct = new-distinct settings.capacity (numbers_of t.switches);
-  fleet = start-fleet (setting_of t vs settings.hops settings.capacity settings.overlap) (initial_world t vs settings).fleet (made-initial_world t vs settings.hops settings.capacity settings.overlap settings.rejoins (numbers_of t.switches) (initial_world t vs settings).fleet k v made);
+  fleet = start-fleet (setting_of t vs settings.hops settings.capacity settings.overlap) (initial_world t vs settings).fleet (made-start t vs settings.hops settings.capacity settings.overlap settings.rejoins (numbers_of t.switches) (initial_world t vs settings).fleet k v made);
   traffic = start-traffic t (setting_of t vs settings.hops settings.capacity settings.overlap) 0;
   apart = start-apart;
 }

@@ -32,7 +32,7 @@ abbrev pub setting : WorldValue → Setting
 setting w = setting_of w.topology w.versions w.limit w.capacity w.overlap
 
 abbrev pub numbers_of : List DeclaredSwitch → List ℕ
-numbers_of sites = map (λ s. s.sw) sites
+numbers_of peers = map (λ s. s.sw) peers
 
 abbrev pub pols_of : List Version → List Pol
 pols_of versions = map (λ v. v.pol) versions

@@ -20,7 +20,7 @@ pub(super) fn ports_at(
 {
     let mut ports = Vec::new(alloc);
     if let Some(rows) = rows {
-        for port in &rows.ports {
+        for port in rows.ports.as_slice() {
             if port.sw == sw {
                 ports.push(port)?;
             }

@@ -18,7 +18,7 @@ use worker_desk::{Desk, Gate, Told};
 
 /// Whether something was told.
 #[derive(Drop)]
-pub enum Delivery<E> {
+pub enum TellOutcome<E> {
     /// Nothing: less than a message is held.
     Rest(E),
     /// Something, or there is nothing to tell any more.
@@ -48,8 +48,8 @@ impl<'a, D: Desk, G: Gate> Post<'a, D, G> {
             (D.notices seat.old) (D.notices seat.new) result }
     {
         match self.tell_next(seat, end, inbox) {
-            Delivery::Told(after) => after,
-            Delivery::Rest(end) => self.receive_more(seat, end, inbox),
+            TellOutcome::Told(after) => after,
+            TellOutcome::Rest(end) => self.receive_more(seat, end, inbox),
         }
     }
 
@@ -72,8 +72,8 @@ impl<'a, D: Desk, G: Gate> Post<'a, D, G> {
         let mut end = end;
         match receive(&mut end, &mut inbox.framer) {
             Transfer::Well => match self.tell_next(seat, end, inbox) {
-                Delivery::Told(after) => after,
-                Delivery::Rest(end) => RoundEnd::Going(end),
+                TellOutcome::Told(after) => after,
+                TellOutcome::Rest(end) => RoundEnd::Going(end),
             },
             Transfer::Failed => self.lose(seat, end),
             Transfer::Closed => RoundEnd::Shut(end),
@@ -86,7 +86,7 @@ impl<'a, D: Desk, G: Gate> Post<'a, D, G> {
 
     // Tells the next message that is held, or the bytes that are held at a fault. After 2^64 - 1 messages a session can
     // tell no more: it ends as if memory had run out.
-    fn tell_next(&self, seat: &mut D::Seat, end: D::End, inbox: &mut Inbox) -> Delivery<D::End>
+    fn tell_next(&self, seat: &mut D::Seat, end: D::End, inbox: &mut Inbox) -> TellOutcome<D::End>
         requires seat { D.seated seat.old × (D.place_of (D.End.named end) ≡ D.place seat.old) }
         requires following { IsFollowing (D.End.received end) inbox.old.framer inbox.old.told }
         ensures seat { D.seated seat.new × (D.place seat.new ≡ D.place seat.old) }
@@ -107,12 +107,12 @@ impl<'a, D: Desk, G: Gate> Post<'a, D, G> {
     {
         if inbox.told == u64::MAX {
             self.desk.close(seat);
-            return Delivery::Told(RoundEnd::Memory(end));
+            return TellOutcome::Told(RoundEnd::Memory(end));
         }
         match inbox.framer.span() {
-            None => Delivery::Rest(end),
-            Some(Ok(len)) => Delivery::Told(self.tell_message(seat, end, inbox, len)),
-            Some(Err(_fault)) => Delivery::Told(self.tell_fault(seat, end, inbox)),
+            None => TellOutcome::Rest(end),
+            Some(Ok(len)) => TellOutcome::Told(self.tell_message(seat, end, inbox, len)),
+            Some(Err(_fault)) => TellOutcome::Told(self.tell_fault(seat, end, inbox)),
         }
     }
 

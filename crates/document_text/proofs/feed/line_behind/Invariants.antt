@@ -1,6 +1,6 @@
 use Rattle.std.proofs.Common.{◌≡◌, ◌≤◌, ◌+◌, length}
 use Rattle.document_text.specs.Grammar.{line_behind}
-use Rattle.document_text.proofs.feed.line_behind.GivenFields as goal
+use Rattle.document_text.proofs.feed.line_behind.Given as goal
 
 abbrev pub decreases-loop-at : goal.decreases-loop-at
 decreases-loop-at l = length l.rest

@@ -1,7 +1,7 @@
 use Rattle.std.proofs.Common.{◌≡◌, ◌≤◌, ◌++◌, length, filter}
 use Rattle.document_text.specs.Texts.{pieces, is_filled, words_of}
 use Rattle.document_text.specs.Answers.{texts}
-use Rattle.document_text.proofs.words.words.GivenFields as goal
+use Rattle.document_text.proofs.words.words.Given as goal
 
 abbrev pub invariant-loop-all : goal.invariant-loop-all
 invariant-loop-all l = record {

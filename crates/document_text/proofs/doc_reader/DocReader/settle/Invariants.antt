@@ -1,5 +1,5 @@
 use Rattle.document_text.specs.Feeding.{Reaches, left}
-use Rattle.document_text.proofs.doc_reader.DocReader.settle.GivenFields as goal
+use Rattle.document_text.proofs.doc_reader.DocReader.settle.Given as goal
 
 abbrev pub invariant-loop : goal.invariant-loop
 invariant-loop l = Reaches l.end l.fn.self l.self

@@ -9,13 +9,13 @@ use Rattle.topology_model.proofs.topology.building.firsts_of.Goals as goal
 pub overflow_add-total : goal.overflow_add-total
 overflow_add-total c =
     let s = c.site-item.result in
-    let among = subst (λ (x : DeclaredSwitch). IsIn c.args.peers.now x) (sym c.site-item.is) (in-get_or c.args.peers.now c.loop-site.site-index s c.loop-site-test.true) in
+    let among = subst (λ (x : DeclaredSwitch). IsIn c.args.sites.now x) (sym c.site-item.is) (in-get_or c.args.sites.now c.loop-site.site-index s c.loop-site-test.true) in
     omega (arith, c.requires.few, c.requires.narrow s among, c.len-total.ensures, c.loop-site.invariant.few, c.loop-site-test.true)
 
 pub loop-site-preserved : goal.loop-site-preserved
 loop-site-preserved c =
     let s = c.site-item.result in
-    let ss = c.args.peers.now in
+    let ss = c.args.sites.now in
     let i = c.loop-site.site-index in
     let among = subst (λ (x : DeclaredSwitch). IsIn ss x) (sym c.site-item.is) (in-get_or ss i s c.loop-site-test.true) in
     let len = c.len-total.ensures ∙ ap (λ (x : DeclaredSwitch). length x.ports) c.site-item.is in
