@@ -13,9 +13,9 @@ use Rattle.netkat_parser.specs.Cuts.{EndsAt}
 use Rattle.netkat_parser.specs.Grammar.{IsText}
 use Rattle.netkat_parser.specs.declared.fault.Position.{Position}
 use Rattle.netkat_parser.specs.declared.feeding.PolicyReader.{PolicyReader}
-use Rattle.netkat_parser.specs.Places.{HasFault, place_behind}
+use Rattle.netkat_parser.specs.Places.{HasFault, position_after}
 use Rattle.netkat_parser.specs.Readers as policy
-use Rattle.netkat_parser.proofs.Standing.{ends-of, place-near, place-append}
+use Rattle.netkat_parser.proofs.Standing.{ends-of, position-near, position-append}
 use Rattle.document_text.specs.declared.doc_reader.DocReader.{DocReader}
 use Rattle.document_text.specs.declared.doc_reader.Spot.{Spot}
 use Rattle.document_text.specs.declared.doc_reader.Spot.TheVariants as spot
@@ -215,20 +215,20 @@ stands-end r text h = record {
 -- ---- a policy's text
 
 -- the place after some bytes
-pub given-place : (p q : Position) (xs ys : List ℕ) (n fed : ℕ) → n ≤ length xs → q ≡ place_behind p (take n xs) → ys ≡ drop n xs → p.line + length xs ≤ fed + 1 → p.column + length xs ≤ fed + 1
+pub given-place : (p q : Position) (xs ys : List ℕ) (n fed : ℕ) → n ≤ length xs → q ≡ position_after p (take n xs) → ys ≡ drop n xs → p.line + length xs ≤ fed + 1 → p.column + length xs ≤ fed + 1
     → (q.line + length ys ≤ fed + 1) × (q.column + length ys ≤ fed + 1)
 given-place p q xs ys n fed within e f l k =
-    let near = place-near p (take n xs) in
+    let near = position-near p (take n xs) in
     let front = length-take-le n xs within in
     let behind = ap length f ∙ length-drop n xs in
     (omega (arith, near.0, front, behind, ap (λ (z : Position). z.line) e, l, within), omega (arith, near.1, front, behind, ap (λ (z : Position). z.column) e, k, within))
 
 pub gives-on : (begin : ℕ) (p q : PolicyReader) (at behind : Position) (front line : List ℕ) → (policy.StandsFor (line_start begin) p front → policy.StandsFor (line_start begin) q (front ++ line))
-    → behind ≡ place_behind at line → StandsIn begin p at front → StandsIn begin q behind (front ++ line)
+    → behind ≡ position_after at line → StandsIn begin p at front → StandsIn begin q behind (front ++ line)
 gives-on begin p q at behind front line h e k =
-    (h k.0, place-append (line_start begin) front line ∙ ap (λ z. place_behind z line) k.1 ∙ sym e)
+    (h k.0, position-append (line_start begin) front line ∙ ap (λ z. position_after z line) k.1 ∙ sym e)
 
--- want of memory in a policy's text
+-- out of memory in a policy's text
 pub given-none : (end : Bool) (old new : DocReader) (begin : ℕ) → KeepsSpot old new → GivesNothing old new → (old.spot ≡ spot.Text begin) ⊎ (old.spot ≡ spot.Inside begin) → Reaches end old new
 given-none end old new begin k g (inl a) =
     stays end old new k.fed k.row k.spot (ap state_of k.reader) k.line (ap (λ b. b.items) g.pending)
@@ -268,7 +268,7 @@ lacks n begin front document.Memory h = tt
 
 -- no policy's text is whole at the end
 abbrev Lacks : DocReader → ℕ → DocumentError → Type 0
-Lacks r n d = (begin : ℕ) (front : List ℕ) → policy.StandsFor (line_start begin) r.policy front → place_behind (line_start begin) front ≡ r.behind → LacksAnswer n begin front d
+Lacks r n d = (begin : ℕ) (front : List ℕ) → policy.StandsFor (line_start begin) r.policy front → position_after (line_start begin) front ≡ r.behind → LacksAnswer n begin front d
 
 pub ended-text : (r : DocReader) (begin : ℕ) (front : List ℕ) (d : DocumentError) → r.spot ≡ spot.Text begin → r.pending.items ≡ [] → Lacks r r.line d → HoldsBytes r front
     → AnswersDocument (λ o. Comes r front [] o) (Err d)

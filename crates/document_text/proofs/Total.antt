@@ -10,7 +10,7 @@ use Rattle.nk_syntax.specs.Terms.{Term}
 use Rattle.netkat_parser.specs.declared.fault.Position.{Position}
 use Rattle.netkat_parser.specs.declared.fault.ParseFault.{ParseFault}
 use Rattle.netkat_parser.specs.Grammar.{IsText}
-use Rattle.netkat_parser.specs.Places.{HasFault, place_behind}
+use Rattle.netkat_parser.specs.Places.{HasFault, position_after}
 use Rattle.netkat_parser.proofs.Outcomes.{no-both, fault-one}
 use Rattle.netkat_parser.proofs.Total.{value-or-not, read-or-fault}
 use Rattle.nk_values.specs.declared.text_fault.TextFault.TheVariants.{BadLine}
@@ -151,7 +151,7 @@ lacks-some n begin text = split (read-or-fault (line_start begin) text)
 
     split : ((p : Term) × IsText text p) ⊎ ((f : ParseFault) × HasFault (line_start begin) text f) → Has (LacksEnd n begin text)
     split (inl h) = (refused_at n BadLine, inr ((λ g k. absurd (no-both (line_start begin) text h.0 g h.1 k)), refl))
-    split (inr h) = behind h.0 h.1 (place-either (place_behind (line_start begin) text) h.0.line h.0.column)
+    split (inr h) = behind h.0 h.1 (place-either (position_after (line_start begin) text) h.0.line h.0.column)
 
 ends-some : (n : ℕ) (m : Mode) → Has (λ o. Ends n o m)
 ends-some n (Lines s) = (finished s n, refl)

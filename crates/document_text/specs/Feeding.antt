@@ -4,7 +4,7 @@ use Rattle.std.specs.Prelude.{take, drop}
 use Rattle.netkat_parser.specs.declared.fault.Position.{Position}
 use Rattle.netkat_parser.specs.declared.feeding.PolicyReader.{PolicyReader}
 use Rattle.netkat_parser.specs.Cuts.{EndsAt}
-use Rattle.netkat_parser.specs.Places.{place_behind}
+use Rattle.netkat_parser.specs.Places.{position_after}
 use Rattle.netkat_parser.specs.Readers as policy
 use Rattle.document_text.specs.declared.doc_reader.DocReader.{DocReader}
 use Rattle.document_text.specs.declared.doc_reader.Spot.{Spot}
@@ -33,7 +33,7 @@ Comes r front rest o = ComesAt r.spot (state_of r.reader) r.line front (r.pendin
 
 -- the reader of policies stands for the policy's text so far, after which the place is
 abbrev pub StandsIn : ℕ → PolicyReader → Position → List ℕ → Type 0
-StandsIn begin p at front = policy.StandsFor (line_start begin) p front × (place_behind (line_start begin) front ≡ at)
+StandsIn begin p at front = policy.StandsFor (line_start begin) p front × (position_after (line_start begin) front ≡ at)
 
 abbrev pub HoldsAt : Spot → PolicyReader → Position → List ℕ → Type 0
 HoldsAt (spot.Text begin) p at front = StandsIn begin p at front

@@ -8,7 +8,7 @@ use Rattle.nk_syntax.specs.Terms.{Term}
 use Rattle.netkat_parser.specs.declared.fault.Position.{Position}
 use Rattle.netkat_parser.specs.declared.fault.ParseFault.{ParseFault}
 use Rattle.netkat_parser.specs.Grammar.{IsText, Where}
-use Rattle.netkat_parser.specs.Places.{HasFault, place_behind}
+use Rattle.netkat_parser.specs.Places.{HasFault, position_after}
 use Rattle.document_text.specs.declared.fault.DocFault.{DocFault}
 use Rattle.document_text.specs.Documents.{Doc, Outcome, Accepted, Refused}
 use Rattle.document_text.specs.States.{State, initial_state, is_empty, has_edge, with_policy, doc_of_state}
@@ -65,7 +65,7 @@ finished s n =
 
 -- the place of the fault is after the text
 abbrev pub IsBehind : ℕ → List ℕ → ParseFault → Type 0
-IsBehind begin text f = place_behind (line_start begin) text ≡ record { line = f.line; column = f.column }
+IsBehind begin text f = position_after (line_start begin) text ≡ record { line = f.line; column = f.column }
 
 -- The text of a policy lacks its `end` line, unless it has a fault before.
 abbrev pub LacksEnd : ℕ → ℕ → List ℕ → Outcome → Type 0

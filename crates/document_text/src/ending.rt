@@ -2,7 +2,7 @@
 //!
 //! Layer: texts that are read; private. Adds calls to `DocReader`.
 ghost use Rattle.std.specs.Prelude.{◌≡◌, ℕ, List, [], MatchBool};
-ghost use Rattle.netkat_parser.specs.Places.{place_behind};
+ghost use Rattle.netkat_parser.specs.Places.{position_after};
 ghost use Rattle.netkat_parser.specs.Readers.{StandsFor};
 ghost use Rattle.document_text.specs.Answers.{AnswersDocument, LacksAnswer};
 ghost use Rattle.document_text.specs.Feeding.{HoldsBytes, IsThrough, Comes};
@@ -44,7 +44,7 @@ impl DocReader {
 // Why a policy that has no `end` line is refused, where its text ends at this place and the lines at this one.
 fn unclosed(alloc: Global, policy: PolicyReader, behind: Position, line: u64) -> DocumentError
     ensures { (begin : ℕ) (front : List ℕ) → StandsFor (line_start begin) policy front →
-        place_behind (line_start begin) front ≡ behind → LacksAnswer line begin front result }
+        position_after (line_start begin) front ≡ behind → LacksAnswer line begin front result }
 {
     let fault = match policy.finish(alloc) {
         Err(ParseError::Fault(fault)) => fault,

@@ -77,7 +77,7 @@ impl DocReader {
         self.pending.advance(len);
         self.line += 1;
         if let Taken::Opening = taken {
-            self.open(alloc);
+            self.open_policy(alloc);
         }
         Ok(true)
     }

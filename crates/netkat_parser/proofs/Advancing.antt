@@ -84,7 +84,7 @@ ahead-none : (d : Bool) → ahead d [] ≡ []
 ahead-none true = refl
 ahead-none false = refl
 
--- the text behind blanks is as it stands, or nothing of it is left
+-- the text after blanks is as it stands, or nothing of it is left
 settled : (c : Bool) (here rest : List ℕ) (end : Bool) → EndsAt end rest
     → (w : List ℕ) × EndsAt end w × (ahead c here ++ w ≡ ahead c (here ++ rest))
 settled c here rest end e = settled-at (ahead c here) refl
@@ -139,7 +139,7 @@ module _ (old mid : View) (c c' : Bool) (text here : List ℕ) (end : Bool) (bef
           let ne : ahead c' here ≢ [] = λ z. let clash = k ∙ z in cc in
           subst (λ t. Comes y (spot t mid.named) (Bad f (ahead c' here ++ rest))) (sym (ahead-append c' here rest ∙ at-sign c' here rest ne)) (s y g rest e)
 
-  -- why reading does not go on, where this much of the text is behind it
+  -- why reading does not go on, once this much of the text was read
   advances-at : (new : View) (n : ℕ) (p : Pause) → ahead c' here ≡ drop n text → Steps mid (ahead c' here) end new (Err p) → Advances old c text end new n (comment_behind c' here) p
   advances-at new n pause.Wait d s = (s.0, subst (Leaves old c text end new (comment_behind c' here)) d (leaves-stays new s.1))
   advances-at new n (pause.Halt halt.Memory) d s = subst (Leaves old c text end new (comment_behind c' here)) d (leaves-stays new s)

@@ -24,7 +24,7 @@ use Rattle.netkat_parser.proofs.Values.{run-literal, read-by, test, assignment}
 abbrev Names : Type 0
 Names = List (Field × ℕ)
 
--- what may stand behind the printed text of an operand
+-- what may stand after the printed text of an operand
 pub data IsStop : List ℕ → Type 0 where
   stop_end : IsStop []
   stop_close : (rest : List ℕ) → IsStop (41 ∷ rest)
@@ -49,7 +49,7 @@ pub record Backs (depth : ℕ) (inside : Bool) (text : List ℕ) (p : Term) (nam
   pub reads : (rest : List ℕ) (named : Names) → IsStop rest → IsRoomy (naming named)
       → IsUnary depth inside (spot (text ++ rest) named) (Read p (spot (ahead false rest) (naming named)))
 
--- more operands, each behind a sign
+-- more operands, each after a sign
 pub data Row (depth : ℕ) (inside : Bool) (between : List ℕ) : List ℕ → List Term → (Names → Names) → Type 0 where
   row_end : Row depth inside between [] [] (λ named. named)
   row_more : (text more : List ℕ) (p : Term) (ps : List Term) (naming naming' : Names → Names)
@@ -244,7 +244,7 @@ lexed-assignment Ip4Dst r = (refl, refl)
 lexed-assignment TcpSrcPort r = (refl, refl)
 lexed-assignment TcpDstPort r = (refl, refl)
 
--- a number behind a sign
+-- a number after a sign
 value-back : (depth : ℕ) (f : Field) (make : ℕ → Term) (n : ℕ) (rest : List ℕ) (named : Names) → IsLiteralOf f n → IsStop rest → IsRoomy (with_pair named f n)
     → IsRun depth f make (spot (decimal n ++ rest) named) (run (decimal n ++ rest)) (Read (make n) (spot (ahead false rest) (with_pair named f n)))
 value-back depth f make n rest named lit stop room =

@@ -27,7 +27,7 @@ ahead-append false [] r = refl
 ahead-append true (b ∷ bs) r = ahead-append (not (b == 10)) bs r
 ahead-append false (b ∷ bs) r = skipped (is_blank b) (b == 35) b bs r refl refl (ahead-append false bs r) (ahead-append true bs r)
 
--- behind it stands a sign, in no comment
+-- after it stands a sign, in no comment
 stands : (p q : Bool) (b : ℕ) (bs r : List ℕ) → is_blank b ≡ p → (b == 35) ≡ q
     → (ahead false bs ≢ [] → ahead (comment_behind false bs) (ahead false bs ++ r) ≡ ahead false bs ++ r)
     → (ahead true bs ≢ [] → ahead (comment_behind true bs) (ahead true bs ++ r) ≡ ahead true bs ++ r)

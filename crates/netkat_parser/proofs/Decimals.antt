@@ -106,7 +106,7 @@ number-read f high ds n e =
     let h = are-digits ds (where-some _ (Some (digits_value 10 ds)) n digits).0 in
     rw (no-prefix ds h, all-digits ds h) form
 
--- the byte behind a run ends it
+-- the byte after a run ends it
 abbrev pub EndsRun : List ℕ → Type 0
 EndsRun [] = Unit {0}
 EndsRun (b ∷ bs) = is_run_byte b ≡ false

@@ -1,4 +1,4 @@
--- Reading goes on from a place, sign by sign.
+-- Reading goes on from a position, sign by sign.
 use Rattle.std.proofs.Common.{◌≡◌, ◌≢◌, ℕ, ◌+◌, inl, inr, Bool, true, false, List, [], ◌∷◌, ◌++◌, refl, sym, ap, ◌∙◌, subst, append_assoc}
 use Rattle.nk_values.specs.declared.text_fault.TextFault.{TextFault}
 use Rattle.nk_syntax.specs.Terms.{Term, Filter, One, Zero, Dup}

@@ -2,16 +2,16 @@
 use Rattle.std.proofs.Common.{◌≡◌, ℕ, suc, ◌+◌, ◌-◌, ◌*◌, ◌^◌, ◌<◌, ◌≤◌, ◌==◌, List, Option, Some, None, refl, sym, ◌∙◌, arith}
 use Rattle.std.proofs.Math.Pow.{pow_mono, pow-add}
 use Rattle.std.specs.List.{before_first, after_first}
-use Rattle.netkat_parser.specs.declared.number.Part.{Part}
+use Rattle.netkat_parser.specs.declared.number.ByteForm.{ByteForm}
 use Rattle.netkat_parser.specs.Numbers.{joined, byte_form}
 
-joined-suc : (part : Part) (sign k value byte : ℕ) (rest first after : List ℕ)
+joined-suc : (part : ByteForm) (sign k value byte : ℕ) (rest first after : List ℕ)
     → first ≡ before_first (λ b. b == sign) rest → after ≡ after_first (λ b. b == sign) rest → Some byte ≡ byte_form part first
     → joined (byte_form part) sign k (256 * value + byte) after ≡ joined (byte_form part) sign (suc k) value rest
 joined-suc part sign k value byte rest first after before behind read = rw (← before, ← behind, ← read) refl
 
 -- one more byte
-pub joined-step : (part : Part) (sign more i value byte : ℕ) (rest first after : List ℕ) (whole : Option ℕ) → i < more
+pub joined-step : (part : ByteForm) (sign more i value byte : ℕ) (rest first after : List ℕ) (whole : Option ℕ) → i < more
     → first ≡ before_first (λ b. b == sign) rest → after ≡ after_first (λ b. b == sign) rest → Some byte ≡ byte_form part first
     → joined (byte_form part) sign (more - i) value rest ≡ whole
     → joined (byte_form part) sign (more - (i + 1)) (256 * value + byte) after ≡ whole
@@ -19,12 +19,12 @@ joined-step part sign more i value byte rest first after whole left before behin
     let e : more - i ≡ suc (more - (i + 1)) = omega arith in
     joined-suc part sign (more - (i + 1)) value byte rest first after before behind read ∙ rw e at h
 
-joined-none-suc : (part : Part) (sign k value : ℕ) (rest first : List ℕ) → first ≡ before_first (λ b. b == sign) rest → None ≡ byte_form part first
+joined-none-suc : (part : ByteForm) (sign k value : ℕ) (rest first : List ℕ) → first ≡ before_first (λ b. b == sign) rest → None ≡ byte_form part first
     → joined (byte_form part) sign (suc k) value rest ≡ None
 joined-none-suc part sign k value rest first before read = rw (← before, ← read) refl
 
 -- a part that is no byte
-pub joined-none : (part : Part) (sign more i value : ℕ) (rest first : List ℕ) (whole : Option ℕ) → i < more
+pub joined-none : (part : ByteForm) (sign more i value : ℕ) (rest first : List ℕ) (whole : Option ℕ) → i < more
     → first ≡ before_first (λ b. b == sign) rest → None ≡ byte_form part first
     → joined (byte_form part) sign (more - i) value rest ≡ whole → None ≡ whole
 joined-none part sign more i value rest first whole left before read h =

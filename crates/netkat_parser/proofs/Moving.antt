@@ -200,7 +200,7 @@ takes-not v e lt = (
       ),
 )
 
--- ---- behind a field's name
+-- ---- after a field's name
 
 may : (i : Bool) → MayStand i operator.Test
 may true = tt
@@ -286,7 +286,7 @@ stops-number v f op g e = λ x h text e' r.
     comes-in x (Number f op) s o (stage-at v x (stage.Number f op) h e).0
     (o, subst (λ q. IsRun d f (made op f) s q o) (sym none) same, leads-bad x.frames x.summands x.factors (stray (length v.levels) g) text)
 
--- ---- behind an operand
+-- ---- after an operand
 
 -- no `not` ends in front of the sign
 goes-chain : (ls : List Level) (fs : List Frame) (g : Sign) → AreLevels ls fs → GoesOn ls g → IsChain fs × ((fs ≡ []) → g ≢ to_sign.End) × ((fs ≢ []) → g ≢ to_sign.Close)
@@ -556,7 +556,7 @@ module _ (v : View) (pol whole : Pol) (atom : Bool)
   gives-whole e l = λ x h text k.
       gives x.frames x.summands x.factors x.phase (stage-at v x (stage.Behind pol atom) h e) (subst (λ q. AreLevels q x.frames) l h.levels) h.chain text k
 
--- ---- signs behind nots that end
+-- ---- signs after nots that end
 
 pub follows-none : (v : View) (g : Sign) → FollowsNots v g v
 follows-none v g = (λ text r. r, λ x h. (x, h, λ text o e k. k))

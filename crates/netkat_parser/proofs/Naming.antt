@@ -1,4 +1,4 @@
--- The pairs that a text's policy names are those of the spot behind it, and within the limits.
+-- The pairs that a text's policy names are those of the spot after it, and within the limits.
 use Rattle.std.proofs.Common.{◌≡◌, ℕ, ◌+◌, ◌≤◌, inl, inr, Bool, true, false, not, cond, ◌&&◌, ◌||◌, ◌==◌, nat_le, List, [], ◌∷◌, ◌++◌, length, Option, Some, None, refl, sym, ap, ◌∙◌, subst, arith, length-append}
 use Rattle.std.proofs.lemmas.Bool.Decides.{nat_tests}
 use Rattle.nk_values.specs.declared.field.Field.{Field}
@@ -46,7 +46,7 @@ mutual
   all-pure-named no_terms named h = refl
   all-pure-named (term p ps) named h = ap (guards_named (all_taken ps)) (pure-named p named h.0) ∙ all-pure-named ps (term_named p named) h.1
 
--- what was read names the pairs behind it, within the limits, and inside a `not` it is pure
+-- what was read names the pairs after it, within the limits, and inside a `not` it is pure
 record IsNamed (inside : Bool) (before : Names) (p : Term) (after : Names) : Type 0 where
   names : after ≡ term_named p before
   roomy : IsRoomy before → IsRoomy after

@@ -8,7 +8,7 @@ use Rattle.netkat_parser.specs.declared.fault.ParseFault.{ParseFault}
 use Rattle.netkat_parser.specs.declared.sign.Sign.TheVariants.{End}
 use Rattle.netkat_parser.specs.Signs.{sign}
 use Rattle.netkat_parser.specs.Grammar.{Spot, Got, Read, Bad, ended_by, first_spot, IsPolicy, IsText}
-use Rattle.netkat_parser.specs.Places.{place_behind, HasFault}
+use Rattle.netkat_parser.specs.Places.{position_after, HasFault}
 use Rattle.netkat_parser.proofs.Unique.{reading-one}
 
 pub whole-text : (text : List ℕ) (p : Term) (s : Spot) → IsPolicy 0 false (first_spot text) (Read p s) → sign s.text ≡ End → IsText text p
@@ -28,5 +28,5 @@ fault-one begin text f g h k =
     let e = reading-one text (Bad f.fault h.at) (Bad g.fault k.at) h.first k.first in
     let at = ats f.fault g.fault h.at k.at e in
     let front = append_cancel_right h.front k.front k.at (subst (λ (x : List ℕ). h.front ++ x ≡ text) at (sym h.parts) ∙ k.parts) in
-    let place = sym h.place ∙ ap (place_behind begin) front ∙ k.place in
-    λ i. record { fault = faults f.fault g.fault h.at k.at e i; line = (place i).line; column = (place i).column }
+    let position = sym h.position ∙ ap (position_after begin) front ∙ k.position in
+    λ i. record { fault = faults f.fault g.fault h.at k.at e i; line = (position i).line; column = (position i).column }

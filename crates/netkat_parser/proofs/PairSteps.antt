@@ -29,7 +29,7 @@ use Rattle.netkat_parser.specs.Standing.{Leaves, Steps}
 use Rattle.netkat_parser.proofs.Cutting.{ahead-append, at-sign}
 use Rattle.netkat_parser.proofs.Moving.{takes-name, takes-equals, takes-becomes, takes-number, levels-pop}
 
--- ---- behind blanks and comments
+-- ---- after blanks and comments
 
 any-rest : (rest : List ℕ) → false ≡ true → rest ≡ []
 any-rest rest e = cc

@@ -19,7 +19,7 @@ use Rattle.netkat_parser.specs.declared.advance.Pause.TheVariants as pause
 use Rattle.netkat_parser.specs.declared.feeding.PolicyReader.{PolicyReader}
 use Rattle.netkat_parser.specs.Signs.{ahead, sign}
 use Rattle.netkat_parser.specs.Grammar.{Got, Read, Bad, IsReading, IsText}
-use Rattle.netkat_parser.specs.Places.{next_place, place_behind, HasFault}
+use Rattle.netkat_parser.specs.Places.{next_position, position_after, HasFault}
 use Rattle.netkat_parser.specs.Answers.{spot}
 use Rattle.netkat_parser.specs.Pairs.{pairs}
 use Rattle.netkat_parser.specs.Going.{Comes}
@@ -34,18 +34,18 @@ next-near : (c : Bool) (p : Position) → let q : Position = cond c (record { li
 next-near true p = (omega arith, omega arith)
 next-near false p = (omega arith, omega arith)
 
-pub place-near : (p : Position) (front : List ℕ) → ((place_behind p front).line ≤ p.line + length front) × ((place_behind p front).column ≤ p.column + length front)
-place-near p [] = (omega arith, omega arith)
-place-near p (b ∷ bs) =
-    let h = place-near (next_place p b) bs in
+pub position-near : (p : Position) (front : List ℕ) → ((position_after p front).line ≤ p.line + length front) × ((position_after p front).column ≤ p.column + length front)
+position-near p [] = (omega arith, omega arith)
+position-near p (b ∷ bs) =
+    let h = position-near (next_position p b) bs in
     let k = next-near (b == 10) p in
     (omega (arith, h.0, k.0), omega (arith, h.1, k.1))
 
 -- what was read is no longer pending
-pub place-bound : (p q : Position) (xs ys zs : List ℕ) (n room most : ℕ) → q ≡ place_behind p (take n ys) → xs ≡ drop n ys → zs ≡ ys
+pub position-bound : (p q : Position) (xs ys zs : List ℕ) (n room most : ℕ) → q ≡ position_after p (take n ys) → xs ≡ drop n ys → zs ≡ ys
     → p.line + length zs + room < most → p.column + length zs + room < most → (q.line + length xs + room < most) × (q.column + length xs + room < most)
-place-bound p q xs ys zs n room most e f g l k =
-    let near = place-near p (take n ys) in
+position-bound p q xs ys zs n room most e f g l k =
+    let near = position-near p (take n ys) in
     let parts = ap length (sym (take-append-drop n ys)) ∙ length-append (take n ys) (drop n ys) in
     let whole = ap length g in
     let rest = ap length f in
@@ -53,27 +53,27 @@ place-bound p q xs ys zs n room most e f g l k =
     let column = ap (λ (z : Position). z.column) e in
     (omega (arith, near.0, parts, whole, rest, line, l), omega (arith, near.1, parts, whole, rest, column, k))
 
-pub place-append : (p : Position) (xs ys : List ℕ) → place_behind p (xs ++ ys) ≡ place_behind (place_behind p xs) ys
-place-append p [] ys = refl
-place-append p (x ∷ xs) ys = place-append (next_place p x) xs ys
+pub position-append : (p : Position) (xs ys : List ℕ) → position_after p (xs ++ ys) ≡ position_after (position_after p xs) ys
+position-append p [] ys = refl
+position-append p (x ∷ xs) ys = position-append (next_position p x) xs ys
 
 -- ---- before the first byte
 
 pub first-goes : (rest : List ℕ) (o : Got Term) → Comes first_reach (spot (ahead false rest) []) o → IsReading rest o
 first-goes rest o h = (h.2.0, policy-of 0 false (spot (ahead false rest) []) h.0 h.2.0 h.1 h.2.1, h.2.2)
 
--- ---- behind what is whole
+-- ---- after what is whole
 
 module _ (end : Bool) (begin : Position) (text : List ℕ) (old new : PolicyReader) (n : ℕ)
-    (p : new.pending.items ≡ drop n old.pending.items) (q : new.place ≡ place_behind old.place (take n old.pending.items)) (h : IsOpen end begin old text) where
+    (p : new.pending.items ≡ drop n old.pending.items) (q : new.position ≡ position_after old.position (take n old.pending.items)) (h : IsOpen end begin old text) where
   whole-parts : text ≡ (h.front ++ take n old.pending.items) ++ drop n old.pending.items
   whole-parts =
       h.parts ∙ ap (λ xs. h.front ++ xs) (sym (take-append-drop n old.pending.items))
       ∙ sym (append_assoc h.front (take n old.pending.items) (drop n old.pending.items))
 
-  whole-place : place_behind begin (h.front ++ take n old.pending.items) ≡ new.place
-  whole-place =
-      place-append begin h.front (take n old.pending.items) ∙ ap (λ z. place_behind z (take n old.pending.items)) h.place ∙ sym q
+  whole-position : position_after begin (h.front ++ take n old.pending.items) ≡ new.position
+  whole-position =
+      position-append begin h.front (take n old.pending.items) ∙ ap (λ z. position_after z (take n old.pending.items)) h.position ∙ sym q
 
   leaves-open : Leaves (view_of old.reading) old.in_comment old.pending.items end (view_of new.reading) new.in_comment (drop n old.pending.items) → IsOpen end begin new text
   leaves-open l =
@@ -81,7 +81,7 @@ module _ (end : Bool) (begin : Position) (text : List ℕ) (old new : PolicyRead
       record {
         front = h.front ++ take n old.pending.items;
         parts = whole-parts ∙ ap (λ xs. (h.front ++ take n old.pending.items) ++ xs) (sym p);
-        place = whole-place;
+        position = whole-position;
         reach = y.0;
         shows = y.1;
         goes = λ rest o e k. h.goes rest o e (y.2 rest o e (subst (λ xs. Comes y.0 (spot (ahead new.in_comment (xs ++ rest)) (pairs new.reading.named)) o) p k));
@@ -97,7 +97,7 @@ module _ (end : Bool) (begin : Position) (text : List ℕ) (old new : PolicyRead
     at = drop n old.pending.items ++ rest;
     parts = ap (λ xs. xs ++ rest) whole-parts ∙ append_assoc (h.front ++ take n old.pending.items) (drop n old.pending.items) rest;
     first = h.goes rest (Bad f (drop n old.pending.items ++ rest)) e (a h.reach h.shows rest e);
-    place = whole-place;
+    position = whole-position;
   }
 
 -- ---- at the end of the text
@@ -106,7 +106,7 @@ pub ends-open : (begin : Position) (r : PolicyReader) (text : List ℕ) → IsOp
 ends-open begin r text h = record {
   front = h.front;
   parts = h.parts;
-  place = h.place;
+  position = h.position;
   reach = h.reach;
   shows = h.shows;
   goes = λ rest o e k. h.goes rest o (λ z. absurd (let clash = z in cc)) k;
@@ -140,9 +140,9 @@ whole-text begin r text p s g =
     )
 
 pub whole-fault : (begin : Position) (r : PolicyReader) (text : List ℕ) (f : TextFault) → Settles true begin text r (pause.Halt (halt.Fault f))
-    → HasFault begin text (record { fault = f; line = r.place.line; column = r.place.column })
+    → HasFault begin text (record { fault = f; line = r.position.line; column = r.position.column })
 whole-fault begin r text f s =
-    let g : ParseFault = record { fault = f; line = r.place.line; column = r.place.column } in
+    let g : ParseFault = record { fault = f; line = r.position.line; column = r.position.column } in
     subst (λ t. HasFault begin t g) (append-nil text) (s [] (λ z. refl))
 
 -- ---- answers

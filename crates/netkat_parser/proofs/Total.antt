@@ -17,14 +17,14 @@ use Rattle.netkat_parser.specs.declared.sign.Sign.TheVariants as to_sign
 use Rattle.netkat_parser.specs.declared.sign.Sign.TheVariants.{Name, Equals, Becomes, Plus, Semicolon, Open, End}
 use Rattle.netkat_parser.specs.Signs.{sign, sign_len, is_becomes, past, run, ahead}
 use Rattle.netkat_parser.specs.Numbers.{number}
-use Rattle.netkat_parser.specs.Places.{HasFault, place_behind}
+use Rattle.netkat_parser.specs.Places.{HasFault, position_after}
 use Rattle.netkat_parser.specs.Grammar.{Spot, Got, Read, Bad, step, strays, literal, gathered, negated, sum_of, seq_of, closed, starred, ended, first_spot, Opens, IsNumber, IsRun, IsPair, IsLeaf, IsPolicy, AreSummands, IsSequence, AreFactors, IsUnary, IsAtom, IsReading, IsText, sum, last_summand, more_summands, sequence, last_factor, more_factors, negation, post, bracket, leaf}
 use Rattle.netkat_parser.proofs.Suffixes.{end-ahead, end-short, end-fault, ends-sequence, ends-unary}
 
 abbrev Has : {A : Type 0} → (Got A → Type 0) → Type 0
 Has {A} P = (o : Got A) × P o
 
--- a text with a sign is shorter behind it
+-- a text with a sign is shorter after it
 letter : (d u l : Bool) → (u || l) ≡ true → ((d || u) || l) ≡ true
 letter true u l e = refl
 letter false u l e = e
@@ -144,7 +144,7 @@ record Below (n : ℕ) : Type 0 where
   factors : (depth : ℕ) (inside : Bool) (s : Spot) → length s.text < n → Has (AreFactors depth inside s)
   unary : (depth : ℕ) (inside : Bool) (s : Spot) → length s.text < n → Has (IsUnary depth inside s)
 
--- behind a sign that is one
+-- after a sign that is one
 behind-less : (t : Sign) (s : Spot) (n : ℕ) → t ≢ End → sign s.text ≡ t → length s.text ≤ n → length (step s).text < n
 behind-less t s n ne e le =
     let less = past-less s.text (λ k. ne (let d : t ≡ End = cc in d)) in
@@ -223,7 +223,7 @@ reading-some text =
     let w = (all-below (suc (length s.text))).policy 0 false s (omega arith) in
     (ended w.0, (w.0, w.1, refl))
 
--- a policy, or a fault at its place
+-- a policy, or a fault at its position
 pub read-or-fault : (begin : Position) (text : List ℕ) → ((p : Term) × IsText text p) ⊎ ((f : ParseFault) × HasFault begin text f)
 read-or-fault begin text = let r = reading-some text in split r.0 r.1
   where
@@ -231,5 +231,5 @@ read-or-fault begin text = let r = reading-some text in split r.0 r.1
     split (Read p s) h = inl (p, (s, h))
     split (Bad e at) h =
         let end = end-fault text e at h in
-        let place = place_behind begin end.front in
-        inr (record { fault = e; line = place.line; column = place.column }, record { front = end.front; at = at; parts = end.parts; first = h; place = refl })
+        let position = position_after begin end.front in
+        inr (record { fault = e; line = position.line; column = position.column }, record { front = end.front; at = at; parts = end.parts; first = h; position = refl })

@@ -1,4 +1,4 @@
--- The value behind `=` or `:=`.
+-- The value after `=` or `:=`.
 use Rattle.std.proofs.Common.{◌≡◌, ◌≢◌, ℕ, Bool, true, false, not, cond, ◌==◌, List, [], ◌∷◌, length, Some, inl, refl, arith}
 use Rattle.std.proofs.lemmas.Bool.Decides.{nat_tests}
 use Rattle.nk_values.specs.declared.field.Field.{Field}

@@ -14,7 +14,7 @@ use Rattle.netkat_parser.specs.declared.pair.Pair.{Pair}
 use Rattle.netkat_parser.specs.Numbers.{number, IsWritten}
 use Rattle.netkat_parser.specs.Signs.{is_blank, ahead, sign, past, run, past_run}
 
--- a comment goes on behind what stands in front of the next sign
+-- a comment goes on after what stands in front of the next sign
 abbrev pub comment_behind : Bool → List ℕ → Bool
 comment_behind in_comment [] = in_comment
 comment_behind true (b ∷ bs) = comment_behind (not (b == 10)) bs
@@ -46,9 +46,9 @@ pub record IsRunAt (text : List ℕ) (end : Bool) (n : ℕ) : Type 0 where
   pub run : (rest : List ℕ) → EndsAt end rest → run (text ++ rest) ≡ take n text
   pub past : (rest : List ℕ) → EndsAt end rest → past_run (text ++ rest) ≡ ahead false (drop n text ++ rest)
 
--- ---- behind blanks and comments
+-- ---- after blanks and comments
 
--- the next sign ends behind so many bytes, however the text goes on
+-- the next sign ends after so many bytes, however the text goes on
 pub record IsSignAhead (text : List ℕ) (g : Sign) (n : ℕ) : Type 0 where
   pub some : 0 < n
   pub within : n ≤ length text

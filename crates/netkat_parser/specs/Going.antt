@@ -1,4 +1,4 @@
--- What comes of a text from a place on, behind what a reader has read.
+-- What comes of a text from a position on, after what a reader has read.
 use Rattle.std.specs.Prelude.{◌≡◌, ◌≢◌, ◌⊎◌, ℕ, ◌+◌, Bool, true, false, List, [], ◌∷◌, ◌++◌}
 use Rattle.nk_values.specs.declared.field.Field.{Field}
 use Rattle.nk_syntax.specs.Terms.{Term, Filter, Test, Assign}
@@ -9,7 +9,8 @@ use Rattle.netkat_parser.specs.Signs.{sign, run}
 use Rattle.netkat_parser.specs.Grammar.{Spot, Got, Read, Bad, step, gathered, sum_of, seq_of, negated, closed, starred}
 use Rattle.netkat_parser.specs.Grammar.{ended, IsRun, IsPair, AreSummands, AreFactors, IsUnary}
 
--- What is open around a place, from the inside out: a `not`, or a bracket with the summands and factors in front of it.
+-- What is open around a position, from the inside out: a `not`, or a bracket with the summands and factors in front
+-- of it.
 pub data Frame : Type 0 where
   Negated : Frame
   Bracketed : List Term → List Term → Frame
@@ -61,7 +62,7 @@ Leads (Bracketed ss' qs' ∷ fs) ss qs u o =
     (w : Got Term) × MakesPolicy (depth_of fs + 1) (is_inside fs) ss qs u w ×
     Leads fs ss' qs' (starred (is_inside fs) (closed (depth_of fs + 1) w)) o
 
--- Where reading stands between two signs: an operand begins; a sign stands behind a field's name; a value stands behind
+-- Where reading stands between two signs: an operand begins; a sign stands after a field's name; a value stands after
 -- it; or an operand was read, which is an atom or not.
 pub data Phase : Type 0 where
   Operand : Phase
@@ -74,7 +75,7 @@ abbrev pub made : Operator → Field → ℕ → Term
 made operator.Test f n = Filter (Test f n)
 made operator.Assign f n = Assign f n
 
--- what was read up to a place
+-- what was read up to a position
 pub record Reach : Type 0 where
   pub phase : Phase
   pub frames : List Frame

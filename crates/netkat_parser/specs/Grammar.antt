@@ -28,7 +28,7 @@ pub record Spot : Type 0 where
   pub text : List ℕ
   pub named : List (Field × ℕ)
 
--- what was read, and the spot behind it; or a fault, and the text from it on
+-- what was read, and the spot after it; or a fault, and the text from it on
 pub data Got (A : Type 0) : Type 0 where
   Read : A → Spot → Got A
   Bad : TextFault → List ℕ → Got A
@@ -37,7 +37,7 @@ pub data Got (A : Type 0) : Type 0 where
 abbrev pub first_spot : List ℕ → Spot
 first_spot text = record { text = ahead false text; named = [] }
 
--- behind the next sign
+-- after the next sign
 abbrev pub step : Spot → Spot
 step s = record { text = past s.text; named = s.named }
 
@@ -119,12 +119,12 @@ abbrev pub IsNumber : Field → (ℕ → Term) → Spot → Option ℕ → Got T
 IsNumber f make s None o = o ≡ Bad fault.ValueRange s.text
 IsNumber f make s (Some n) o = Where (IsLiteralOf f n) (o ≡ literal f make s n) (o ≡ Bad fault.ValueRange s.text)
 
--- the run behind `=` or `:=`
+-- the run after `=` or `:=`
 abbrev pub IsRun : ℕ → Field → (ℕ → Term) → Spot → List ℕ → Got Term → Type 0
 IsRun depth f make s [] o = o ≡ strays depth s
 IsRun depth f make s (b ∷ bs) o = IsNumber f make s (number f (b ∷ bs)) o
 
--- a test or an assignment, by the sign behind the field
+-- a test or an assignment, by the sign after the field
 abbrev pub IsPair : ℕ → Bool → Field → Spot → Sign → Got Term → Type 0
 IsPair depth inside f s Equals o = IsRun depth f (λ n. Filter (Test f n)) (step s) (run (past s.text)) o
 IsPair depth false f s Becomes o = IsRun depth f (Assign f) (step s) (run (past s.text)) o
@@ -140,7 +140,7 @@ IsLeaf depth true s to_sign.Dup o = o ≡ Bad fault.NotPredicate s.text
 IsLeaf depth inside s (Name f) o = IsPair depth inside f (step s) (sign (past s.text)) o
 IsLeaf depth inside s _ o = o ≡ strays depth s
 
--- a closing bracket behind what was read
+-- a closing bracket after what was read
 abbrev pub closed_by : ℕ → Term → Spot → Sign → Got Term
 closed_by depth p s Close = Read p (step s)
 closed_by depth p s _ = strays depth s
@@ -149,7 +149,7 @@ abbrev pub closed : ℕ → Got Term → Got Term
 closed depth (Read p s) = closed_by depth p s (sign s.text)
 closed depth (Bad e at) = Bad e at
 
--- a star behind it, where there is one
+-- a star after it, where there is one
 abbrev pub starred_by : Bool → Term → Spot → Sign → Got Term
 starred_by false p s Star = Read (to.Star p) (step s)
 starred_by true p s Star = Bad fault.NotPredicate s.text
@@ -159,7 +159,7 @@ abbrev pub starred : Bool → Got Term → Got Term
 starred inside (Read p s) = starred_by inside p s (sign s.text)
 starred inside (Bad e at) = Bad e at
 
--- the end of the text behind it
+-- the end of the text after it
 abbrev pub ended_by : Term → Spot → Sign → Got Term
 ended_by p s End = Read p s
 ended_by p s _ = strays 0 s

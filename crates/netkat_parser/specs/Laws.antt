@@ -10,7 +10,7 @@ use Rattle.netkat_parser.specs.Printed.{HasLiterals, IsPrintable, IsRoomy, term_
 use Rattle.nk_syntax.specs.declared.pol.Pol.{Pol}
 use Rattle.nk_syntax.specs.Views.{term_of}
 
--- A text has one outcome: one policy, or one fault at one place.
+-- A text has one outcome: one policy, or one fault at one position.
 abbrev pub OneOutcome : Type 0
 OneOutcome = (text : List ℕ) (o o' : Got Term) → IsReading text o → IsReading text o' → o ≡ o'
 

@@ -9,8 +9,8 @@ use Rattle.nk_values.specs.declared.field.Field.TheVariants.{EthSrc, EthDst, Ip4
 use Rattle.nk_values.specs.declared.lit.Lit.{Lit}
 use Rattle.nk_values.specs.Lits.{lit_field, lit_value}
 use Rattle.nk_values.specs.Ranges.{IsLiteralOf}
-use Rattle.netkat_parser.specs.declared.number.Part.{Part}
-use Rattle.netkat_parser.specs.declared.number.Part.TheVariants.{Pair, Octet}
+use Rattle.netkat_parser.specs.declared.number.ByteForm.{ByteForm}
+use Rattle.netkat_parser.specs.declared.number.ByteForm.TheVariants.{Pair, Octet}
 
 -- the number that digits in a base write, in letters of either case
 abbrev pub digits_form : ℕ → List ℕ → Option ℕ
@@ -28,7 +28,7 @@ at_most high o = option_and_then (λ n. if nat_le n high then Some n else None) 
 abbrev pub decimal_form : List ℕ → Option ℕ
 decimal_form ds = numeral 10 1 20 ds
 
--- 1 to 16 hexadecimal digits, which stand behind `0x`
+-- 1 to 16 hexadecimal digits, which stand after `0x`
 abbrev pub hexadecimal_form : List ℕ → Option ℕ
 hexadecimal_form ds = numeral 16 1 16 ds
 
@@ -41,7 +41,7 @@ abbrev pub octet_form : List ℕ → Option ℕ
 octet_form ds = at_most 255 (numeral 10 1 3 ds)
 
 -- a byte of an Ethernet or an IPv4 address
-abbrev pub byte_form : Part → List ℕ → Option ℕ
+abbrev pub byte_form : ByteForm → List ℕ → Option ℕ
 byte_form Pair ds = pair_form ds
 byte_form Octet ds = octet_form ds
 

@@ -107,7 +107,7 @@ abbrev mutual
   terms_depth no_terms = 0
   terms_depth (term p ps) = max (term_depth p) (terms_depth ps)
 
--- the pairs of field and value, each once, when those of a predicate or policy are named behind others
+-- the pairs of field and value, each once, when those of a predicate or policy are named after others
 abbrev mutual
   pub guard_named : Guard → List (Field × ℕ) → List (Field × ℕ)
   guard_named (Test f n) named = with_pair named f n

@@ -14,19 +14,19 @@ use Rattle.netkat_parser.specs.declared.advance.Pause.TheVariants as pause
 use Rattle.netkat_parser.specs.declared.feeding.PolicyReader.{PolicyReader}
 use Rattle.netkat_parser.specs.Signs.{ahead, sign}
 use Rattle.netkat_parser.specs.Grammar.{Got, IsReading, IsText}
-use Rattle.netkat_parser.specs.Places.{place_behind, HasFault}
+use Rattle.netkat_parser.specs.Places.{position_after, HasFault}
 use Rattle.netkat_parser.specs.Answers.{spot}
 use Rattle.netkat_parser.specs.Pairs.{pairs}
 use Rattle.netkat_parser.specs.Going.{Reach, Comes}
 use Rattle.netkat_parser.specs.Cuts.{EndsAt}
 use Rattle.netkat_parser.specs.Views.{view_of, Shows}
 
--- No fault was found in a text that began at a place: whatever may follow, what comes of it behind what is pending is
+-- No fault was found in a text that began at a position: whatever may follow, what comes of it after what is pending is
 -- what the grammar gives of the text with it. At the end nothing may follow.
 pub record IsOpen (end : Bool) (begin : Position) (r : PolicyReader) (text : List ℕ) : Type 0 where
   pub front : List ℕ
   pub parts : text ≡ front ++ r.pending.items
-  pub place : place_behind begin front ≡ r.place
+  pub position : position_after begin front ≡ r.position
   pub reach : Reach
   pub shows : Shows (view_of r.reading) reach
   pub goes : (rest : List ℕ) (o : Got Term) → EndsAt end rest
@@ -41,8 +41,8 @@ abbrev pub StandsBy : Option ParseFault → Position → PolicyReader → List �
 StandsBy None begin r text = IsOpen false begin r text
 StandsBy (Some f) begin r text = IsFaulty begin text f
 
--- The reader stands for a text that began at a place: whatever follows, going on over it gives what the grammar gives
--- of the text followed by it.
+-- The reader stands for a text that began at a position: whatever follows, going on over it gives what the grammar
+-- gives of the text followed by it.
 abbrev pub StandsFor : Position → PolicyReader → List ℕ → Type 0
 StandsFor begin r text = StandsBy r.fault begin r text
 
@@ -50,7 +50,7 @@ abbrev pub EndsBy : Option ParseFault → Position → PolicyReader → List ℕ
 EndsBy None begin r text = IsOpen true begin r text
 EndsBy (Some f) begin r text = IsFaulty begin text f
 
--- The same of a reader of a whole text, behind which nothing follows.
+-- The same of a reader of a whole text, after which nothing follows.
 abbrev pub EndsFor : Position → PolicyReader → List ℕ → Type 0
 EndsFor begin r text = EndsBy r.fault begin r text
 
@@ -68,4 +68,4 @@ Settles end begin text r (pause.Halt halt.Done) = IsOpen end begin r text ×
     ((rest : List ℕ) → EndsAt end rest → sign (ahead r.in_comment (r.pending.items ++ rest)) ≡ End)
 Settles end begin text r (pause.Halt (halt.Fault f)) =
     (rest : List ℕ) → EndsAt end rest →
-    HasFault begin (text ++ rest) (record { fault = f; line = r.place.line; column = r.place.column })
+    HasFault begin (text ++ rest) (record { fault = f; line = r.position.line; column = r.position.column })

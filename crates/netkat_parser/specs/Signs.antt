@@ -19,7 +19,7 @@ DecidesAs post test = (b : ℕ) (x : Bool) → b < 256 → post b x → x ≡ te
 abbrev pub is_blank : ℕ → Bool
 is_blank b = b == 32 || b == 9 || b == 13 || b == 10
 
--- what stands behind blanks and comments, or behind the rest of a comment; a comment goes from `#` to the end of its
+-- what stands after blanks and comments, or after the rest of a comment; a comment goes from `#` to the end of its
 -- line
 abbrev pub ahead : Bool → List ℕ → List ℕ
 ahead in_comment [] = []
@@ -73,6 +73,6 @@ is_run_byte b = is_ascii_alphanumeric b || b == 46 || b == 58
 abbrev pub run : List ℕ → List ℕ
 run text = take_while is_run_byte text
 
--- from the next sign behind it on
+-- from the next sign after it on
 abbrev pub past_run : List ℕ → List ℕ
 past_run text = ahead false (drop (prefix_len is_run_byte text) text)

@@ -101,7 +101,7 @@ pub record Shows (v : View) (x : Reach) : Type 0 where
 abbrev pub first_reach : Reach
 first_reach = record { phase = Operand; frames = []; summands = []; factors = [] }
 
--- the sign was taken, which is not the end: what comes behind it comes from it on
+-- the sign was taken, which is not the end: what comes after it comes from it on
 abbrev pub TakesSign : View → Sign → View → Type 0
 TakesSign old g new = (g ≢ End) × ((x : Reach) → Shows old x → (y : Reach) × Shows new y
     × ((text : List ℕ) (o : Got Term) → sign text ≡ g → Comes y (spot (past text) new.named) o →
@@ -185,7 +185,7 @@ abbrev pub GivesWhole : View → Term → Type 0
 GivesWhole v p = (x : Reach) → Shows v x → (text : List ℕ) → sign text ≡ End →
     Comes x (spot text v.named) (Read p (spot text v.named))
 
--- the sign was taken behind all nots that end in front of it
+-- the sign was taken after all nots that end in front of it
 abbrev pub MovesOn : {U : Type 0} → View → Sign → View → Result U Halt → Type 0
 MovesOn old g new (Ok u) = TakesSign old g new
 MovesOn old g new (Err (halt.Fault f)) = StopsAt old g f

@@ -6,7 +6,7 @@ use nk_values::TextFault;
 use std::alloc::AllocError;
 use thiserror::Error;
 
-/// A place in a text: its line and column, both from 1, the column in bytes.
+/// A position in a text: its line and column, both from 1, the column in bytes.
 #[derive(Clone, Copy, Debug, PartialEq, Eq)]
 pub struct Position {
     pub line: u64,

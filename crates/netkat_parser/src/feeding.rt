@@ -14,10 +14,10 @@ pub struct PolicyReader {
     pub(crate) reading: Reading,
     pub(crate) in_comment: bool,
     pub(crate) pending: BytesMut,
-    pub(crate) place: Position,
+    pub(crate) position: Position,
     pub(crate) room: u64,
     pub(crate) look: usize,
     pub(crate) fault: Option<ParseFault>,
-    ghost lines: { place.line + length pending.items + room < 2 ^ 64 },
-    ghost columns: { place.column + length pending.items + room < 2 ^ 64 },
+    ghost lines: { position.line + length pending.items + room < 2 ^ 64 },
+    ghost columns: { position.column + length pending.items + room < 2 ^ 64 },
 }

@@ -3,7 +3,7 @@
 //! Layer: texts that are read; public. No crate here calls it.
 ghost use Rattle.netkat_parser.specs.Laws.{NamesFew, OneOutcome, OneReading, SomeOutcome, ReadBack, ReadBackPol};
 
-/// A text has exactly one outcome: it is read as one policy, or has one first fault at one place.
+/// A text has exactly one outcome: it is read as one policy, or has one first fault at one position.
 pub fn one_reading()
     ensures outcome { OneOutcome }
     ensures some { SomeOutcome }

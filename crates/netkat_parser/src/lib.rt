@@ -25,6 +25,6 @@ pub use fault::{ParseError, ParseFault, Position};
 pub use feeding::PolicyReader;
 pub use laws::{names_few, one_reading, read_back};
 pub use number::{GREATEST, cut, has_form, number_of, numeral};
-pub use parse::{parse_policy, parse_policy_at, place_behind};
+pub use parse::{parse_policy, parse_policy_at, position_after};
 pub use run::run_len;
 pub use sign::is_run_byte;

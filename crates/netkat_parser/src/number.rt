@@ -18,19 +18,19 @@ pub const GREATEST: u64 = 0xffff_ffff_ffff;
 
 /// A byte of an address: two hexadecimal digits, or 1 to 3 decimal digits up to 255.
 #[derive(Clone, Copy, Debug, PartialEq, Eq)]
-enum Part {
+enum ByteForm {
     Pair,
     Octet,
 }
 
-impl Part {
+impl ByteForm {
     fn read(self, digits: &[u8]) -> Option<u64>
         ensures value { result ≡ byte_form self digits.now }
         ensures small { IfSome result (λ n. n ≤ 255) }
     {
         match self {
-            Part::Pair => numeral(16, 2, 2, 255, digits),
-            Part::Octet => numeral(10, 1, 3, 255, digits),
+            ByteForm::Pair => numeral(16, 2, 2, 255, digits),
+            ByteForm::Octet => numeral(10, 1, 3, 255, digits),
         }
     }
 }
@@ -93,26 +93,26 @@ fn address(field: Field, run: &[u8]) -> Option<u64>
     ensures { result ≡ address_form field run.now }
 {
     match field {
-        Field::EthSrc | Field::EthDst => joined(Part::Pair, b':', 5, run),
-        Field::Ip4Src | Field::Ip4Dst => joined(Part::Octet, b'.', 3, run),
+        Field::EthSrc | Field::EthDst => joined(ByteForm::Pair, b':', 5, run),
+        Field::Ip4Src | Field::Ip4Dst => joined(ByteForm::Octet, b'.', 3, run),
         _ => None,
     }
 }
 
 // The number in base 256 of `more` + 1 parts, joined by a sign.
-fn joined(part: Part, sign: u8, more: u32, text: &[u8]) -> Option<u64>
+fn joined(form: ByteForm, sign: u8, more: u32, text: &[u8]) -> Option<u64>
     requires { more ≤ 5 }
-    ensures { result ≡ joined (byte_form part) sign more 0 text.now }
+    ensures { result ≡ joined (byte_form form) sign more 0 text.now }
 {
     let mut value = 0u64;
     let mut rest = text;
     for _byte in 0..more {
         let (first, after) = cut(rest, sign);
-        let byte = part.read(first)?;
+        let byte = form.read(first)?;
         value = 256 * value + byte;
         rest = after;
     }
-    let byte = part.read(rest)?;
+    let byte = form.read(rest)?;
     Some(256 * value + byte)
 }
 

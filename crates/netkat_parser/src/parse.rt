@@ -5,7 +5,7 @@ ghost use Rattle.std.specs.Prelude.{◌≡◌, ◌⊎◌, ◌+◌, ◌-◌, ◌<
 ghost use Rattle.nk_syntax.specs.Terms.{Term};
 ghost use Rattle.nk_syntax.specs.Views.{term_of};
 ghost use Rattle.netkat_parser.specs.Grammar.{IsText};
-ghost use Rattle.netkat_parser.specs.Places.{place_behind, HasFault, text_start};
+ghost use Rattle.netkat_parser.specs.Places.{position_after, HasFault, text_start};
 ghost use Rattle.netkat_parser.specs.declared.fault.ParseError.{ParseError as Error};
 ghost use Rattle.netkat_parser.specs.declared.fault.ParseFault.{ParseFault as Located};
 
@@ -44,8 +44,8 @@ pub fn parse_policy(alloc: Global, text: &[u8]) -> Result<Pol, ParseError>
     parse_policy_at(alloc, text, Position { line: 1, column: 1 })
 }
 
-/// The same of a text that begins at a place of a larger one. A fault at the end of the text has
-/// the place after its last byte.
+/// The same of a text that begins at a position of a larger one. A fault at the end of the text has
+/// the position after its last byte.
 pub fn parse_policy_at(alloc: Global, text: &[u8], begin: Position) -> Result<Pol, ParseError>
     requires lines { begin.line + length text.now < 2 ^ 64 }
     requires columns { begin.column + length text.now < 2 ^ 64 }
@@ -61,23 +61,23 @@ pub fn parse_policy_at(alloc: Global, text: &[u8], begin: Position) -> Result<Po
     reader.finish(alloc)
 }
 
-/// The place after a text that begins at a place.
-pub fn place_behind(begin: Position, front: &[u8]) -> Position
+/// The position after a text that begins at a position.
+pub fn position_after(begin: Position, front: &[u8]) -> Position
     requires lines { begin.line + length front.now < 2 ^ 64 }
     requires columns { begin.column + length front.now < 2 ^ 64 }
-    ensures { result ≡ place_behind begin front.now }
+    ensures { result ≡ position_after begin front.now }
 {
-    let mut place = begin;
+    let mut position = begin;
     let mut rest = front;
     while let Some(at) = memchr(b'\n', rest) {
-        place = Position {
-            line: place.line + 1,
+        position = Position {
+            line: position.line + 1,
             column: 1,
         };
         rest = behind(rest, at + 1);
     }
     Position {
-        line: place.line,
-        column: place.column + rest.len() as u64,
+        line: position.line,
+        column: position.column + rest.len() as u64,
     }
 }

@@ -13,7 +13,7 @@ ghost use Rattle.netkat_parser.specs.declared.reading.Halt.TheVariants as halt;
 use crate::advance::{Pause, advance};
 use crate::fault::{ParseError, ParseFault, Position};
 use crate::feeding::PolicyReader;
-use crate::parse::place_behind;
+use crate::parse::position_after;
 use crate::reading::{Halt, Reading};
 use bytes::BytesMut;
 use nk_syntax::Pol;
@@ -29,7 +29,7 @@ impl PolicyReader {
         PolicyReader::starting(alloc, Position { line: 1, column: 1 })
     }
 
-    /// The same of a text that begins at a place of a larger one.
+    /// The same of a text that begins at a position of a larger one.
     pub fn starting(alloc: Global, begin: Position) -> PolicyReader
         ensures { StandsFor begin result [] }
     {
@@ -37,7 +37,7 @@ impl PolicyReader {
             reading: Reading::new(alloc),
             in_comment: false,
             pending: BytesMut::new(alloc),
-            place: begin,
+            position: begin,
             room: u64::MAX - begin.line.max(begin.column),
             look: 1,
             fault: None,
@@ -85,7 +85,7 @@ impl PolicyReader {
         }
         match self.settle(alloc, true) {
             Pause::Halt(Halt::Fault(fault)) => {
-                Err(ParseError::Fault(fault_at(fault, self.place)))
+                Err(ParseError::Fault(fault_at(fault, self.position)))
             }
             Pause::Halt(Halt::Done) => {
                 self.reading.reserve()?;
@@ -125,7 +125,7 @@ impl PolicyReader {
         }
         match self.settle(alloc, false) {
             Pause::Halt(Halt::Memory) => return Err(AllocError),
-            Pause::Halt(Halt::Fault(fault)) => self.fault = Some(fault_at(fault, self.place)),
+            Pause::Halt(Halt::Fault(fault)) => self.fault = Some(fault_at(fault, self.position)),
             Pause::Halt(Halt::Done) | Pause::Wait => {}
         }
         // So a long name or value that comes byte by byte is not gone through at each byte.
@@ -148,20 +148,20 @@ impl PolicyReader {
             self.pending.as_slice(),
             end,
         );
-        self.place = place_behind(self.place, &self.pending.as_slice()[..len]);
+        self.position = position_after(self.position, &self.pending.as_slice()[..len]);
         self.pending.advance(len);
         self.in_comment = comment;
         pause
     }
 }
 
-// The fault at a place.
-fn fault_at(fault: TextFault, place: Position) -> ParseFault
-    ensures { result ≡ record { fault = fault; line = place.line; column = place.column } }
+// The fault at a position.
+fn fault_at(fault: TextFault, position: Position) -> ParseFault
+    ensures { result ≡ record { fault = fault; line = position.line; column = position.column } }
 {
     ParseFault {
         fault,
-        line: place.line,
-        column: place.column,
+        line: position.line,
+        column: position.column,
     }
 }

@@ -9,7 +9,7 @@ ghost use Rattle.netkat_parser.specs.Cuts.{comment_behind, is_cut, IsSignAt, IsR
 use crate::run::run_len;
 use crate::sign::{Sign, first_sign, is_blank, is_run_byte, sign_len};
 
-/// The text from a place on.
+/// The text from a position on.
 pub fn behind(text: &[u8], at: usize) -> &[u8]
     requires { at ≤ length text.now }
     ensures { result.now ≡ drop at text.now }

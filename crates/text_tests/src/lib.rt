@@ -6,6 +6,8 @@
 #[cfg(test)]
 mod copies;
 #[cfg(test)]
+mod displays;
+#[cfg(test)]
 mod documents;
 #[cfg(test)]
 mod policies;

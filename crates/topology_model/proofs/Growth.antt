@@ -33,7 +33,7 @@ past (x ∷ xs) (suc i) h = past xs i (omega arith)
 all_of : {X : Type 0} (xs : List X) (i : ℕ) → length xs ≤ i → take i xs ≡ xs
 all_of xs i h = take_all i xs h
 
--- and behind the last line
+-- and after the last line
 pub fault_end : (lines : List TopoLine) (i : ℕ) → length lines ≤ i → fault_at lines i ≡ fault_from (layout_of lines) None
 fault_end lines i h = ap (fault_from (layout_of (take i lines))) (past lines i h) ∙ ap (λ (ls : List TopoLine). fault_from (layout_of ls) None) (all_of lines i h)
 
@@ -41,7 +41,7 @@ fault_end lines i h = ap (fault_from (layout_of (take i lines))) (past lines i h
 pub faultless : (lines : List TopoLine) (t : Layout) → t ≡ layout_of lines → ((k : ℕ) → k < length lines → fault_at lines k ≡ None) → fault_from t None ≡ None → IsFaultless lines
 faultless lines t d each last = λ k. ⊎_elim (each k) (λ h. fault_end lines k h ∙ ap (λ (x : Layout). fault_from x None) (sym d) ∙ last) (cases_lt k (length lines))
 
--- the causes at a line, and behind the last one
+-- the causes at a line, and after the last one
 pub line_cause : (lines : List TopoLine) (i : ℕ) (t : Layout) (l : TopoLine) (e : LineError) → slice_get lines i ≡ Some l → t ≡ layout_of (take i lines) →
     ((k : ℕ) → k < i → fault_at lines k ≡ None) → IsLineCause t l e → IsCause lines (at_place e i)
 line_cause lines i t l (line.Fault f) here d each h = record { here = fault_next lines i t l here d ∙ h; before = each }

@@ -46,7 +46,7 @@ joined (l ∷ ls) a b e = split (same_place l.0 a) refl e (joined ls a b)
     split true d k f = let s : l.0 ≡ a = place-same l.0 a d in let t : l.1 ≡ b = cc in inl (λ i. (s i, t i))
     split false d k f = inr (f k)
 
--- behind more links
+-- after more links
 pub far_end-append : (ls ms : List (Place × Place)) (a : Place) → far_end (ls ++ ms) a ≡ cond (is_some (far_end ls a)) (far_end ls a) (far_end ms a)
 far_end-append [] ms a = refl
 far_end-append (l ∷ ls) ms a = split (same_place l.0 a) (far_end-append ls ms a)

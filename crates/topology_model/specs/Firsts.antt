@@ -10,7 +10,7 @@ abbrev pub firsts_of : ℕ → List DeclaredSwitch → List ℕ
 firsts_of n [] = []
 firsts_of n (s ∷ ss) = n ∷ firsts_of (n + length s.ports) ss
 
--- the ports of the switch stand behind this many others, in declared order
+-- the ports of the switch stand after this many others, in declared order
 pub record HasPortsBehind (t : Layout) (s : DeclaredSwitch) (n : ℕ) : Type 0 where
   pub front : List Place
   pub back : List Place

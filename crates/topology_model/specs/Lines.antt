@@ -45,7 +45,7 @@ abbrev pub has_repeat : List ℕ → Bool
 has_repeat [] = false
 has_repeat (n ∷ ns) = list_any (λ m. m == n) ns || has_repeat ns
 
--- The fault of a line behind those that declared this much; where it has several, the first of them in this order.
+-- The fault of a line after those that declared this much; where it has several, the first of them in this order.
 abbrev pub line_fault : Layout → TopoLine → Option TextFault
 line_fault t (Switch sw ports) =
     if has_switch t.switches sw then Some DupSwitch
@@ -59,7 +59,7 @@ line_fault t (Link a b) =
     PortUsedTwice
     else None))
 
--- the fault at a place of the list: that of its line, and behind the last line that there is no edge port
+-- the fault at a place of the list: that of its line, and after the last line that there is no edge port
 abbrev pub fault_from : Layout → Option TopoLine → Option TextFault
 fault_from t (Some l) = line_fault t l
 fault_from t None = no_edge (edges_of t)

@@ -12,13 +12,13 @@ use super::whole_len;
 use crate::doc_reader::{DocReader, Spot};
 use crate::fault::DocFault;
 use crate::words::{is_end_line, is_no_end};
-use netkat_parser::{ParseError, ParseFault, PolicyReader, Position, place_behind};
+use netkat_parser::{ParseError, ParseFault, PolicyReader, Position, position_after};
 use nk_syntax::Pol;
 use std::alloc::{AllocError, Global};
 
 impl DocReader {
     // A policy's text begins on this line.
-    pub(super) fn open(&mut self, alloc: Global)
+    pub(super) fn open_policy(&mut self, alloc: Global)
         ensures spot { self.new.spot ≡ spot.Text self.old.line }
         ensures policy { StandsFor (line_start self.old.line) self.new.policy [] }
         ensures behind { self.new.behind ≡ line_start self.old.line }
@@ -95,7 +95,7 @@ impl DocReader {
     {
         let text = &self.pending.as_slice()[..len];
         self.policy.feed(alloc, text)?;
-        self.behind = place_behind(self.behind, text);
+        self.behind = position_after(self.behind, text);
         self.pending.advance(len);
         Ok(())
     }

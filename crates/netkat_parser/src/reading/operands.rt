@@ -26,7 +26,7 @@ impl Reading {
         ensures { Moves (view_of self.old) sign (view_of self.new) result }
     {
         match sign {
-            Sign::Open => self.open(alloc),
+            Sign::Open => self.open_bracket(alloc),
             Sign::Not => self.negate(),
             Sign::Dup => self.dup(),
             Sign::Skip => {
@@ -58,7 +58,7 @@ impl Reading {
     }
 
     // Opens a bracket.
-    pub(super) fn open(&mut self, alloc: Global) -> Result<bool, Halt>
+    pub(super) fn open_bracket(&mut self, alloc: Global) -> Result<bool, Halt>
         requires { self.old.stage ≡ stage.Operand }
         ensures { Moves (view_of self.old) to_sign.Open (view_of self.new) result }
     {

@@ -6,8 +6,8 @@ use Rattle.document_text.proofs.doc_reader.DocReader.give.Goals as goal
 pub invariant_of-self-2 : goal.invariant_of-self-2
 invariant_of-self-2 c =
     let old = c.args.self.now in
-    let h = given-place old.behind c.place_behind-self.result old.pending.items c.advance.new.self.items c.args.len old.fed c.requires
-    (rw c.as_slice.ensures at c.place_behind-self.ensures) c.advance.ensures.items old.place_lines old.place_columns in
+    let h = given-place old.behind c.position_after-self.result old.pending.items c.advance.new.self.items c.args.len old.fed c.requires
+    (rw c.as_slice.ensures at c.position_after-self.ensures) c.advance.ensures.items old.place_lines old.place_columns in
     let shorter = ap length c.advance.ensures.items ∙ length-drop c.args.len old.pending.items in
     record {
       few = old.few;
@@ -25,6 +25,6 @@ returns-clause-ok c =
     record {
       pending = c.advance.ensures.items;
       stands = λ begin front h.
-          gives-on begin old.policy c.feed.new.self old.behind c.place_behind-self.result front line
-          (rw c.as_slice.ensures at (c.in_ok-feed.ensures.ok (line_start begin) front)) (rw c.as_slice.ensures at c.place_behind-self.ensures) h;
+          gives-on begin old.policy c.feed.new.self old.behind c.position_after-self.result front line
+          (rw c.as_slice.ensures at (c.in_ok-feed.ensures.ok (line_start begin) front)) (rw c.as_slice.ensures at c.position_after-self.ensures) h;
     }

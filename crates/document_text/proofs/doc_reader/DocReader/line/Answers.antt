@@ -23,12 +23,12 @@ returns-in-Opening-clause-reaches c =
     let old = c.args.self.now in
     let first = rw c.as_slice.ensures at c.in-Some.ensures.some in
     let k = c.in-Ok.ensures.keeps in
-    let l = c.open.ensures.keeps in
+    let l = c.open_policy.ensures.keeps in
     let taken = c.in-Ok.ensures.takes in
-    opening-reaches c.args.end old c.open.new.self (l.fed ∙ k.fed) (l.row ∙ k.row) c.in-Some.len first.0 first.1 first.2
+    opening-reaches c.args.end old c.open_policy.new.self (l.fed ∙ k.fed) (l.row ∙ k.row) c.in-Some.len first.0 first.1 first.2
     (ap (λ b. b.items) l.pending ∙ c.advance-2.ensures.items ∙ ap (λ b. drop c.in-Some.len b.items) k.pending) c.requires
-    (c.open.ensures.spot ∙ ap (λ n. spot.Text (n + 1)) k.line) (l.line ∙ ap (λ n. n + 1) k.line)
-    (subst (λ n. StandsFor (line_start (n + 1)) c.open.new.self.policy []) k.line c.open.ensures.policy) (c.open.ensures.behind ∙ ap (λ n. line_start (n + 1)) k.line)
+    (c.open_policy.ensures.spot ∙ ap (λ n. spot.Text (n + 1)) k.line) (l.line ∙ ap (λ n. n + 1) k.line)
+    (subst (λ n. StandsFor (line_start (n + 1)) c.open_policy.new.self.policy []) k.line c.open_policy.ensures.policy) (c.open_policy.ensures.behind ∙ ap (λ n. line_start (n + 1)) k.line)
     (subst (λ r. IsOpening (step (state_of old.reader) old.line (words_of (take c.in-Some.len old.pending.items))) (state_of r)) (sym l.reader)
     (subst (λ x. TakesLine (step (state_of old.reader) old.line (words_of (take c.in-Some.len old.pending.items))) (state_of old.reader) (state_of c.take.new.self.reader) (Ok x)) c.in-Opening.is taken))
 

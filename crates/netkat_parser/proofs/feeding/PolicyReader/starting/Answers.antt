@@ -7,7 +7,7 @@ pub returns : goal.returns
 returns c = record {
   front = [];
   parts = sym c.new-2.ensures.items;
-  place = refl;
+  position = refl;
   reach = first_reach;
   shows = c.new.ensures.shows;
   goes = λ rest o e h. first-goes rest o (rw (c.new-2.ensures.items, c.new.ensures.named) at h);

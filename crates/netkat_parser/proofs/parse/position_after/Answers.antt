@@ -1,7 +1,7 @@
 use Rattle.std.proofs.Common.{◌+◌, ap, ◌∙◌, length, length-drop, arith}
-use Rattle.netkat_parser.specs.Places.{place_behind}
+use Rattle.netkat_parser.specs.Places.{position_after}
 use Rattle.netkat_parser.proofs.Lines.{past-line, past-none}
-use Rattle.netkat_parser.proofs.parse.place_behind.Goals as goal
+use Rattle.netkat_parser.proofs.parse.position_after.Goals as goal
 
 pub loop-at-preserved : goal.loop-at-preserved
 loop-at-preserved c =
@@ -11,10 +11,10 @@ loop-at-preserved c =
     let within = found.0.high in
     let left = ap length c.behind-rest.ensures ∙ length-drop (at + 1) rest in
     record {
-      place = ap (place_behind _) c.behind-rest.ensures ∙ past-line c.loop-at.place rest at found ∙ c.loop-at.invariant.place;
+      position = ap (position_after _) c.behind-rest.ensures ∙ past-line c.loop-at.position rest at found ∙ c.loop-at.invariant.position;
       line = omega (arith, c.loop-at.invariant.line, left, within);
       column = omega (arith, c.loop-at.invariant.column, left, within);
     }
 
 pub returns : goal.returns
-returns c = past-none c.loop-at.place c.loop-at.rest.now (rw c.in_default.is at c.memchr.ensures) ∙ c.loop-at.invariant.place
+returns c = past-none c.loop-at.position c.loop-at.rest.now (rw c.in_default.is at c.memchr.ensures) ∙ c.loop-at.invariant.position

@@ -2,7 +2,7 @@ use Rattle.std.proofs.Common.{inl, refl, arith, ◌≤◌, length}
 use Rattle.netkat_parser.proofs.Moving.{takes-open, stops-deep, stray-open, levels-put}
 use Rattle.netkat_parser.specs.declared.sign.Sign.TheVariants as to_sign
 use Rattle.netkat_parser.specs.Views.{view_of}
-use Rattle.netkat_parser.proofs.reading.Reading.open.Goals as goal
+use Rattle.netkat_parser.proofs.reading.Reading.open_bracket.Goals as goal
 
 pub returns-then-depth-ge-MOST_OPEN : goal.returns-then-depth-ge-MOST_OPEN
 returns-then-depth-ge-MOST_OPEN c =

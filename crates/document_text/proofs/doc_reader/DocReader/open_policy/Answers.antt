@@ -1,6 +1,6 @@
 use Rattle.std.proofs.Common.{ap, arith}
 use Rattle.netkat_parser.specs.declared.fault.Position.{Position}
-use Rattle.document_text.proofs.doc_reader.DocReader.open.Goals as goal
+use Rattle.document_text.proofs.doc_reader.DocReader.open_policy.Goals as goal
 
 pub invariant_of-self : goal.invariant_of-self
 invariant_of-self c =
