@@ -82,7 +82,7 @@ fn a_diagram_answers(rt: HostRuntime) -> Result<(), Fail> {
     assert_eq!(rt; root.leaf_of(&packet(1, 9)).copies().len(), 2);
     assert_eq!(rt; root.leaf_of(&packet(2, 9)).copies().len(), 0);
     let again = root.copy(rt.alloc())?;
-    assert!(rt; parting(&Cell::open(), &root, &again).is_none());
+    assert!(rt; parting(&Cell::whole(), &root, &again).is_none());
     Ok(())
 }
 
@@ -105,7 +105,7 @@ fn a_path_tells_its_cell(rt: HostRuntime) -> Result<(), Fail> {
     path.push_false(&lit(Field::IpProto, 6)?)?;
     assert_eq!(rt; path.cell().get(Field::EthDst), Some(9));
     assert!(rt; path.has(&packet(1, 9)));
-    assert!(rt; path.pop_true().is_some() && path.cell().is_open(Field::EthDst));
+    assert!(rt; path.pop_true().is_some() && path.cell().is_unset(Field::EthDst));
     assert_eq!(rt; path.cell().get(Field::Pt), Some(1));
     Ok(())
 }

@@ -9,7 +9,7 @@ use Rattle.nk_values.specs.Members.{IsIn, Within}
 use Rattle.nk_values.specs.Packets.{get, IsWellShaped}
 use Rattle.nk_values.specs.Ranges.{IsValue}
 use Rattle.nk_values.proofs.LitLaws.{lit_is_value}
-use Rattle.fdd_nodes.specs.Cells.{Agrees, open_cell, fill}
+use Rattle.fdd_nodes.specs.Cells.{Agrees, whole_cell, fill}
 use Rattle.fdd_nodes.specs.Makes.{MakesAll}
 use Rattle.fdd_nodes.specs.Trees.{Tree, answers, leaf_at, SameAnswers, Tests}
 use Rattle.fdd_nodes.proofs.MakesLaws.{makes_there}
@@ -58,7 +58,7 @@ alike_both a b h i = record { same = λ p s. by p s } where
 agrees_fill : (q g : Packet) → Agrees q (fill q g)
 agrees_fill q g = record { at = λ f n. fill_fixed q g f n }
 
-module _ (k : Frame) (ls : List Lit) (a b x y : Tree) (q g : Packet) (na : AreNamesOf ls a) (nb : AreNamesOf ls b) (rx : Restricts k a x) (ry : Restricts k b y) (h : CellApart open_cell x y q) (fresh : IsFreshOf ls g) where
+module _ (k : Frame) (ls : List Lit) (a b x y : Tree) (q g : Packet) (na : AreNamesOf ls a) (nb : AreNamesOf ls b) (rx : Restricts k a x) (ry : Restricts k b y) (h : CellApart whole_cell x y q) (fresh : IsFreshOf ls g) where
   abbrev pub packet : Packet
   packet = fill q (fill (frame_cell k) g)
 
@@ -114,7 +114,7 @@ module _ (k : Frame) (ls : List Lit) (a b x y : Tree) (q g : Packet) (na : AreNa
       let left = λ (f : Field). (good f).0 in
       h.differs packet (agrees_fill q (fill (frame_cell k) g)) named_held (same_trans _ _ _ (rx.same packet left) (same_trans _ _ _ s (same_sym _ _ (ry.same packet left))))
 
-pub told_apart : (k : Frame) (ls : List Lit) (a b x y : Tree) (q p : Packet) (o : Option Apart) → AreNamesOf ls a → AreNamesOf ls b → Restricts k a x → Restricts k b y → CellApart open_cell x y q → IsPacketOf q k ls p
+pub told_apart : (k : Frame) (ls : List Lit) (a b x y : Tree) (q p : Packet) (o : Option Apart) → AreNamesOf ls a → AreNamesOf ls b → Restricts k a x → Restricts k b y → CellApart whole_cell x y q → IsPacketOf q k ls p
     → MatchOption o (SameAnswers (answers a p) (answers b p)) (IsApartOn a b p) → MatchOption o (AreAlikeOf k a b) (IsApart a b)
 told_apart k ls a b x y q p None na nb rx ry h i t =
     absurd (packet_differs k ls a b x y q i.other na nb rx ry h i.fresh (subst (λ (r : Packet). SameAnswers (answers a r) (answers b r)) i.is t))

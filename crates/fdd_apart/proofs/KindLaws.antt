@@ -11,7 +11,7 @@ use Rattle.nk_values.specs.Lits.{lit_field, lit_value}
 use Rattle.nk_values.specs.Members.{IsIn}
 use Rattle.nk_values.specs.Packets.{get}
 use Rattle.nk_values.specs.Ranges.{IsValue, place}
-use Rattle.fdd_nodes.specs.Cells.{IsOpen}
+use Rattle.fdd_nodes.specs.Cells.{IsUnset}
 use Rattle.fdd_nodes.specs.Known.{Bars}
 use Rattle.fdd_nodes.specs.Names.{IsFew, literals}
 use Rattle.fdd_nodes.specs.Trees.{Tree, Leaf, Node, Tests}
@@ -45,7 +45,7 @@ protocol_value : (n : ℕ) → n ≤ 255 → IsValue IpProto n
 protocol_value n h = record { low = omega arith; high = h; no_tag = λ e. absurd (let a : place IpProto ≡ place EthTyp = ap place e in omega (arith, a)) }
 
 -- what a kind fixes it leaves, and it is in range
-pub fixed_left : (k : Frame) (f : Field) → ¬ IsOpen (frame_cell k) f → Leaves k f (get (frame_cell k) f) × IsValue f (get (frame_cell k) f)
+pub fixed_left : (k : Frame) (f : Field) → ¬ IsUnset (frame_cell k) f → Leaves k f (get (frame_cell k) f) × IsValue f (get (frame_cell k) f)
 fixed_left NoIp f n = absurd (n (get-open f))
 fixed_left OtherIp EthTyp n = (refl, ip_value)
 fixed_left Tcp EthTyp n = (refl, ip_value)
@@ -55,7 +55,7 @@ fixed_left Udp IpProto n = (refl, protocol_value 17 (omega arith))
 fixed_left k f n = absurd (n refl)
 
 -- a packet of unnamed values holds what the kind leaves to the other fields
-pub unnamed_left : (k : Frame) (f : Field) (ls : List Lit) (g : Packet) → IsFreshOf ls g → IsOpen (frame_cell k) f → Leaves k f (get g f)
+pub unnamed_left : (k : Frame) (f : Field) (ls : List Lit) (g : Packet) → IsFreshOf ls g → IsUnset (frame_cell k) f → Leaves k f (get g f)
 unnamed_left NoIp f ls g h o = left_by_kind NoIp g h.no_ip h.shaped f
 unnamed_left OtherIp EthTyp ls g h o = absurd (omega (arith, o))
 unnamed_left Tcp EthTyp ls g h o = absurd (omega (arith, o))
@@ -127,7 +127,7 @@ restricts_barred k l t e a x is b r = restricts_else k l t e a x is (λ p h. kin
 pub restricts_excluded : (k : Frame) (l : Lit) (t e a x : Tree) → a ≡ Node l t e → ¬ Leaves k (lit_field l) (lit_value l) → Restricts k e x → Restricts k a x
 restricts_excluded k l t e a x is n r = restricts_else k l t e a x is (λ p h. kind_excludes k p l h n) r
 
-pub restricts_test : (k : Frame) (l : Lit) (t e a x y r : Tree) → a ≡ Node l t e → IsOpen (frame_cell k) (lit_field l) → Leaves k (lit_field l) (lit_value l)
+pub restricts_test : (k : Frame) (l : Lit) (t e a x y r : Tree) → a ≡ Node l t e → IsUnset (frame_cell k) (lit_field l) → Leaves k (lit_field l) (lit_value l)
     → Restricts k t x → Restricts k e y → ChoiceOf l x y r → Restricts k a r
 restricts_test k l t e a x y r is o v rx ry c =
     let of : (P : Lit → Type 0) → P l → ((m : Lit) → Tests x m → P m) → ((m : Lit) → Tests y m → P m) → (m : Lit) → Tests r m → P m
@@ -139,7 +139,7 @@ restricts_test k l t e a x y r is o v rx ry c =
       ];
       tests = of (Tests (Node l t e)) (inl refl) (λ m u. inr (inl (rx.tests m u))) (λ m u. inr (inr (ry.tests m u)));
       assigns = λ m w. elim (c.assigns m w) [ inl u ↦ inl (rx.assigns m u) | inr u ↦ inr (ry.assigns m u) ];
-      untold = of (λ m. IsOpen (frame_cell k) (lit_field m)) o rx.untold ry.untold;
+      untold = of (λ m. IsUnset (frame_cell k) (lit_field m)) o rx.untold ry.untold;
       left = of (λ m. Leaves k (lit_field m) (lit_value m)) v rx.left ry.left;
       clean = λ m w. elim (c.assigns m w) [ inl u ↦ rx.clean m u | inr u ↦ ry.clean m u ];
     })

@@ -13,7 +13,7 @@ use Rattle.nk_values.specs.Ranges.{place}
 use Rattle.nk_values.specs.Ranks.{rank}
 use Rattle.nk_values.proofs.LitLaws.{same_lit, same_rank}
 use Rattle.nk_values.proofs.PacketLaws.{get-with_same, get-with_other, field_cases}
-use Rattle.fdd_nodes.specs.Cells.{free, open_cell, IsOpen}
+use Rattle.fdd_nodes.specs.Cells.{unset, whole_cell, IsUnset}
 use Rattle.fdd_nodes.specs.Names.{literals}
 use Rattle.fdd_nodes.specs.Roots.{IsLeaf, HasRoot, IsFirst, IsFrom}
 use Rattle.fdd_nodes.specs.Trees.{Tree, Leaf, Node, answers, SameAnswers, IsSetBy, Tests, Assigns}
@@ -21,7 +21,7 @@ use Rattle.fdd_nodes.proofs.CellLaws.{holds_fixed, lit_not_free, get-open}
 use Rattle.fdd_nodes.proofs.NameLaws.{tests_literal, assigns_literal}
 use Rattle.fdd_nodes.proofs.SplitLaws.{first_tested, sizes_fall}
 use Rattle.fdd_apart.specs.Walks.{NamesLit, IsReady, IsFixedBy, StartsAt, CellApart}
-use Rattle.fdd_store.specs.Made.{IsMade, IsProper, IsBeyond, IsLater, IsNotBefore}
+use Rattle.fdd_store.specs.Canonical.{IsCanonical, IsProper, IsBeyond, IsLater, IsNotBefore}
 use Rattle.fdd_store.specs.Results.{Rests, Cuts}
 use Rattle.fdd_store.specs.Stores.{Kept, Has, Gives, tree_at}
 use Rattle.fdd_store.proofs.CopyLaws.{one_of_leaves}
@@ -38,7 +38,7 @@ use Rattle.fdd_store.proofs.UniteLaws.{rests_itself}
 abbrev pub IsNew : List (List Lit) → Packet → Type 0
 IsNew cs p = (m : Lit) → IsSetBy cs m → ¬ Holds p m
 
-ignores : (cs : List (List Lit)) (p : Packet) (f : Field) → IsNew cs p → Ignores (Leaf cs) f (get p f) free
+ignores : (cs : List (List Lit)) (p : Packet) (f : Field) → IsNew cs p → Ignores (Leaf cs) f (get p f) unset
 ignores cs p f new = record {
   tests = λ m k e. absurd k;
   assigns = λ m k e v. new m k (ap (λ (g : Field). get p g) e ∙ sym v);
@@ -46,31 +46,31 @@ ignores cs p f new = record {
 
 -- one field more holds no number
 clear : (cs ds : List (List Lit)) (p r : Packet) (f : Field) → IsNew cs p → IsNew ds p → get r f ≡ get p f
-    → SameAnswers (answers (Leaf cs) r) (answers (Leaf ds) r) → SameAnswers (answers (Leaf cs) (with_value r f free)) (answers (Leaf ds) (with_value r f free))
+    → SameAnswers (answers (Leaf cs) r) (answers (Leaf ds) r) → SameAnswers (answers (Leaf cs) (with_value r f unset)) (answers (Leaf ds) (with_value r f unset))
 clear cs ds p r f a b e s =
-    moved (Leaf cs) (Leaf ds) f (get p f) free r (with_value r f free) (ignores cs p f a) (ignores ds p f b) e (get-with_same r f free)
-    (λ g d. sym (get-with_other r f g free d)) s
+    moved (Leaf cs) (Leaf ds) f (get p f) unset r (with_value r f unset) (ignores cs p f a) (ignores ds p f b) e (get-with_same r f unset)
+    (λ g d. sym (get-with_other r f g unset d)) s
 
 all-clear : (cs ds : List (List Lit)) (p : Packet) → IsNew cs p → IsNew ds p → SameAnswers (answers (Leaf cs) p) (answers (Leaf ds) p)
-    → SameAnswers (answers (Leaf cs) open_cell) (answers (Leaf ds) open_cell)
+    → SameAnswers (answers (Leaf cs) whole_cell) (answers (Leaf ds) whole_cell)
 all-clear cs ds p a b s =
-    let p1 = with_value p Sw free in
+    let p1 = with_value p Sw unset in
     let s1 = clear cs ds p p Sw a b refl s in
-    let p2 = with_value p1 Pt free in
+    let p2 = with_value p1 Pt unset in
     let s2 = clear cs ds p p1 Pt a b refl s1 in
-    let p3 = with_value p2 EthTyp free in
+    let p3 = with_value p2 EthTyp unset in
     let s3 = clear cs ds p p2 EthTyp a b refl s2 in
-    let p4 = with_value p3 IpProto free in
+    let p4 = with_value p3 IpProto unset in
     let s4 = clear cs ds p p3 IpProto a b refl s3 in
-    let p5 = with_value p4 EthSrc free in
+    let p5 = with_value p4 EthSrc unset in
     let s5 = clear cs ds p p4 EthSrc a b refl s4 in
-    let p6 = with_value p5 EthDst free in
+    let p6 = with_value p5 EthDst unset in
     let s6 = clear cs ds p p5 EthDst a b refl s5 in
-    let p7 = with_value p6 Ip4Src free in
+    let p7 = with_value p6 Ip4Src unset in
     let s7 = clear cs ds p p6 Ip4Src a b refl s6 in
-    let p8 = with_value p7 Ip4Dst free in
+    let p8 = with_value p7 Ip4Dst unset in
     let s8 = clear cs ds p p7 Ip4Dst a b refl s7 in
-    let p9 = with_value p8 TcpSrcPort free in
+    let p9 = with_value p8 TcpSrcPort unset in
     let s9 = clear cs ds p p8 TcpSrcPort a b refl s8 in
     clear cs ds p p9 TcpDstPort a b refl s9
 
@@ -85,7 +85,7 @@ alike-at x y z w p a b e =
     same_trans _ _ _ (same_sym _ _ a) (subst (λ (t : Tree). SameAnswers (answers t p) (answers y p)) (sym e) b)
 
 -- Where the parts without l are one, and those with l too, the diagrams are. So of two diagrams one of the parts differs.
-pub no-step-back : (l : Lit) (x y u v g h : Tree) → IsMade x → IsMade y → Rests l x u → Rests l y v → Cuts l x g → Cuts l y h → u ≡ v → g ≡ h → x ≡ y
+pub no-step-back : (l : Lit) (x y u v g h : Tree) → IsCanonical x → IsCanonical y → Rests l x u → Rests l y v → Cuts l x g → Cuts l y h → u ≡ v → g ≡ h → x ≡ y
 no-step-back l x y u v g h mx my ex ey gx gy e k =
     one_diagram x y mx my (record {
       at = λ p. elim (eqb_tells (get p (lit_field l)) (lit_value l)) [
@@ -97,30 +97,30 @@ no-step-back l x y u v g h mx my ex ey gx gy e k =
 -- ---- the parts of a test
 
 -- a diagram from a test on that begins with another, or with none, tests only later literals
-rooted_after : (l m : Lit) (t e : Tree) → IsMade (Node m t e) → rank l ≤ rank m → ¬ (m ≡ l) → IsLater l (Node m t e)
+rooted_after : (l m : Lit) (t e : Tree) → IsCanonical (Node m t e) → rank l ≤ rank m → ¬ (m ≡ l) → IsLater l (Node m t e)
 rooted_after l m t e h k n = λ j w.
     let a = tests_from (Node m t e) (rank m) j (omega arith, h.ordered.1, h.ordered.2) w in
     let b : ¬ (rank l ≡ rank m) = λ z. n (sym (same_rank l m z)) in
     omega (arith, a, b, k)
 
-pub else_there : (l m : Lit) (t e x : Tree) → x ≡ Node m t e → IsMade x → m ≡ l → Rests l x e
+pub else_there : (l m : Lit) (t e x : Tree) → x ≡ Node m t e → IsCanonical x → m ≡ l → Rests l x e
 else_there l m t e x is made same =
     subst (λ (y : Tree). Rests l y e) (sym is) (subst (λ (k : Lit). Rests k (Node m t e) e) same (record {
       same = λ p n. node_else_as m t e p n;
       tests = λ j w. inr (inr w);
       assigns = λ j w. inr w;
-      later = else_later m t e (subst IsMade is made);
+      later = else_later m t e (subst IsCanonical is made);
     }))
 
 pub else_leaf : (l : Lit) (x : Tree) → IsLeaf x → Rests l x x
 else_leaf l (Leaf cs) h = rests_itself l (Leaf cs) (λ j w. absurd w)
 else_leaf l (Node m t e) h = absurd h
 
-pub else_same_root : (l m : Lit) (t e x : Tree) → x ≡ Node m t e → IsMade x → IsFrom l x → ¬ (m ≡ l) → Rests l x x
+pub else_same_root : (l m : Lit) (t e x : Tree) → x ≡ Node m t e → IsCanonical x → IsFrom l x → ¬ (m ≡ l) → Rests l x x
 else_same_root l m t e x is made from n =
-    subst (λ (y : Tree). Rests l y y) (sym is) (rests_itself l (Node m t e) (rooted_after l m t e (subst IsMade is made) (subst (IsFrom l) is from) n))
+    subst (λ (y : Tree). Rests l y y) (sym is) (rests_itself l (Node m t e) (rooted_after l m t e (subst IsCanonical is made) (subst (IsFrom l) is from) n))
 
-pub tests_at : (l : Lit) (x : Tree) → IsMade x → IsFrom l x → IsNotBefore l x
+pub tests_at : (l : Lit) (x : Tree) → IsCanonical x → IsFrom l x → IsNotBefore l x
 tests_at l (Leaf cs) h f = λ j w. absurd w
 tests_at l (Node m t e) h f = λ j w. let a = tests_from (Node m t e) (rank m) j (omega arith, h.ordered.1, h.ordered.2) w in omega (arith, a, f)
 
@@ -134,7 +134,7 @@ first_named l x y f = elim (first_tested l x y f) [ inl k ↦ inl (inl k) | inr 
 
 -- ---- how far a walk is from its end
 
-level_within : (x u : Tree) → IsMade x → ((m : Lit) → Tests u m → Tests x m) → level u ≤ level x
+level_within : (x u : Tree) → IsCanonical x → ((m : Lit) → Tests u m → Tests x m) → level u ≤ level x
 level_within x (Leaf cs) h f = omega arith
 level_within (Leaf cs) (Node m t e) h f = absurd (f m (inl refl))
 level_within (Node l a b) (Node m t e) h f =
@@ -144,7 +144,7 @@ level_below : (l : Lit) (x u : Tree) → HasRoot l x → IsLater l u → level u
 level_below l (Leaf cs) u h f = absurd h
 level_below l (Node m t e) u h f = let a = level_later l u f in let b : depth m ≡ depth l = ap depth h in omega (arith, a, b)
 
-pub nearer : (l : Lit) (x y u v : Tree) → IsMade x → IsMade y → IsFirst l x y → ((m : Lit) → Tests u m → Tests x m) → ((m : Lit) → Tests v m → Tests y m) → IsLater l u → IsLater l v → level u + level v < level x + level y
+pub nearer : (l : Lit) (x y u v : Tree) → IsCanonical x → IsCanonical y → IsFirst l x y → ((m : Lit) → Tests u m → Tests x m) → ((m : Lit) → Tests v m → Tests y m) → IsLater l u → IsLater l v → level u + level v < level x + level y
 nearer l x y u v mx my f tu tv lu lv =
     sizes_fall (level x) (level y) (level u) (level v) (HasRoot l x) (HasRoot l y) f.one (level_within x u mx tu) (level_within y v my tv)
     (λ h. level_below l x u h lu) (λ h. level_below l y v h lv)
@@ -166,7 +166,7 @@ names_else l x u h = names_within x u h.tests h.assigns
 pub names_then : (l : Lit) (x g : Tree) → Cuts l x g → (m : Lit) → NamesLit g m → NamesLit x m
 names_then l x g h = names_within x g h.tests h.assigns
 
-pub ready_open : (x : Tree) → IsReady open_cell x
+pub ready_open : (x : Tree) → IsReady whole_cell x
 ready_open x = record { untold = λ m k. get-open (lit_field m); clean = λ m k h. lit_not_free m (sym h ∙ get-open (lit_field m)) }
 
 pub ready_else : (c : Packet) (l : Lit) (x u : Tree) → Rests l x u → IsReady c x → IsReady c u
@@ -190,7 +190,7 @@ ready_then c l x g h r = record {
   ];
 }
 
-untold_first : (c : Packet) (l : Lit) (x y : Tree) → IsFirst l x y → IsReady c x → IsReady c y → IsOpen c (lit_field l)
+untold_first : (c : Packet) (l : Lit) (x y : Tree) → IsFirst l x y → IsReady c x → IsReady c y → IsUnset c (lit_field l)
 untold_first c l x y f rx ry = elim (first_tested l x y f) [ inl k ↦ rx.untold l k | inr k ↦ ry.untold l k ]
 
 starts_first : (k : ℕ) (l : Lit) (x y : Tree) → IsFirst l x y → StartsAt k x → StartsAt k y → k ≤ rank l
@@ -206,7 +206,7 @@ fixed_within q x y u v f a b h = record {
 
 -- ---- the cell that is found
 
-pub apart_leaf : (c : Packet) (x y : Tree) → IsLeaf x → IsLeaf y → IsMade x → IsMade y → x ≢ y → IsReady c x → IsReady c y → CellApart c x y c
+pub apart_leaf : (c : Packet) (x y : Tree) → IsLeaf x → IsLeaf y → IsCanonical x → IsCanonical y → x ≢ y → IsReady c x → IsReady c y → CellApart c x y c
 apart_leaf c (Leaf cs) (Leaf ds) hx hy mx my n rx ry = record {
   keeps = λ f w. refl;
   fixed = λ f w. inl w;
@@ -236,9 +236,9 @@ pub apart_then : (c : Packet) (l : Lit) (x y g h : Tree) (q : Packet) → IsFirs
 apart_then c l x y g h q f rx ry gx gy i =
     let wide = either_within x y g h (names_then l x g gx) (names_then l y h gy) in
     let here = get-with_same c (lit_field l) (lit_value l) in
-    let told : ¬ IsOpen (put l c) (lit_field l) = holds_fixed (put l c) l here in
+    let told : ¬ IsUnset (put l c) (lit_field l) = holds_fixed (put l c) l here in
     let has : Holds q l = i.keeps (lit_field l) told ∙ here in
-    let other : (j : Field) → ¬ IsOpen c j → lit_field l ≢ j = λ j n e. n (ap (get c) (sym e) ∙ untold_first c l x y f rx ry) in
+    let other : (j : Field) → ¬ IsUnset c j → lit_field l ≢ j = λ j n e. n (ap (get c) (sym e) ∙ untold_first c l x y f rx ry) in
     record {
       keeps = λ j n. let e = get-with_other c (lit_field l) j (lit_value l) (other j n) in i.keeps j (λ z. n (sym e ∙ z)) ∙ e;
       fixed = λ j w. elim (field_cases (lit_field l) j) [
@@ -261,5 +261,5 @@ apart_then c l x y g h q f rx ry gx gy i =
 
 -- ---- places of a store
 
-pub gives_at : (k : Kept) (i j : ℕ) (P : Tree → Type 0) → j ≡ i → Has k i → IsMade (tree_at k i) → P (tree_at k i) → Gives k j P
+pub gives_at : (k : Kept) (i j : ℕ) (P : Tree → Type 0) → j ≡ i → Has k i → IsCanonical (tree_at k i) → P (tree_at k i) → Gives k j P
 gives_at k i j P e has made is = subst (λ (n : ℕ). Gives k n P) (sym e) (record { has = has; made = made; is = is })

@@ -6,7 +6,7 @@ use Rattle.nk_values.specs.declared.lit.Lit.{Lit}
 use Rattle.nk_values.specs.Held.{Holds}
 use Rattle.nk_values.specs.Lits.{lit_field, lit_value}
 use Rattle.nk_values.specs.Packets.{get}
-use Rattle.fdd_nodes.specs.Cells.{IsOpen}
+use Rattle.fdd_nodes.specs.Cells.{IsUnset}
 use Rattle.fdd_nodes.specs.Trees.{Tree, answers, SameAnswers, Tests, Assigns}
 use Rattle.fdd_differ.specs.declared.frame.Frame.{Frame}
 use Rattle.fdd_differ.specs.Frames.{frame_cell, Leaves}
@@ -23,7 +23,7 @@ pub record Restricts (k : Frame) (a x : Tree) : Type 0 where
   pub same : (p : Packet) → FitsFrame k p → SameAnswers (answers x p) (answers a p)
   pub tests : (m : Lit) → Tests x m → Tests a m
   pub assigns : (m : Lit) → Assigns x m → Assigns a m
-  pub untold : (m : Lit) → Tests x m → IsOpen (frame_cell k) (lit_field m)
+  pub untold : (m : Lit) → Tests x m → IsUnset (frame_cell k) (lit_field m)
   pub left : (m : Lit) → Tests x m → Leaves k (lit_field m) (lit_value m)
   pub clean : (m : Lit) → Assigns x m → ¬ Holds (frame_cell k) m
 

@@ -7,7 +7,7 @@ use Rattle.nk_values.specs.Held.{Holds}
 use Rattle.nk_values.specs.Lits.{lit_field}
 use Rattle.nk_values.specs.Packets.{get}
 use Rattle.nk_values.specs.Ranks.{rank}
-use Rattle.fdd_nodes.specs.Cells.{IsOpen, Agrees}
+use Rattle.fdd_nodes.specs.Cells.{IsUnset, Agrees}
 use Rattle.fdd_nodes.specs.Trees.{Tree, answers, SameAnswers, Tests, Assigns}
 
 -- the diagram tests or assigns the literal
@@ -16,7 +16,7 @@ NamesLit t m = Tests t m ⊎ Assigns t m
 
 -- the cell leaves open what the diagram tests, and holds nothing that it assigns
 pub record IsReady (c : Packet) (t : Tree) : Type 0 where
-  pub untold : (m : Lit) → Tests t m → IsOpen c (lit_field m)
+  pub untold : (m : Lit) → Tests t m → IsUnset c (lit_field m)
   pub clean : (m : Lit) → Assigns t m → ¬ Holds c m
 
 -- what the cell q fixes at the field is a literal that one of the diagrams tests
@@ -32,8 +32,8 @@ StartsAt k t = (m : Lit) → Tests t m → k ≤ rank m
 -- Within the cell c, q is a cell in which the diagrams answer apart: each packet of q that holds nothing else which
 -- they name.
 pub record CellApart (c : Packet) (x y : Tree) (q : Packet) : Type 0 where
-  pub keeps : (f : Field) → ¬ IsOpen c f → get q f ≡ get c f
-  pub fixed : (f : Field) → ¬ IsOpen q f → (¬ IsOpen c f) ⊎ IsFixedBy q x y f
+  pub keeps : (f : Field) → ¬ IsUnset c f → get q f ≡ get c f
+  pub fixed : (f : Field) → ¬ IsUnset q f → (¬ IsUnset c f) ⊎ IsFixedBy q x y f
   pub beyond : (k : ℕ) → StartsAt k x → StartsAt k y → (m : Lit) → Holds q m → Holds c m ⊎ (k ≤ rank m)
   pub differs : (p : Packet) → Agrees q p → ((m : Lit) → NamesLit x m ⊎ NamesLit y m → Holds p m → Holds q m) →
       ¬ SameAnswers (answers x p) (answers y p)

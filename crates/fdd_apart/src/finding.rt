@@ -33,6 +33,13 @@ pub struct Apart {
     pub side: Side,
 }
 
+// The two diagrams that are compared.
+#[derive(Clone, Copy)]
+struct Compared {
+    a: Id,
+    b: Id,
+}
+
 /// A well-shaped packet and an output that just one of two diagrams gives, or none if they answer each well-shaped
 /// packet alike (ICFP 2015, section 3).
 ///
@@ -61,65 +68,64 @@ pub fn apart_in(
     if are_one(store, a, b) {
         return Ok(None);
     }
+    let compared = Compared { a, b };
     if let Some(found) = apart_in_two_kinds(
         alloc,
         store,
-        a,
-        b,
+        &compared,
         names,
         Frame::NoIp,
         Frame::OtherIp,
     )? {
         return Ok(Some(found));
     }
-    apart_in_two_kinds(alloc, store, a, b, names, Frame::Tcp, Frame::Udp)
+    apart_in_two_kinds(alloc, store, &compared, names, Frame::Tcp, Frame::Udp)
 }
 
 // The same on the packets of two kinds of frames.
 fn apart_in_two_kinds(
     alloc: Global,
     store: &mut Store,
-    a: Id,
-    b: Id,
+    compared: &Compared,
     names: &[Lit],
     first: Frame,
     second: Frame,
 ) -> Result<Option<Apart>, AllocError>
-    requires { IsAsked store.old a b names.now }
+    requires { IsAsked store.old compared.now.a compared.now.b names.now }
     ensures grows { Grows store.old store.new }
     ensures told { IfOk result
-        (λ o. MatchOption o (AreAlikeBoth first second (tree_at store.old a) (tree_at store.old b))
-        (IsApart (tree_at store.old a) (tree_at store.old b))) }
+        (λ o. MatchOption o
+        (AreAlikeBoth first second (tree_at store.old compared.now.a) (tree_at store.old compared.now.b))
+        (IsApart (tree_at store.old compared.now.a) (tree_at store.old compared.now.b))) }
 {
-    if let Some(found) = apart_in_kind(alloc, store, a, b, names, first)? {
+    if let Some(found) = apart_in_kind(alloc, store, compared, names, first)? {
         return Ok(Some(found));
     }
-    apart_in_kind(alloc, store, a, b, names, second)
+    apart_in_kind(alloc, store, compared, names, second)
 }
 
 // The same on the packets of one kind.
 fn apart_in_kind(
     alloc: Global,
     store: &mut Store,
-    a: Id,
-    b: Id,
+    compared: &Compared,
     names: &[Lit],
     frame: Frame,
 ) -> Result<Option<Apart>, AllocError>
-    requires { IsAsked store.old a b names.now }
+    requires { IsAsked store.old compared.now.a compared.now.b names.now }
     ensures grows { Grows store.old store.new }
     ensures told { IfOk result
-        (λ o. MatchOption o (AreAlikeOf frame (tree_at store.old a) (tree_at store.old b))
-        (IsApart (tree_at store.old a) (tree_at store.old b))) }
+        (λ o. MatchOption o (AreAlikeOf frame (tree_at store.old compared.now.a) (tree_at store.old compared.now.b))
+        (IsApart (tree_at store.old compared.now.a) (tree_at store.old compared.now.b))) }
 {
-    let x = restriction(alloc, store, frame, a)?;
-    let y = restriction(alloc, store, frame, b)?;
+    let x = restriction(alloc, store, frame, compared.a)?;
+    let y = restriction(alloc, store, frame, compared.b)?;
     if are_one(store, x, y) {
         return Ok(None);
     }
-    let cell = cell_apart(alloc, store, x, y, &Cell::open())?;
+    let cell = cell_apart(alloc, store, x, y, &Cell::whole())?;
     let packet = packet_of(&cell, frame, names);
-    Ok(output_apart(store, a, b, &packet))
+    Ok(output_apart(store, compared.a, compared.b, &packet))
 }
 
 // The packet of a cell that is otherwise what a kind of frame fixes, and else of unnamed values.

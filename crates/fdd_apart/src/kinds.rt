@@ -4,13 +4,13 @@
 ghost use Rattle.std.specs.Prelude.{[], IfOk, IfSome, OnOk};
 ghost use Rattle.fdd_differ.specs.declared.frame.Frame.{Frame};
 ghost use Rattle.fdd_differ.specs.Frames.{frame_cell};
-ghost use Rattle.fdd_nodes.specs.Cells.{IsOpen};
+ghost use Rattle.fdd_nodes.specs.Cells.{IsUnset};
 ghost use Rattle.nk_values.specs.Lits.{lit_field};
 ghost use Rattle.fdd_nodes.specs.Names.{IsFew};
 ghost use Rattle.fdd_nodes.specs.Roots.{IsLeaf};
 ghost use Rattle.fdd_store.specs.Leaves.{AddsCopies};
 ghost use Rattle.fdd_store.specs.Looks.{Forked};
-ghost use Rattle.fdd_store.specs.Made.{IsMade};
+ghost use Rattle.fdd_store.specs.Canonical.{IsCanonical};
 ghost use Rattle.fdd_store.specs.Stores.{Kept, Has, Gives, Grows, tree_at};
 ghost use Rattle.fdd_apart.specs.Kinds.{AreRestrictions, IsRestriction, Restricts};
 
@@ -20,6 +20,14 @@ use fdd_store::{Id, Look, Store};
 use indexmap::IndexMap;
 use nk_values::Lit;
 use std::alloc::{AllocError, Global};
+
+// The first test of a diagram, and the places of its branches.
+#[derive(Clone, Copy)]
+struct Fork {
+    test: Lit,
+    yes: Id,
+    no: Id,
+}
 
 /// The diagram that answers each well-shaped packet of a kind as another one does. It tests and assigns only what the
 /// kind leaves open.
@@ -93,10 +101,10 @@ fn restrict_anew(
 {
     match store.look(a) {
         Look::Leaf => restrict_leaf(alloc, store, frame, a),
-        Look::Fork(l, t, e) => match frame.cell().knows(&l) {
-            Known::Yes => restrict(alloc, store, frame, known, t),
-            Known::No => restrict(alloc, store, frame, known, e),
-            Known::Open => restrict_test(alloc, store, frame, known, a, l, t, e),
+        Look::Fork(test, yes, no) => match frame.cell().knows(&test) {
+            Known::Yes => restrict(alloc, store, frame, known, yes),
+            Known::No => restrict(alloc, store, frame, known, no),
+            Known::Unset => restrict_test(alloc, store, frame, known, a, Fork { test, yes, no }),
         },
     }
 }
@@ -109,25 +117,23 @@ fn restrict_test(
     frame: Frame,
     known: &mut IndexMap<Id, Id>,
     a: Id,
-    l: Lit,
-    t: Id,
-    e: Id,
+    fork: Fork,
 ) -> Result<Id, AllocError>
-    requires fork { Forked store.old l t e (tree_at store.old a) }
-    requires made { IsMade (tree_at store.old a) }
+    requires fork { Forked store.old fork.test fork.yes fork.no (tree_at store.old a) }
+    requires made { IsCanonical (tree_at store.old a) }
     requires few { IsFew (tree_at store.old a) }
     requires known { AreRestrictions frame store.old known.old.entries }
-    requires untold { IsOpen (frame_cell frame) (lit_field l) }
+    requires untold { IsUnset (frame_cell frame) (lit_field fork.test) }
     ensures grows { Grows store.old store.new }
     ensures known { OnOk result (AreRestrictions frame store.new known.new.entries) }
     ensures only { IfOk result (λ r. Gives store.new r (Restricts frame (tree_at store.old a))) }
 {
-    let no = restrict(alloc, store, frame, known, e)?;
-    if !frame.leaves(l.field(), l.value()) {
+    let no = restrict(alloc, store, frame, known, fork.no)?;
+    if !frame.leaves(fork.test.field(), fork.test.value()) {
         return Ok(no);
     }
-    let yes = restrict(alloc, store, frame, known, t)?;
-    store.choice(alloc, l, yes, no)
+    let yes = restrict(alloc, store, frame, known, fork.yes)?;
+    store.choice(alloc, fork.test, yes, no)
 }
 
 fn restrict_leaf(alloc: Global, store: &mut Store, frame: Frame, a: Id) -> Result<Id, AllocError>

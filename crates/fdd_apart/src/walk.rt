@@ -3,7 +3,7 @@
 //! Layer: diagrams; private. Called by `finding`.
 ghost use Rattle.std.specs.Prelude.{◌≡◌, ◌≢◌, ◌↔◌, IfOk, IsTrue, MatchOption};
 ghost use Rattle.fdd_nodes.specs.Roots.{IsLeaf, HasRoot, IsFirst, IsFrom};
-ghost use Rattle.fdd_store.specs.Made.{IsMade};
+ghost use Rattle.fdd_store.specs.Canonical.{IsCanonical};
 ghost use Rattle.fdd_store.specs.Stores.{Has, Gives, Grows, tree_at};
 ghost use Rattle.fdd_store.specs.Results.{Rests};
 ghost use Rattle.fdd_apart.specs.Walks.{IsReady, CellApart};
@@ -58,8 +58,8 @@ pub(crate) fn are_one(store: &Store, a: Id, b: Id) -> bool
 fn first_test(store: &Store, a: Id, b: Id) -> Option<Lit>
     requires has_a { Has store.now a }
     requires has_b { Has store.now b }
-    ensures made_a { IsMade (tree_at store.now a) }
-    ensures made_b { IsMade (tree_at store.now b) }
+    ensures made_a { IsCanonical (tree_at store.now a) }
+    ensures made_b { IsCanonical (tree_at store.now b) }
     ensures first { MatchOption result (IsLeaf (tree_at store.now a) × IsLeaf (tree_at store.now b))
         (λ l. IsFirst l (tree_at store.now a) (tree_at store.now b)) }
 {
@@ -75,7 +75,7 @@ fn first_test(store: &Store, a: Id, b: Id) -> Option<Lit>
 
 fn root_test(store: &Store, a: Id) -> Option<Lit>
     requires { Has store.now a }
-    ensures made { IsMade (tree_at store.now a) }
+    ensures made { IsCanonical (tree_at store.now a) }
     ensures root { MatchOption result (IsLeaf (tree_at store.now a)) (λ l. HasRoot l (tree_at store.now a)) }
 {
     match store.look(a) {
@@ -100,7 +100,7 @@ fn else_of(store: &Store, a: Id, l: &Lit) -> Id
 fn there(store: &Store, a: Id) -> Id
     requires { Has store.now a }
     ensures place { result ≡ a }
-    ensures made { IsMade (tree_at store.now a) }
+    ensures made { IsCanonical (tree_at store.now a) }
 {
     let _root = store.look(a);
     a

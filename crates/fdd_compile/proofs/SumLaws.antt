@@ -24,7 +24,7 @@ use Rattle.fdd_compile.proofs.FoldLaws.{some_tests_literal, some_assigns_literal
 use Rattle.fdd_compile.proofs.NamedLaws.{some_named}
 use Rattle.fdd_compile.proofs.AlikeLaws.{from_answers, in_answers}
 
--- behind one test
+-- after one test
 
 holds_yes : (l : Lit) (ts : List Tree) (p q : Packet) → Holds p l → SomeAnswers (if_holds l ts) p q ↔ SomeAnswers ts p q
 holds_yes l [] p q y = (λ h. h, λ h. h)

@@ -1,4 +1,4 @@
--- Diagrams behind tests.
+-- Diagrams after tests.
 use Rattle.std.proofs.Common.{◌≡◌, ℕ, zero, suc, ◌+◌, ◌<◌, ◌≤◌, ◌⊎◌, inl, inr, refl, ap, sym, ◌∙◌, subst, arith, List, [], ◌∷◌, ◌++◌, length, map, get_or, take, drop}
 use Rattle.std.proofs.lemmas.Bool.Decides.{eqb_tells}
 use Rattle.std.proofs.lemmas.List.{map-append, take-append-le, take_more}
@@ -113,7 +113,7 @@ all_alike ls ms t s = record {
   assigns = λ m h. elim h [ inl w ↦ inl (all_assigned ms t m (all_assigns ls t m w)) | inr w ↦ absurd w ];
 }
 
--- another diagram behind the tests
+-- another diagram after the tests
 all_beyond : (ls : List Lit) (t u : Tree) → AreAlike (t ∷ []) (u ∷ []) → AreAlike (if_all ls t ∷ []) (if_all ls u ∷ [])
 all_beyond ls t u a = record {
   answer = λ p q. (

@@ -89,7 +89,7 @@ bare_left k n (s ∷ ss) h =
     let r = bare_left k n ss (λ x i. h x (inr i)) in
     λ x. e x ∷ r x
 
--- summands with one test there are diagrams behind it
+-- summands with one test there are diagrams after it
 pub led_left : (k : Kept) (n : ℕ) (l : Lit) (ss : List Summand) → HaveAt n (Some l) ss → map (left_of n k) ss ≡ if_holds l (map (left_of (n + 1) k) ss)
 led_left k n l [] h = refl
 led_left k n l (s ∷ ss) h =

@@ -1,4 +1,4 @@
--- Sums of diagrams behind tests, made test by test.
+-- Sums of diagrams after tests, made test by test.
 use Rattle.std.specs.Prelude.{◌≡◌, ℕ, ◌+◌, ◌<◌, ◌⊎◌, ◌↔◌, List, [], ◌∷◌, ◌++◌, Option, None, drop, slice_get}
 use Rattle.nk_values.specs.declared.packet.Packet.{Packet}
 use Rattle.nk_values.specs.declared.lit.Lit.{Lit}

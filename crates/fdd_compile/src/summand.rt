@@ -1,4 +1,4 @@
-//! Diagrams behind tests.
+//! Diagrams after tests.
 //!
 //! Layer: diagrams; private. Called by many modules.
 ghost use Rattle.std.specs.Prelude.{◌≡◌, ◌+◌, [], ◌∷◌, IfSome, IsSome, IfOk, OnOk, IsTrue, slice_get};
@@ -12,7 +12,7 @@ use nk_values::Lit;
 use smallvec::SmallVec;
 use std::alloc::{AllocError, Global};
 
-/// A diagram behind tests. It stands for the diagram where all of the tests hold, and else for nothing.
+/// A diagram after tests. It stands for the diagram where all of the tests hold, and else for nothing.
 #[derive(Drop)]
 pub(crate) struct Summand {
     pub(crate) tests: SmallVec<Lit, 4>,
@@ -20,7 +20,7 @@ pub(crate) struct Summand {
 }
 
 impl Summand {
-    /// A diagram behind tests. Tests at the front of the diagram that keep nothing else are taken out of it, and all
+    /// A diagram after tests. Tests at the front of the diagram that keep nothing else are taken out of it, and all
     /// tests stand in their order.
     pub(crate) fn new(
         store: &Store,

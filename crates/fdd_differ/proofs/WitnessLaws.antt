@@ -12,7 +12,7 @@ use Rattle.nk_values.specs.Packets.{get, with_value, IsInRange, IsWellShaped}
 use Rattle.nk_values.specs.Ranges.{IsValue}
 use Rattle.nk_values.proofs.MemberLaws.{in-right}
 use Rattle.nk_values.proofs.PacketLaws.{get-with_same, get-with_other, field_cases}
-use Rattle.fdd_nodes.specs.Cells.{open_cell, Agrees, fill, IsOpen}
+use Rattle.fdd_nodes.specs.Cells.{whole_cell, Agrees, fill, IsUnset}
 use Rattle.fdd_nodes.specs.Paths.{Way, tests_on}
 use Rattle.fdd_nodes.proofs.CellLaws.{tells_open, lit_not_free, agrees_with, open_agrees, fill_fixed, fill_open}
 use Rattle.fdd_differ.specs.declared.frame.Frame.{Frame}
@@ -22,13 +22,13 @@ use Rattle.fdd_differ.specs.Unnamed.{IsFreshOf}
 use Rattle.fdd_differ.specs.Witness.{IsWitness, IsWitnessOf, narrowed_by_one, narrowed}
 
 -- what is fixed stays as one literal more comes, and the literal's field is fixed then
-one_keeps : (c : Packet) (l : Lit) (f : Field) → ¬ IsOpen c f → get (narrowed_by_one c l) f ≡ get c f
+one_keeps : (c : Packet) (l : Lit) (f : Field) → ¬ IsUnset c f → get (narrowed_by_one c l) f ≡ get c f
 one_keeps c l f n = elim (tells_open c (lit_field l)) [
   | inl y ↦ ap (λ b. get (cond b (put l c) c) f) y.0 ∙ get-with_other c (lit_field l) f (lit_value l) (λ e. n (ap (get c) (sym e) ∙ y.1))
   | inr k ↦ ap (λ b. get (cond b (put l c) c) f) k.0
 ]
 
-one_fixes : (c : Packet) (l : Lit) → ¬ IsOpen (narrowed_by_one c l) (lit_field l)
+one_fixes : (c : Packet) (l : Lit) → ¬ IsUnset (narrowed_by_one c l) (lit_field l)
 one_fixes c l z = elim (tells_open c (lit_field l)) [
   | inl y ↦ lit_not_free l (sym (get-with_same c (lit_field l) (lit_value l)) ∙ sym (ap (λ b. get (cond b (put l c) c) (lit_field l)) y.0) ∙ z)
   | inr k ↦ k.1 (sym (ap (λ b. get (cond b (put l c) c) (lit_field l)) k.0) ∙ z)
@@ -40,13 +40,13 @@ one_agrees c p l h a = elim (tells_open c (lit_field l)) [
   | inr k ↦ subst (λ (b : Bool). Agrees (cond b (put l c) c) p) (sym k.0) a
 ]
 
-keeps : (c : Packet) (ls : List Lit) (f : Field) → ¬ IsOpen c f → get (narrowed c ls) f ≡ get c f
+keeps : (c : Packet) (ls : List Lit) (f : Field) → ¬ IsUnset c f → get (narrowed c ls) f ≡ get c f
 keeps c [] f n = refl
 keeps c (l ∷ ls) f n = let e = one_keeps c l f n in keeps (narrowed_by_one c l) ls f (λ z. n (sym e ∙ z)) ∙ e
 
-fixes : (c : Packet) (ls : List Lit) (l : Lit) → IsIn ls l → ¬ IsOpen (narrowed c ls) (lit_field l)
+fixes : (c : Packet) (ls : List Lit) (l : Lit) → IsIn ls l → ¬ IsUnset (narrowed c ls) (lit_field l)
 fixes c [] l h = absurd h
-fixes c (m ∷ ls) l (inl e) = subst (λ (k : Lit). ¬ IsOpen (narrowed c (m ∷ ls)) (lit_field k)) e
+fixes c (m ∷ ls) l (inl e) = subst (λ (k : Lit). ¬ IsUnset (narrowed c (m ∷ ls)) (lit_field k)) e
     (λ z. one_fixes c m (sym (keeps (narrowed_by_one c m) ls (lit_field m) (one_fixes c m)) ∙ z))
 fixes c (m ∷ ls) l (inr h) = fixes (narrowed_by_one c m) ls l h
 
@@ -65,14 +65,14 @@ agrees_put c p f n h a = record {
 -- a packet of a kind is in its cell
 pub kind_agrees : (k : Frame) (p : Packet) → IsFrame k p → Agrees (frame_cell k) p
 kind_agrees NoIp p h = open_agrees p
-kind_agrees OtherIp p h = agrees_put open_cell p EthTyp 2048 h.0 (open_agrees p)
-kind_agrees Tcp p h = agrees_put (with_value open_cell EthTyp 2048) p IpProto 6 h.1 (agrees_put open_cell p EthTyp 2048 h.0 (open_agrees p))
-kind_agrees Udp p h = agrees_put (with_value open_cell EthTyp 2048) p IpProto 17 h.1 (agrees_put open_cell p EthTyp 2048 h.0 (open_agrees p))
+kind_agrees OtherIp p h = agrees_put whole_cell p EthTyp 2048 h.0 (open_agrees p)
+kind_agrees Tcp p h = agrees_put (with_value whole_cell EthTyp 2048) p IpProto 6 h.1 (agrees_put whole_cell p EthTyp 2048 h.0 (open_agrees p))
+kind_agrees Udp p h = agrees_put (with_value whole_cell EthTyp 2048) p IpProto 17 h.1 (agrees_put whole_cell p EthTyp 2048 h.0 (open_agrees p))
 
 -- each number of q is p's or g's, and q has what its kind fixes
 pub record Mixes (k : Frame) (p g q : Packet) : Type 0 where
   pub either : (f : Field) → (get q f ≡ get p f) ⊎ (get q f ≡ get g f)
-  pub fixed : (f : Field) → ¬ IsOpen (frame_cell k) f → get q f ≡ get (frame_cell k) f
+  pub fixed : (f : Field) → ¬ IsUnset (frame_cell k) f → get q f ≡ get (frame_cell k) f
 
 from_both : (k : Frame) (p g q : Packet) → Mixes k p g q → (P : ℕ → Type 0) (f : Field) → P (get p f) → P (get g f) → P (get q f)
 from_both k p g q m P f x y = elim (m.either f) [ inl e ↦ subst P (sym e) x | inr e ↦ subst P (sym e) y ]
@@ -125,14 +125,14 @@ mixes_shaped Udp p g q ls m h hq s f = record {
 }
 
 -- each number of a filled cell is one of the cell, which p has too, or one of g
-pub fill_cases : (c p g : Packet) → Agrees c p → (f : Field) → ((¬ IsOpen c f) × (get (fill c g) f ≡ get c f) × (get (fill c g) f ≡ get p f)) ⊎ ((IsOpen c f) × (get (fill c g) f ≡ get g f))
+pub fill_cases : (c p g : Packet) → Agrees c p → (f : Field) → ((¬ IsUnset c f) × (get (fill c g) f ≡ get c f) × (get (fill c g) f ≡ get p f)) ⊎ ((IsUnset c f) × (get (fill c g) f ≡ get g f))
 fill_cases c p g a f = elim (tells_open c f) [
   | inl y ↦ inr (y.1, fill_open c g f y.1)
   | inr n ↦ inl (n.1, fill_fixed c g f n.1, fill_fixed c g f n.1 ∙ sym (a.at f n.1))
 ]
 
 -- cells within the cell of a kind, filled with numbers of a fresh packet, mix
-pub mixes_fill : (k : Frame) (c p g : Packet) → Agrees c p → ((f : Field) → ¬ IsOpen (frame_cell k) f → get c f ≡ get (frame_cell k) f) → Mixes k p g (fill c g)
+pub mixes_fill : (k : Frame) (c p g : Packet) → Agrees c p → ((f : Field) → ¬ IsUnset (frame_cell k) f → get c f ≡ get (frame_cell k) f) → Mixes k p g (fill c g)
 mixes_fill k c p g a h = record {
   either = λ f. elim (fill_cases c p g a f) [ inl e ↦ inl e.2 | inr e ↦ inr e.1 ];
   fixed = λ f n. fill_fixed c g f (λ z. n (sym (h f n) ∙ z)) ∙ h f n;

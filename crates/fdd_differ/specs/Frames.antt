@@ -4,7 +4,7 @@ use Rattle.nk_values.specs.declared.field.Field.{Field}
 use Rattle.nk_values.specs.declared.field.Field.TheVariants.{EthTyp, IpProto, Ip4Src, Ip4Dst, TcpSrcPort, TcpDstPort}
 use Rattle.nk_values.specs.declared.packet.Packet.{Packet}
 use Rattle.nk_values.specs.Packets.{with_value}
-use Rattle.fdd_nodes.specs.Cells.{open_cell}
+use Rattle.fdd_nodes.specs.Cells.{whole_cell}
 use Rattle.fdd_differ.specs.declared.frame.Frame.{Frame}
 use Rattle.fdd_differ.specs.declared.frame.Frame.TheVariants.{NoIp, OtherIp, Tcp, Udp}
 
@@ -17,10 +17,10 @@ IsFrame Udp p = (p.header.eth_typ ≡ 2048) × (p.header.ip_proto ≡ 17)
 
 -- what each packet of a kind holds
 abbrev pub frame_cell : Frame → Packet
-frame_cell NoIp = open_cell
-frame_cell OtherIp = with_value open_cell EthTyp 2048
-frame_cell Tcp = with_value (with_value open_cell EthTyp 2048) IpProto 6
-frame_cell Udp = with_value (with_value open_cell EthTyp 2048) IpProto 17
+frame_cell NoIp = whole_cell
+frame_cell OtherIp = with_value whole_cell EthTyp 2048
+frame_cell Tcp = with_value (with_value whole_cell EthTyp 2048) IpProto 6
+frame_cell Udp = with_value (with_value whole_cell EthTyp 2048) IpProto 17
 
 -- packets of this kind have no such field, and hold 0 there
 abbrev pub Lacks : Frame → Field → Type 0

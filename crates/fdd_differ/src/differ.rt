@@ -17,7 +17,7 @@ pub fn difference(a: &Fdd, b: &Fdd) -> Option<Packet>
     ensures { MatchOption result (AreAlike (tree_of a.now) (tree_of b.now)) (Shows (tree_of a.now) (tree_of b.now)) }
 {
     let (a, b) = (a.root(), b.root());
-    match parting(&Cell::open(), a, b) {
+    match parting(&Cell::whole(), a, b) {
         None => None,
         Some(cell) => Some(cell.filled(&unnamed(&Pair { a, b }))),
     }

@@ -38,10 +38,10 @@ impl Frame {
     pub fn cell(self) -> Cell
         ensures { result ≡ frame_cell self }
     {
-        let open = Cell::open();
-        let ip = with_value(&open, Field::EthTyp, IPV4_TYPE);
+        let whole = Cell::whole();
+        let ip = with_value(&whole, Field::EthTyp, IPV4_TYPE);
         match self {
-            Frame::NoIp => open,
+            Frame::NoIp => whole,
             Frame::OtherIp => ip,
             Frame::Tcp => with_value(&ip, Field::IpProto, TCP),
             Frame::Udp => with_value(&ip, Field::IpProto, UDP),

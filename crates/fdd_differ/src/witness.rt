@@ -72,7 +72,7 @@ fn narrowed_once(cell: &Cell, l: &Lit) -> Cell
     ensures { result ≡ narrowed_by_one cell.now l.now }
 {
     match cell.knows(l) {
-        Known::Open => cell.with(l),
+        Known::Unset => cell.with(l),
         _ => *cell,
     }
 }

@@ -16,21 +16,21 @@ use Rattle.nk_values.proofs.LitLaws.{lit_small, lit_is_value}
 use Rattle.nk_values.proofs.PacketLaws.{get-with_same, get-with_other, field_cases}
 use Rattle.fdd_nodes.specs.Trees.{Tree, Leaf, Node, leaf_at, outcomes, answers, SameAnswers, IsOrderedFrom}
 use Rattle.fdd_nodes.specs.Roots.{IsLeaf, IsFirst}
-use Rattle.fdd_nodes.specs.Cells.{free, open_cell, cell_of, Agrees, Alike, IsFresh, pick, fill, IsValid, Parts, IsOpen, CanFix, is_open}
+use Rattle.fdd_nodes.specs.Cells.{unset, whole_cell, cell_of, Agrees, Alike, IsFresh, pick, fill, IsValid, Parts, IsUnset, CanFix, is_unset}
 use Rattle.fdd_nodes.specs.Known.{Bars}
 use Rattle.fdd_nodes.specs.Normals.{IsRedundant}
 use Rattle.fdd_nodes.proofs.MakesLaws.{same_outcomes_at, among_lists}
 use Rattle.fdd_nodes.proofs.SplitLaws.{Splits, first_from, first_tested}
 
 pub lit_not_free : (l : Lit) → CanFix (lit_value l)
-lit_not_free l h = let k : lit_value l ≡ free = h in omega (arith, lit_small l, k)
+lit_not_free l h = let k : lit_value l ≡ unset = h in omega (arith, lit_small l, k)
 
 -- a cell fixes a field or leaves it open
-pub tells_open : (c : Packet) (f : Field) → ((is_open c f ≡ true) × IsOpen c f) ⊎ ((is_open c f ≡ false) × (¬ IsOpen c f))
-tells_open c f = eqb_tells (get c f) free
+pub tells_open : (c : Packet) (f : Field) → ((is_unset c f ≡ true) × IsUnset c f) ⊎ ((is_unset c f ≡ false) × (¬ IsUnset c f))
+tells_open c f = eqb_tells (get c f) unset
 
 -- what a cell holds it fixes
-pub holds_fixed : (c : Packet) (l : Lit) → Holds c l → ¬ IsOpen c (lit_field l)
+pub holds_fixed : (c : Packet) (l : Lit) → Holds c l → ¬ IsUnset c (lit_field l)
 holds_fixed c l h k = lit_not_free l (sym h ∙ k)
 
 -- what a cell is at a field once a literal is fixed
@@ -55,10 +55,10 @@ get-fill q g Ip4Dst = refl
 get-fill q g TcpSrcPort = refl
 get-fill q g TcpDstPort = refl
 
-pub fill_fixed : (q g : Packet) (f : Field) → ¬ IsOpen q f → get (fill q g) f ≡ get q f
+pub fill_fixed : (q g : Packet) (f : Field) → ¬ IsUnset q f → get (fill q g) f ≡ get q f
 fill_fixed q g f h = get-fill q g f ∙ ap (λ b. cond b (get g f) (get q f)) (ne_eqb _ _ h)
 
-pub fill_open : (q g : Packet) (f : Field) → IsOpen q f → get (fill q g) f ≡ get g f
+pub fill_open : (q g : Packet) (f : Field) → IsUnset q f → get (fill q g) f ≡ get g f
 fill_open q g f h = get-fill q g f ∙ ap (λ b. cond b (get g f) (get q f)) (eq-eqb _ _ h)
 
 pub same_via : (a a' b b' : Tree) (p : Packet) → leaf_at a p ≡ leaf_at a' p → leaf_at b p ≡ leaf_at b' p → SameAnswers (answers a' p) (answers b' p) → SameAnswers (answers a p) (answers b p)
@@ -95,9 +95,9 @@ fresh_else : (g : Packet) (l : Lit) (a a1 a0 : Tree) → Splits l a a1 a0 → Is
 fresh_else g l a a1 a0 s h = record { tested = λ m k. h.tested m (s.else_tests m k); assigned = λ m k. h.assigned m (s.else_assigns m k) }
 
 -- what a cell with one literal more keeps
-keeps_with : (c q : Packet) (l : Lit) → IsOpen c (lit_field l) → ((f : Field) → ¬ IsOpen (put l c) f → get q f ≡ get (put l c) f) → (f : Field) → ¬ IsOpen c f → get q f ≡ get c f
+keeps_with : (c q : Packet) (l : Lit) → IsUnset c (lit_field l) → ((f : Field) → ¬ IsUnset (put l c) f → get q f ≡ get (put l c) f) → (f : Field) → ¬ IsUnset c f → get q f ≡ get c f
 keeps_with c q l o h f n = elim (field_cases (lit_field l) f) [
-  | inl e ↦ absurd (n (subst (λ (g : Field). IsOpen c g) e o))
+  | inl e ↦ absurd (n (subst (λ (g : Field). IsUnset c g) e o))
   | inr d ↦ let e = get-with_other c (lit_field l) f (lit_value l) d in h f (λ k. n (sym e ∙ k)) ∙ e
 ]
 
@@ -109,7 +109,7 @@ valid_with c l v = record {
   ];
 }
 
-pub parts_then : (c : Packet) (l : Lit) (a a1 a0 b b1 b0 : Tree) (q : Packet) → Splits l a a1 a0 → Splits l b b1 b0 → IsFirst l a b → IsOpen c (lit_field l) → Parts (put l c) a1 b1 q → Parts c a b q
+pub parts_then : (c : Packet) (l : Lit) (a a1 a0 b b1 b0 : Tree) (q : Packet) → Splits l a a1 a0 → Splits l b b1 b0 → IsFirst l a b → IsUnset c (lit_field l) → Parts (put l c) a1 b1 q → Parts c a b q
 parts_then c l a a1 a0 b b1 b0 q sa sb first o h =
     let same = get-with_same c (lit_field l) (lit_value l) in
     let at_l : Holds q l = h.keeps (lit_field l) (λ k. lit_not_free l (sym same ∙ k)) ∙ same in
@@ -136,7 +136,7 @@ parts_then c l a a1 a0 b b1 b0 q sa sb first o h =
 fresh_first : (g : Packet) (l : Lit) (a b : Tree) → IsFirst l a b → IsFresh g a → IsFresh g b → ¬ Holds g l
 fresh_first g l a b first fa fb = elim (first_tested l a b first) [ inl h ↦ fa.tested l h | inr h ↦ fb.tested l h ]
 
-pub parts_else : (c : Packet) (l : Lit) (a a1 a0 b b1 b0 : Tree) (q : Packet) → Splits l a a1 a0 → Splits l b b1 b0 → IsFirst l a b → IsOpen c (lit_field l) → Parts c a0 b0 q → Parts c a b q
+pub parts_else : (c : Packet) (l : Lit) (a a1 a0 b b1 b0 : Tree) (q : Packet) → Splits l a a1 a0 → Splits l b b1 b0 → IsFirst l a b → IsUnset c (lit_field l) → Parts c a0 b0 q → Parts c a b q
 parts_else c l a a1 a0 b b1 b0 q sa sb first o h =
     record {
       keeps = h.keeps;
@@ -204,7 +204,7 @@ leaf_alike c (Leaf cs) (Leaf ds) ha hb s = record {
 leaf_alike c (Node l t e) b ha hb s = absurd ha
 leaf_alike c (Leaf cs) (Node l t e) ha hb s = absurd hb
 
-misses_fill : (c g : Packet) (cs : List (List Lit)) (x : List Lit) (f : Field) → IsFresh g (Leaf cs) → IsIn cs x → IsOpen c f → (m : Lit) → IsIn x m → lit_field m ≡ f → lit_value m ≢ get (fill c g) f
+misses_fill : (c g : Packet) (cs : List (List Lit)) (x : List Lit) (f : Field) → IsFresh g (Leaf cs) → IsIn cs x → IsUnset c f → (m : Lit) → IsIn x m → lit_field m ≡ f → lit_value m ≢ get (fill c g) f
 misses_fill c g cs x f h k y m km e z =
     h.assigned m (among_lists cs x m k km) (ap (λ f'. get g f') e ∙ sym (fill_open c g f y) ∙ sym z)
 
@@ -222,7 +222,7 @@ leaf_parts c (Leaf cs) (Leaf ds) ha hb s = record {
 leaf_parts c (Node l t e) b ha hb s = absurd ha
 leaf_parts c (Leaf cs) (Node l t e) ha hb s = absurd hb
 
-pub get-open : (f : Field) → IsOpen open_cell f
+pub get-open : (f : Field) → IsUnset whole_cell f
 get-open Sw = refl
 get-open Pt = refl
 get-open EthTyp = refl
@@ -234,14 +234,14 @@ get-open Ip4Dst = refl
 get-open TcpSrcPort = refl
 get-open TcpDstPort = refl
 
-pub open_agrees : (p : Packet) → Agrees open_cell p
+pub open_agrees : (p : Packet) → Agrees whole_cell p
 open_agrees p = record { at = λ f n. absurd (n (get-open f)) }
 
-pub open_valid : IsValid open_cell
+pub open_valid : IsValid whole_cell
 open_valid = record { at = λ f n. absurd (n (get-open f)) }
 
 pub cell_agrees : (l : Lit) (p : Packet) → Holds p l → Agrees (cell_of l) p
-cell_agrees l p h = agrees_with open_cell p l h (open_agrees p)
+cell_agrees l p h = agrees_with whole_cell p l h (open_agrees p)
 
 pub fill_in_range : (q g : Packet) → IsValid q → IsInRange g → IsInRange (fill q g)
 fill_in_range q g v r = λ f. elim (tells_open q f) [
@@ -252,7 +252,7 @@ fill_in_range q g v r = λ f. elim (tells_open q f) [
 -- where the branches part, the test is not redundant
 pub not_redundant : (l : Lit) (t e : Tree) (q g : Packet) → Parts (cell_of l) t e q → IsOrderedFrom (rank l + 1) t → IsOrderedFrom (rank l + 1) e → IsInRange g → IsFresh g t → IsFresh g e → IsRedundant l t e → ⊥
 not_redundant l t e q g h ot oe r ft fe red =
-    let same = get-with_same open_cell (lit_field l) (lit_value l) in
+    let same = get-with_same whole_cell (lit_field l) (lit_value l) in
     let at_l : Holds q l = h.keeps (lit_field l) (λ k. lit_not_free l (sym same ∙ k)) ∙ same in
     let y : Holds (fill q g) l = fill_fixed q g (lit_field l) (λ z. lit_not_free l (sym at_l ∙ z)) ∙ at_l in
-    h.differs (rank l + 1) ot oe g ft fe (red.same _ (fill_in_range q g (h.valid (valid_with open_cell l open_valid)) r) y)
+    h.differs (rank l + 1) ot oe g ft fe (red.same _ (fill_in_range q g (h.valid (valid_with whole_cell l open_valid)) r) y)

@@ -33,7 +33,7 @@ module _ {X : Type 0} where
   all_take P [] (suc i) h l = absurd (omega (arith, l))
   all_take P (x ∷ xs) (suc i) h l = (h 0 x (omega arith), all_take P xs i (λ k d b. h (suc k) d (omega (arith, b))) (omega (arith, l)))
 
-  -- of those behind the first i
+  -- of those after the first i
   all_drop : (P : X → Type 0) (xs : List X) (i : ℕ) → ((k : ℕ) (d : X) → i ≤ k → k < length xs → P (get_or xs k d)) → AllByRecursion P (drop i xs)
   all_drop P xs zero h = all_within P xs (λ k d l. h k d (omega arith) l)
   all_drop P [] (suc i) h = tt

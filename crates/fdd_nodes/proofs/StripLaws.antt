@@ -12,7 +12,7 @@ use Rattle.nk_values.specs.Ranges.{place}
 use Rattle.nk_values.proofs.PacketLaws.{get-with_same, get-with_other, same_packet, field_cases}
 use Rattle.fdd_nodes.specs.Trees.{apply, IsSetBy}
 use Rattle.fdd_nodes.specs.Copies.{IsCopyFrom, strip}
-use Rattle.fdd_nodes.specs.Cells.{IsOpen}
+use Rattle.fdd_nodes.specs.Cells.{IsUnset}
 use Rattle.fdd_nodes.specs.Makes.{IsFreeOf}
 use Rattle.fdd_nodes.proofs.CellLaws.{lit_not_free}
 
@@ -26,7 +26,7 @@ later_other : (l : Lit) (f : Field) → place (lit_field l) + 1 ≤ place f → 
 later_other l f h e = let k : place (lit_field l) ≡ place f = ap place e in omega (arith, h, k)
 
 -- what is dropped is what the packet has
-pub strip_apply : (c : Packet) (x : List Lit) (k : ℕ) (p : Packet) → IsCopyFrom k x → ((f : Field) → k ≤ place f → ¬ IsOpen c f → get p f ≡ get c f) → apply (strip c x) p ≡ apply x p
+pub strip_apply : (c : Packet) (x : List Lit) (k : ℕ) (p : Packet) → IsCopyFrom k x → ((f : Field) → k ≤ place f → ¬ IsUnset c f → get p f ≡ get c f) → apply (strip c x) p ≡ apply x p
 strip_apply c [] k p h g = refl
 strip_apply c (l ∷ x) k p h g = elim (eqb_tells (get c (lit_field l)) (lit_value l)) [
   | inl y ↦

@@ -12,47 +12,47 @@ use Rattle.fdd_nodes.specs.Trees.{Tree, Leaf, Node, answers, SameAnswers, IsOrde
 
 -- the number of a field that nothing fixes; no literal has it. It is named where cells are made and asked, and nowhere
 -- else.
-abbrev pub free : ℕ
-free = 18446744073709551615
+abbrev pub unset : ℕ
+unset = 18446744073709551615
 
 -- a number that a cell can fix
 abbrev pub CanFix : ℕ → Type 0
-CanFix n = n ≢ free
+CanFix n = n ≢ unset
 
 -- the cell fixes nothing at the field
-abbrev pub IsOpen : Packet → Field → Type 0
-IsOpen c f = get c f ≡ free
+abbrev pub IsUnset : Packet → Field → Type 0
+IsUnset c f = get c f ≡ unset
 
-abbrev pub is_open : Packet → Field → Bool
-is_open c f = get c f == free
+abbrev pub is_unset : Packet → Field → Bool
+is_unset c f = get c f == unset
 
 -- the number that the cell fixes at the field, or none
 abbrev pub fixed_at : Packet → Field → Option ℕ
-fixed_at c f = if is_open c f then None else Some (get c f)
+fixed_at c f = if is_unset c f then None else Some (get c f)
 
 -- the cell that fixes nothing, and the one that fixes a literal
-abbrev pub open_cell : Packet
-open_cell = record {
-  sw = free;
-  pt = free;
+abbrev pub whole_cell : Packet
+whole_cell = record {
+  sw = unset;
+  pt = unset;
   header = record {
-    eth_typ = free;
-    ip_proto = free;
-    eth_src = free;
-    eth_dst = free;
-    ip4_src = free;
-    ip4_dst = free;
-    tcp_src_port = free;
-    tcp_dst_port = free;
+    eth_typ = unset;
+    ip_proto = unset;
+    eth_src = unset;
+    eth_dst = unset;
+    ip4_src = unset;
+    ip4_dst = unset;
+    tcp_src_port = unset;
+    tcp_dst_port = unset;
   };
 }
 
 abbrev pub cell_of : Lit → Packet
-cell_of l = put l open_cell
+cell_of l = put l whole_cell
 
 -- the packet is in the cell
 pub record Agrees (c p : Packet) : Type 0 where
-  pub at : (f : Field) → ¬ IsOpen c f → get p f ≡ get c f
+  pub at : (f : Field) → ¬ IsUnset c f → get p f ≡ get c f
 
 -- on each packet of the cell the diagrams answer alike
 pub record Alike (c : Packet) (a b : Tree) : Type 0 where
@@ -65,7 +65,7 @@ pub record IsFresh (g : Packet) (t : Tree) : Type 0 where
 
 -- what the cell fixes, and else the other's number
 abbrev pub pick : ℕ → ℕ → ℕ
-pick x y = if x == free then y else x
+pick x y = if x == unset then y else x
 
 abbrev pub fill : Packet → Packet → Packet
 fill q g = record {
@@ -85,14 +85,14 @@ fill q g = record {
 
 -- what is fixed is in range
 pub record IsValid (c : Packet) : Type 0 where
-  pub at : (f : Field) → ¬ IsOpen c f → IsValue f (get c f)
+  pub at : (f : Field) → ¬ IsUnset c f → IsValue f (get c f)
 
 -- Within the cell c, q is a cell in which the diagrams answer apart: on each packet of q that has no other number which
 -- they name. What q fixes beside c comes from their tests.
 pub record Parts (c : Packet) (a b : Tree) (q : Packet) : Type 0 where
-  pub keeps : (f : Field) → ¬ IsOpen c f → get q f ≡ get c f
+  pub keeps : (f : Field) → ¬ IsUnset c f → get q f ≡ get c f
   pub valid : IsValid c → IsValid q
-  pub beyond : (k : ℕ) → IsOrderedFrom k a → IsOrderedFrom k b → (m : Lit) → IsOpen c (lit_field m) → Holds q m →
+  pub beyond : (k : ℕ) → IsOrderedFrom k a → IsOrderedFrom k b → (m : Lit) → IsUnset c (lit_field m) → Holds q m →
       k ≤ rank m
   pub differs : (k : ℕ) → IsOrderedFrom k a → IsOrderedFrom k b → (g : Packet) → IsFresh g a → IsFresh g b →
       ¬ SameAnswers (answers a (fill q g)) (answers b (fill q g))

@@ -44,7 +44,7 @@ abbrev pub strip : Packet → List Lit → List Lit
 strip c [] = []
 strip c (l ∷ ls) = if get c (lit_field l) == lit_value l then strip c ls else l ∷ strip c ls
 
--- what stands before a literal's field, and behind it
+-- what stands before a literal's field, and after it
 abbrev pub below : Lit → List Lit → List Lit
 below l [] = []
 below l (m ∷ c) = if nat_lt (place (lit_field m)) (place (lit_field l)) then m ∷ below l c else below l c

@@ -8,7 +8,7 @@ use Rattle.nk_values.specs.Packets.{IsInRange}
 use Rattle.nk_values.specs.Ranges.{place}
 use Rattle.nk_values.specs.Ranks.{step, rank}
 use Rattle.fdd_nodes.specs.Trees.{Tree, Leaf, Node, answers, SameAnswers, IsOrdered}
-use Rattle.fdd_nodes.specs.Cells.{IsFresh, Respects, open_cell}
+use Rattle.fdd_nodes.specs.Cells.{IsFresh, Respects, whole_cell}
 
 -- on each packet in range that passes the test the branches answer alike
 pub record IsRedundant (l : Lit) (t e : Tree) : Type 0 where
@@ -22,7 +22,7 @@ IsTight (Node l t e) = (¬ IsRedundant l t e) × IsTight t × IsTight e
 -- the tests are ordered, no leaf assigns what its path fixes, and no test is redundant
 pub record IsNormal (t : Tree) : Type 0 where
   pub ordered : IsOrdered t
-  pub respects : Respects open_cell t
+  pub respects : Respects whole_cell t
   pub tight : IsTight t
 
 -- the first test is of a later field

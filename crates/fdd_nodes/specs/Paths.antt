@@ -4,7 +4,7 @@ use Rattle.nk_values.specs.declared.packet.Packet.{Packet}
 use Rattle.nk_values.specs.declared.lit.Lit.{Lit}
 use Rattle.nk_values.specs.Held.{Holds}
 use Rattle.nk_values.specs.Members.{IsIn}
-use Rattle.fdd_nodes.specs.Cells.{open_cell}
+use Rattle.fdd_nodes.specs.Cells.{whole_cell}
 use Rattle.fdd_nodes.specs.Names.{distinct}
 use Rattle.fdd_nodes.specs.Trees.{apply}
 
@@ -26,7 +26,7 @@ with_false w l = record { trues = w.trues; falses = w.falses ++ l ∷ [] }
 
 -- the cell that the true tests fix
 abbrev pub cell_on : Way → Packet
-cell_on w = apply w.trues open_cell
+cell_on w = apply w.trues whole_cell
 
 -- the packet has each true test of the path and none of the false ones
 pub record IsOnPath (w : Way) (p : Packet) : Type 0 where

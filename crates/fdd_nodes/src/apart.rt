@@ -19,7 +19,7 @@ pub fn parting(cell: &Cell, a: &Node, b: &Node) -> Option<Cell>
         return leaf_parting(cell, a, b);
     };
     match cell.knows(&l) {
-        Known::Open => match parting(&cell.with(&l), a.then_of(&l), b.then_of(&l)) {
+        Known::Unset => match parting(&cell.with(&l), a.then_of(&l), b.then_of(&l)) {
             Some(inner) => Some(inner),
             None => parting(cell, a.else_of(&l), b.else_of(&l)),
         },

@@ -9,11 +9,11 @@ use nk_values::{Field, Header, Lit, Packet};
 use std::marker::Model;
 
 // The number of a field that nothing fixes. No packet in range holds it, and no literal has it.
-const FREE: u64 = u64::MAX;
+const UNSET: u64 = u64::MAX;
 
 /// The packets that hold some numbers in some fields: what the true tests of a path leave (ICFP 2015, section 3).
 ///
-/// Clauses see it as a packet of these numbers, and ask by `fixed_at` and `IsOpen` which fields it fixes.
+/// Clauses see it as a packet of these numbers, and ask by `fixed_at` and `IsUnset` which fields it fixes.
 #[derive(Clone, Copy, PartialEq, Eq, Hash)]
 pub struct Cell {
     fixed: Packet,
@@ -32,35 +32,35 @@ impl Model for Cell {
 /// What a cell knows of a literal: nothing, that each packet of it holds the number, or that none does.
 #[derive(Clone, Copy, PartialEq, Eq)]
 pub enum Known {
-    Open,
+    Unset,
     Yes,
     No,
 }
 
 impl Cell {
     ghost use Rattle.nk_values.specs.Held.{put};
-    ghost use Rattle.fdd_nodes.specs.Cells.{open_cell, cell_of, fill, fixed_at, is_open};
+    ghost use Rattle.fdd_nodes.specs.Cells.{whole_cell, cell_of, fill, fixed_at, is_unset};
     ghost use Rattle.fdd_nodes.specs.Copies.{IsCopy};
     ghost use Rattle.fdd_nodes.specs.Known.{Knows};
     ghost use Rattle.fdd_nodes.specs.Trees.{apply};
 
     /// The cell of all packets.
-    pub fn open() -> Cell
-        ensures { result ≡ open_cell }
+    pub fn whole() -> Cell
+        ensures { result ≡ whole_cell }
     {
         Cell {
             fixed: Packet {
-                sw: FREE,
-                pt: FREE,
+                sw: UNSET,
+                pt: UNSET,
                 header: Header {
-                    eth_typ: FREE,
-                    ip_proto: FREE,
-                    eth_src: FREE,
-                    eth_dst: FREE,
-                    ip4_src: FREE,
-                    ip4_dst: FREE,
-                    tcp_src_port: FREE,
-                    tcp_dst_port: FREE,
+                    eth_typ: UNSET,
+                    ip_proto: UNSET,
+                    eth_src: UNSET,
+                    eth_dst: UNSET,
+                    ip4_src: UNSET,
+                    ip4_dst: UNSET,
+                    tcp_src_port: UNSET,
+                    tcp_dst_port: UNSET,
                 },
             },
         }
@@ -70,7 +70,7 @@ impl Cell {
     pub fn of(l: &Lit) -> Cell
         ensures { result ≡ cell_of l.now }
     {
-        Cell::open().with(l)
+        Cell::whole().with(l)
     }
 
     /// The packets of the cell that hold a literal's number, if the cell leaves its field open.
@@ -96,7 +96,7 @@ impl Cell {
     pub fn get(&self, f: Field) -> Option<u64>
         ensures { result ≡ fixed_at self.now f }
     {
-        if self.is_open(f) {
+        if self.is_unset(f) {
             None
         } else {
             Some(self.fixed.get(f))
@@ -104,10 +104,10 @@ impl Cell {
     }
 
     /// Whether the cell leaves a field open.
-    pub fn is_open(&self, f: Field) -> bool
-        ensures { result ≡ is_open self.now f }
+    pub fn is_unset(&self, f: Field) -> bool
+        ensures { result ≡ is_unset self.now f }
     {
-        self.fixed.get(f) == FREE
+        self.fixed.get(f) == UNSET
     }
 
     /// What is known of a literal.
@@ -115,8 +115,8 @@ impl Cell {
         ensures { Knows self.now l.now result }
     {
         let fixed = self.fixed.get(l.field());
-        if fixed == FREE {
-            Known::Open
+        if fixed == UNSET {
+            Known::Unset
         } else if fixed == l.value() {
             Known::Yes
         } else {
@@ -156,5 +156,5 @@ impl Cell {
 fn pick(fixed: u64, other: u64) -> u64
     ensures { result ≡ the_pick fixed other }
 {
-    if fixed == FREE { other } else { fixed }
+    if fixed == UNSET { other } else { fixed }
 }

@@ -18,7 +18,7 @@ pub fn is_normal(a: &Node) -> bool
     requires { IsFew (tree a.now) }
     ensures { IsTrue result ↔ IsNormal (tree a.now) }
 {
-    if !is_ordered(a) || !respects(a, &Cell::open()) {
+    if !is_ordered(a) || !respects(a, &Cell::whole()) {
         return false;
     }
     is_tight(a)

@@ -2,7 +2,7 @@
 //!
 //! Layer: diagrams; public. Called by `names` here, and by many crates.
 ghost use Rattle.std.specs.Prelude.{◌≡◌, ◌↔◌, IsTrue};
-ghost use Rattle.fdd_nodes.specs.Cells.{open_cell};
+ghost use Rattle.fdd_nodes.specs.Cells.{whole_cell};
 ghost use Rattle.fdd_nodes.specs.Makes.{made};
 ghost use Rattle.fdd_nodes.specs.Paths.{HasAll, HasNone};
 
@@ -35,12 +35,12 @@ impl Model for Path {
     ghost Value = { Way };
 
     ghost use Rattle.std.specs.Prelude.{◌≡◌};
-    ghost use Rattle.fdd_nodes.specs.Cells.{open_cell};
+    ghost use Rattle.fdd_nodes.specs.Cells.{whole_cell};
     ghost use Rattle.fdd_nodes.specs.Trees.{apply};
 
     ghost view = { λ p. record { trues = p.trues.items; falses = p.falses.items } };
 
-    ghost invariant = { λ p. p.cell ≡ apply p.trues.items open_cell };
+    ghost invariant = { λ p. p.cell ≡ apply p.trues.items whole_cell };
 }
 
 impl Path {
@@ -54,7 +54,7 @@ impl Path {
         Path {
             trues: Vec::new(alloc),
             falses: Vec::new(alloc),
-            cell: Cell::open(),
+            cell: Cell::whole(),
         }
     }
 
@@ -130,9 +130,9 @@ impl Path {
 }
 
 fn cell_of(trues: &[Lit]) -> Cell
-    ensures { result ≡ made trues.now open_cell }
+    ensures { result ≡ made trues.now whole_cell }
 {
-    let mut cell = Cell::open();
+    let mut cell = Cell::whole();
     for l in trues {
         cell = cell.with(l);
     }

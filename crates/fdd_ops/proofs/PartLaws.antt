@@ -11,7 +11,7 @@ use Rattle.nk_values.specs.Ranges.{place}
 use Rattle.nk_values.proofs.LitLaws.{lit_small}
 use Rattle.nk_values.proofs.PacketLaws.{get-with_same, get-with_other, same_field, field_cases}
 use Rattle.fdd_nodes.specs.Trees.{Tree, Leaf, Node, answers, SameAnswers, IsOrderedFrom, Tests, Assigns}
-use Rattle.fdd_nodes.specs.Cells.{Respects, IsOpen, open_cell}
+use Rattle.fdd_nodes.specs.Cells.{Respects, IsUnset, whole_cell}
 use Rattle.fdd_nodes.specs.Names.{IsFew}
 use Rattle.fdd_nodes.specs.Normals.{IsTight}
 use Rattle.fdd_nodes.proofs.SplitLaws.{ordered_weaken}
@@ -24,7 +24,7 @@ use Rattle.fdd_ops.proofs.OperationLaws.{few_of_one}
 -- a cell that fixes less asks less
 
 abbrev Less : Packet → Packet → Type 0
-Less c c' = (f : Field) → (IsOpen c' f) ⊎ (get c' f ≡ get c f)
+Less c c' = (f : Field) → (IsUnset c' f) ⊎ (get c' f ≡ get c f)
 
 less_with : (c c' : Packet) (l : Lit) → Less c c' → Less (put l c) (put l c')
 less_with c c' l h f = elim (field_cases (lit_field l) f) [
@@ -39,9 +39,9 @@ respects_less : (t : Tree) (c c' : Packet) → Less c c' → Respects c t → Re
 respects_less (Leaf cs) c c' h r = λ m k z. elim (h (lit_field m)) [ inl w ↦ lit_not_free m (sym z ∙ w) | inr w ↦ r m k (sym w ∙ z) ]
 respects_less (Node l t e) c c' h r = (respects_less t _ _ (less_with c c' l h) r.0, respects_less e c c' h r.1)
 
-less_one : (c : Packet) (l : Lit) → IsOpen c (lit_field l) → Less (put l c) c
+less_one : (c : Packet) (l : Lit) → IsUnset c (lit_field l) → Less (put l c) c
 less_one c l o f = elim (field_cases (lit_field l) f) [
-  | inl e ↦ inl (subst (λ (g : Field). IsOpen c g) e o)
+  | inl e ↦ inl (subst (λ (g : Field). IsUnset c g) e o)
   | inr n ↦ inr (sym (get-with_other c (lit_field l) f (lit_value l) n))
 ]
 
@@ -49,7 +49,7 @@ less_one c l o f = elim (field_cases (lit_field l) f) [
 record IsPart (l : Lit) (a r : Tree) : Type 0 where
   same : (p : Packet) → Holds p l → SameAnswers (answers r p) (answers a p)
   ordered : (k : ℕ) → IsOrderedFrom k a → IsOrderedFrom k r
-  respects : Respects open_cell a → Respects open_cell r
+  respects : Respects whole_cell a → Respects whole_cell r
   tight : IsTight a → IsTight r
   tests : (m : Lit) → Tests r m → Tests a m
   assigns : (m : Lit) → Assigns r m → Assigns a m
@@ -68,7 +68,7 @@ of_then : (l m : Lit) (t e : Tree) → place (lit_field m) ≡ place (lit_field 
 of_then l m t e f v = record {
   same = λ p h. node_then_as m t e p (ap (λ g. get p g) (same_field _ _ f) ∙ h ∙ sym v);
   ordered = λ k o. ordered_weaken t k _ (omega (arith, o.0, lit_small m)) o.1;
-  respects = λ r. respects_less t _ open_cell (less_one open_cell m (get-open (lit_field m))) r.0;
+  respects = λ r. respects_less t _ whole_cell (less_one whole_cell m (get-open (lit_field m))) r.0;
   tight = λ w. w.1;
   tests = λ n k. inr (inl k);
   assigns = λ n k. inl k;

@@ -12,9 +12,9 @@ use Rattle.nk_values.specs.Packets.{get}
 use Rattle.nk_values.specs.Ranges.{place}
 use Rattle.nk_values.proofs.PacketLaws.{field_cases}
 use Rattle.fdd_nodes.specs.Trees.{Tree, Leaf, Node, leaf_at, answers, Tests, Assigns}
-use Rattle.fdd_nodes.specs.Cells.{free}
+use Rattle.fdd_nodes.specs.Cells.{unset}
 use Rattle.fdd_nodes.proofs.CellLaws.{lit_not_free}
-use Rattle.fdd_store.specs.Made.{AreProper, IsProper}
+use Rattle.fdd_store.specs.Canonical.{AreProper, IsProper}
 use Rattle.fdd_store.proofs.MoveLaws.{one_leaf}
 use Rattle.fdd_split.specs.declared.bars.Bar.{Bar}
 use Rattle.fdd_split.specs.declared.bars.Bar.TheVariants.{Place, Literal}
@@ -57,11 +57,11 @@ caught_or (Literal m ∷ k) p f = elim (field_cases (lit_field m) f) [
 -- the packet's number, or none where what it holds is barred
 record Kept (k : List Bar) (p : Packet) (f : Field) : Type 0 where
   value : ℕ
-  which : ((value ≡ free) × Caught k p f) ⊎ ((value ≡ get p f) × ((y : Lit) → lit_field y ≡ f → Holds p y → ¬ SomeBars k y))
+  which : ((value ≡ unset) × Caught k p f) ⊎ ((value ≡ get p f) × ((y : Lit) → lit_field y ≡ f → Holds p y → ¬ SomeBars k y))
 
 kept : (k : List Bar) (p : Packet) (f : Field) → Kept k p f
 kept k p f = elim (caught_or k p f) [
-  | inl c ↦ record { value = free; which = inl (refl, c) }
+  | inl c ↦ record { value = unset; which = inl (refl, c) }
   | inr c ↦ record { value = get p f; which = inr (refl, c) }
 ]
 

@@ -12,7 +12,7 @@ use Rattle.nk_values.specs.Ranges.{place}
 use Rattle.nk_values.proofs.LitLaws.{same_lit}
 use Rattle.nk_values.proofs.PacketLaws.{get-with_same, get-with_other, same_packet, same_field, field_cases}
 use Rattle.fdd_nodes.specs.Trees.{apply}
-use Rattle.fdd_nodes.specs.Cells.{free}
+use Rattle.fdd_nodes.specs.Cells.{unset}
 use Rattle.fdd_nodes.specs.Copies.{IsCopy, IsCopyFrom, assigned}
 use Rattle.fdd_nodes.proofs.CellLaws.{lit_not_free}
 use Rattle.fdd_store.specs.Digests.{IsFieldOf}
@@ -105,8 +105,8 @@ holds_other p f n y d h = get-with_other p f (lit_field y) n d ∙ h
 pub held_other : (p : Packet) (f : Field) (n : ℕ) (y : Lit) → f ≢ lit_field y → Holds (with_value p f n) y → Holds p y
 held_other p f n y d h = sym (get-with_other p f (lit_field y) n d) ∙ h
 
-pub not_free : (p : Packet) (f : Field) (y : Lit) → f ≡ lit_field y → ¬ Holds (with_value p f free) y
-not_free p f y e h = lit_not_free y (sym h ∙ ap (λ g. get (with_value p f free) g) (sym e) ∙ get-with_same p f free)
+pub not_free : (p : Packet) (f : Field) (y : Lit) → f ≡ lit_field y → ¬ Holds (with_value p f unset) y
+not_free p f y e h = lit_not_free y (sym h ∙ ap (λ g. get (with_value p f unset) g) (sym e) ∙ get-with_same p f unset)
 
 -- a packet holds one literal of a field
 pub one_held : (p : Packet) (l m : Lit) → lit_field l ≡ lit_field m → Holds p l → Holds p m → l ≡ m

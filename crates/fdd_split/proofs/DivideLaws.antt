@@ -5,7 +5,7 @@ use Rattle.nk_values.specs.Lits.{lit_field}
 use Rattle.nk_values.specs.Ranges.{place}
 use Rattle.nk_values.specs.Ranks.{rank}
 use Rattle.fdd_nodes.specs.Trees.{Tree, Leaf, Node, Tests}
-use Rattle.fdd_store.specs.Made.{IsMade, IsLater}
+use Rattle.fdd_store.specs.Canonical.{IsCanonical, IsLater}
 use Rattle.fdd_store.specs.Results.{Cuts}
 use Rattle.fdd_store.proofs.MadeLaws.{tests_from}
 use Rattle.fdd_split.specs.declared.bars.Bar.{Bar}
@@ -32,7 +32,7 @@ divides_branches k i j a y n t e l s f hy hn dt de = inr (inl (record {
   else_is = de;
 }))
 
-pub divides_doubles : (k i j : List Bar) (a u t e : Tree) (l : Lit) → Threat k a l → ComesFirst k a l → IsLater l a → IsMade u → Cuts l a u → Narrows k i (Place (place (lit_field l))) u → Narrows k j (Literal l) a → Divides i u t → Divides j a e → Divides k a (Node l t e)
+pub divides_doubles : (k i j : List Bar) (a u t e : Tree) (l : Lit) → Threat k a l → ComesFirst k a l → IsLater l a → IsCanonical u → Cuts l a u → Narrows k i (Place (place (lit_field l))) u → Narrows k j (Literal l) a → Divides i u t → Divides j a e → Divides k a (Node l t e)
 divides_doubles k i j a u t e l h f b m c hy hn dt de = inr (inr (record {
   threat = h;
   first = f;
@@ -49,9 +49,9 @@ divides_doubles k i j a u t e l h f b m c hy hn dt de = inr (inr (record {
 }))
 
 -- a literal that precedes the first test precedes all
-pub later_root : (l m : Lit) (a t e : Tree) → IsMade a → a ≡ Node m t e → rank l < rank m → IsLater l a
+pub later_root : (l m : Lit) (a t e : Tree) → IsCanonical a → a ≡ Node m t e → rank l < rank m → IsLater l a
 later_root l m a t e h s r n w =
-    let h' : IsMade (Node m t e) = subst (λ (z : Tree). IsMade z) s h in
+    let h' : IsCanonical (Node m t e) = subst (λ (z : Tree). IsCanonical z) s h in
     let o = tests_from (Node m t e) (rank m) n (omega arith, h'.ordered.1, h'.ordered.2) (subst (λ (z : Tree). Tests z n) s w) in
     omega (arith, o, r)
 

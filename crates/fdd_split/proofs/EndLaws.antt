@@ -12,7 +12,7 @@ use Rattle.nk_values.proofs.LitLaws.{same_rank}
 use Rattle.fdd_nodes.specs.Trees.{Tree, Leaf, Node, Tests, Assigns, IsSetBy}
 use Rattle.fdd_nodes.specs.Names.{literals_of, has_lit, distinct}
 use Rattle.fdd_nodes.proofs.NameLaws.{count_within}
-use Rattle.fdd_store.specs.Made.{IsMade}
+use Rattle.fdd_store.specs.Canonical.{IsCanonical}
 use Rattle.fdd_store.specs.Results.{Cuts}
 use Rattle.fdd_store.proofs.ForkLaws.{level, rank_small}
 use Rattle.fdd_store.proofs.MadeLaws.{tests_from}
@@ -132,7 +132,7 @@ pending_falls k j t u l s b a n h =
     omega (arith, w, o)
 
 -- a diagram that tests no more has no higher level
-pub level_within : (t u : Tree) → IsMade t → ((m : Lit) → Tests u m → Tests t m) → level u ≤ level t
+pub level_within : (t u : Tree) → IsCanonical t → ((m : Lit) → Tests u m → Tests t m) → level u ≤ level t
 level_within t (Leaf cs) h s = omega arith
 level_within (Leaf cs) (Node m y n) h s = absurd (s m (inl refl))
 level_within (Node l t e) (Node m y n) h s =
@@ -141,7 +141,7 @@ level_within (Node l t e) (Node m y n) h s =
     let c = rank_small l in
     omega (arith, a, b, c)
 
-pub weight_of_part : (k i : List Bar) (l : Lit) (a u : Tree) → IsMade a → Cuts l a u → Narrows k i (Place (place (lit_field l))) u → Assigns a l → ¬ SomeBars k l → weight i u < weight k a
+pub weight_of_part : (k i : List Bar) (l : Lit) (a u : Tree) → IsCanonical a → Cuts l a u → Narrows k i (Place (place (lit_field l))) u → Assigns a l → ¬ SomeBars k l → weight i u < weight k a
 weight_of_part k i l a u h c w s n =
     let p = pending_falls k i a u l c.assigns w.kept s n (λ z. w.has l z refl) in
     let v = level_within a u h c.tests in

@@ -12,7 +12,7 @@ use Rattle.nk_values.proofs.MemberLaws.{in-left, in-right, in-either}
 use Rattle.fdd_nodes.specs.Copies.{IsCopy, IsCopyFrom}
 use Rattle.fdd_nodes.specs.Trees.{Tree, Leaf, IsSetBy}
 use Rattle.fdd_store.specs.Digests.{SetsField}
-use Rattle.fdd_store.specs.Made.{IsMade, AreProper}
+use Rattle.fdd_store.specs.Canonical.{IsCanonical, AreProper}
 use Rattle.fdd_split.specs.declared.bars.Bar.{Bar}
 use Rattle.fdd_split.specs.Bars.{SomeBars}
 use Rattle.fdd_split.specs.Pairs.{FieldThreat, Meets, MeetsSome, IsBefore, IsCandidate, IsFirstOf, IsFirstWith}
@@ -100,7 +100,7 @@ field_more k cs fs gs f o e h = subst (λ (z : List Field). IsFirstOf (LeafThrea
     ])
     h)
 
-pub leaf_copies : (a : Tree) (cs : List (List Lit)) → IsMade a → a ≡ Leaf cs → (c : List Lit) → IsIn cs c → IsCopy c
+pub leaf_copies : (a : Tree) (cs : List (List Lit)) → IsCanonical a → a ≡ Leaf cs → (c : List Lit) → IsIn cs c → IsCopy c
 leaf_copies a cs made is = (subst (λ (z : Tree). AreProper z) is made.proper).copies
 
 set_by : (cs : List (List Lit)) (c : List Lit) (x : Lit) → IsIn cs c → IsIn c x → IsSetBy cs x

@@ -11,12 +11,12 @@ use Rattle.nk_values.specs.Ranges.{place}
 use Rattle.nk_values.proofs.LitLaws.{same_lit}
 use Rattle.nk_values.proofs.PacketLaws.{get-with_same, get-with_other, same_packet, field_cases}
 use Rattle.fdd_nodes.specs.Trees.{Tree, Leaf, Node, leaf_at, apply, Tests, Assigns}
-use Rattle.fdd_nodes.specs.Cells.{free}
+use Rattle.fdd_nodes.specs.Cells.{unset}
 use Rattle.fdd_nodes.specs.Copies.{IsCopy}
 use Rattle.fdd_nodes.proofs.CellLaws.{lit_not_free}
 use Rattle.fdd_nodes.proofs.MakesLaws.{Source, source, outcome}
 use Rattle.fdd_nodes.proofs.SplitLaws.{leaf_at-then, leaf_at-else}
-use Rattle.fdd_store.specs.Made.{IsMade, AreProper}
+use Rattle.fdd_store.specs.Canonical.{IsCanonical, AreProper}
 use Rattle.fdd_store.specs.Results.{Cuts}
 use Rattle.fdd_store.proofs.MadeLaws.{made_then, made_else, then_beyond}
 use Rattle.fdd_store.proofs.MoveLaws.{leaf_assigns}
@@ -29,7 +29,7 @@ use Rattle.fdd_split.proofs.CopyLaws.{field_of, leaves_value, sets_value, set_va
 use Rattle.fdd_split.proofs.ThreatLaws.{leaf_copy, leaf_other}
 
 -- a packet without a literal that its leaf assigns comes to the same leaf
-pub leaf_without : (t : Tree) (p : Packet) (x : Lit) (c : List Lit) → IsMade t → Holds p x → IsIn (leaf_at t p) c → IsIn c x → leaf_at t p ≡ leaf_at t (with_value p (lit_field x) free)
+pub leaf_without : (t : Tree) (p : Packet) (x : Lit) (c : List Lit) → IsCanonical t → Holds p x → IsIn (leaf_at t p) c → IsIn c x → leaf_at t p ≡ leaf_at t (with_value p (lit_field x) unset)
 leaf_without (Leaf cs) p x c h y k w = refl
 leaf_without (Node l t e) p x c h y k w = elim (holds_or p l) [
   | inl v ↦
@@ -39,20 +39,20 @@ leaf_without (Node l t e) p x c h y k w = elim (holds_or p l) [
             absurd ((then_beyond l t e h).clean (subst (λ (z : Lit). Assigns t z) (one_held p x l s y v) (leaf_assigns t p c x in_then w)))
         | inr d ↦
             leaf_at-then l t e p v ∙ leaf_without t p x c (made_then l t e h) y in_then w
-            ∙ sym (leaf_at-then l t e (with_value p (lit_field x) free) (holds_other p (lit_field x) free l d v))
+            ∙ sym (leaf_at-then l t e (with_value p (lit_field x) unset) (holds_other p (lit_field x) unset l d v))
       ]
   | inr n ↦
       let in_else : IsIn (leaf_at e p) c = subst (λ (z : List (List Lit)). IsIn z c) (leaf_at-else l t e p n) k in
-      let n' : ¬ Holds (with_value p (lit_field x) free) l = λ z. elim (field_cases (lit_field x) (lit_field l)) [
+      let n' : ¬ Holds (with_value p (lit_field x) unset) l = λ z. elim (field_cases (lit_field x) (lit_field l)) [
         | inl s ↦ not_free p (lit_field x) l s z
-        | inr d ↦ n (held_other p (lit_field x) free l d z)
+        | inr d ↦ n (held_other p (lit_field x) unset l d z)
       ] in
       leaf_at-else l t e p n ∙ leaf_without e p x c (made_else l t e h) y in_else w
-      ∙ sym (leaf_at-else l t e (with_value p (lit_field x) free) n')
+      ∙ sym (leaf_at-else l t e (with_value p (lit_field x) unset) n')
 ]
 
 -- a packet with a literal comes to the leaf of the packet without a number there, unless the literal is tested
-pub leaf_with : (t : Tree) (p : Packet) (x : Lit) → get p (lit_field x) ≡ free → (leaf_at t p ≡ leaf_at t (put x p)) ⊎ Tests t x
+pub leaf_with : (t : Tree) (p : Packet) (x : Lit) → get p (lit_field x) ≡ unset → (leaf_at t p ≡ leaf_at t (put x p)) ⊎ Tests t x
 leaf_with (Leaf cs) p x f = inl refl
 leaf_with (Node l t e) p x f = elim (field_cases (lit_field x) (lit_field l)) [
   | inl s ↦
@@ -80,7 +80,7 @@ leaf_with (Node l t e) p x f = elim (field_cases (lit_field x) (lit_field l)) [
 ]
 
 -- copies of the packet q, which holds x, as they are of the packet p, which holds nothing there
-module _ (a : Tree) (p : Packet) (x : Lit) (c d c2 d2 : List Lit) (bare : get p (lit_field x) ≡ free) (hc2 : IsCopy c2) (hd2 : IsCopy d2) (e : apply c2 p ≡ apply c p) (g : apply d2 p ≡ apply d p) (at_x : get (apply c p) (lit_field x) ≡ lit_value x) (own : get (apply d p) (lit_field x) ≡ free) (rest : (f : Field) → lit_field x ≢ f → get (apply c p) f ≡ get (apply d p) f) where
+module _ (a : Tree) (p : Packet) (x : Lit) (c d c2 d2 : List Lit) (bare : get p (lit_field x) ≡ unset) (hc2 : IsCopy c2) (hd2 : IsCopy d2) (e : apply c2 p ≡ apply c p) (g : apply d2 p ≡ apply d p) (at_x : get (apply c p) (lit_field x) ≡ lit_value x) (own : get (apply d p) (lit_field x) ≡ unset) (rest : (f : Field) → lit_field x ≢ f → get (apply c p) f ≡ get (apply d p) f) where
   sets_x : IsIn c2 x
   sets_x = elim (field_of c2 (lit_field x)) [
     | inl s ↦
@@ -108,7 +108,7 @@ module _ (a : Tree) (p : Packet) (x : Lit) (c d c2 d2 : List Lit) (bare : get p 
   ])
 
 -- a threat of what is left is one of the whole, or tested there
-module _ (k bars : List Bar) (l : Lit) (a u : Tree) (x : Lit) (cut : Cuts l a u) (hu : IsMade u) (pa : AreProper a) (un : ¬ SomeBars k l) (w : Narrows k bars (Place (place (lit_field l))) u) where
+module _ (k bars : List Bar) (l : Lit) (a u : Tree) (x : Lit) (cut : Cuts l a u) (hu : IsCanonical u) (pa : AreProper a) (un : ¬ SomeBars k l) (w : Narrows k bars (Place (place (lit_field l))) u) where
   -- the first copy assigns x, and the second leaves its field
   narrowed_by : (p : Packet) (c d : List Lit) → IsClear bars p → IsIn (leaf_at u p) c → IsIn (leaf_at u p) d → apply c p ≡ apply d p → IsIn c x → KeepsField d (lit_field x) → Threat k a x ⊎ Tests a x
   narrowed_by p c d clear hc hd one sets leaves =
@@ -116,10 +116,10 @@ module _ (k bars : List Bar) (l : Lit) (a u : Tree) (x : Lit) (cut : Cuts l a u)
       let cd : IsCopy d = leaf_copy u p d hu.proper hd in
       let hx : Holds p x = held c d p x cc cd one (inl (sets, leaves)) in
       let apart : lit_field l ≢ lit_field x = λ s. clear x (w.has x (alone_assigned u p c d x hc hd (inl (sets, leaves))) (ap place (sym s))) hx in
-      let p0 : Packet = with_value p (lit_field x) free in
+      let p0 : Packet = with_value p (lit_field x) unset in
       let q : Packet = put l p0 in
       let hl : Holds q l = get-with_same p0 (lit_field l) (lit_value l) in
-      let bare : get q (lit_field x) ≡ free = get-with_other p0 (lit_field l) (lit_field x) (lit_value l) apart ∙ get-with_same p (lit_field x) free in
+      let bare : get q (lit_field x) ≡ unset = get-with_other p0 (lit_field l) (lit_field x) (lit_value l) apart ∙ get-with_same p (lit_field x) unset in
       let past : (m : Lit) → Tests u m → lit_field l ≢ lit_field m = λ m t s. let o = cut.beyond.past m t in let v : place (lit_field l) ≡ place (lit_field m) = ap place s in omega (arith, o, v) in
       let leaf : leaf_at u p ≡ leaf_at u q = leaf_without u p x c hu hx hc sets ∙ leaf_other u p0 (lit_field l) (lit_value l) past in
       let qc : IsIn (leaf_at u q) c = subst (λ (z : List (List Lit)). IsIn z c) leaf hc in
@@ -129,12 +129,12 @@ module _ (k bars : List Bar) (l : Lit) (a u : Tree) (x : Lit) (cut : Cuts l a u)
       let c1 : IsCopy s1.copy = leaf_copy a q s1.copy pa s1.among in
       let c2 : IsCopy s2.copy = leaf_copy a q s2.copy pa s2.among in
       let at_x : get (apply c q) (lit_field x) ≡ lit_value x = sets_value c 0 x q cc sets in
-      let own : get (apply d q) (lit_field x) ≡ free = leaves_value d (lit_field x) q leaves ∙ bare in
+      let own : get (apply d q) (lit_field x) ≡ unset = leaves_value d (lit_field x) q leaves ∙ bare in
       let rest : (f : Field) → lit_field x ≢ f → get (apply c q) f ≡ get (apply d q) f = λ f n. moved_at c d p q f cc cd one
       (λ y al g. let hy : Holds p y = held c d p y cc cd one al in
       let n1 : lit_field x ≢ lit_field y = λ s. n (s ∙ g) in
       let n2 : lit_field l ≢ lit_field y = λ s. clear y (w.has y (alone_assigned u p c d y hc hd al) (ap place (sym s))) hy in
-      holds_other p0 (lit_field l) (lit_value l) y n2 (holds_other p (lit_field x) free y n1 hy)) in
+      holds_other p0 (lit_field l) (lit_value l) y n2 (holds_other p (lit_field x) unset y n1 hy)) in
       elim (leaf_with a q x bare) [
         | inl same ↦ inl (record {
           packet = put x q;
@@ -146,7 +146,7 @@ module _ (k bars : List Bar) (l : Lit) (a u : Tree) (x : Lit) (cut : Cuts l a u)
                 elim (field_cases (lit_field l) (lit_field y)) [
                   | inl s ↦ un (subst (λ (z : Lit). SomeBars k z) (sym (one_held q l y s hl wq)) b)
                   | inr d2 ↦
-                      clear y (w.kept y b) (held_other p (lit_field x) free y d1 (held_other p0 (lit_field l) (lit_value l) y d2 wq))
+                      clear y (w.kept y b) (held_other p (lit_field x) unset y d1 (held_other p0 (lit_field l) (lit_value l) y d2 wq))
                 ]
           ];
           one = s1.copy;

@@ -12,11 +12,11 @@ use Rattle.nk_values.specs.Ranks.{step, rank}
 use Rattle.nk_values.proofs.Permuted.{once-permuted}
 use Rattle.nk_values.proofs.PacketLaws.{get-with_same, get-with_other, same_packet, same_field, field_cases}
 use Rattle.fdd_nodes.specs.Trees.{Tree, Leaf, Node, leaf_at, apply, answers, SameAnswers, Assigns}
-use Rattle.fdd_nodes.specs.Cells.{free}
+use Rattle.fdd_nodes.specs.Cells.{unset}
 use Rattle.fdd_nodes.specs.Copies.{IsCopy}
 use Rattle.fdd_nodes.specs.Paths.{Way, with_true, with_false}
 use Rattle.fdd_nodes.proofs.MakesLaws.{Source, source, outcome, same_outcomes_at}
-use Rattle.fdd_store.specs.Made.{IsMade, IsLater, AreProper}
+use Rattle.fdd_store.specs.Canonical.{IsCanonical, IsLater, AreProper}
 use Rattle.fdd_store.proofs.MadeLaws.{tests_from, made_then, made_else, then_beyond, else_later}
 use Rattle.fdd_store.proofs.MoveLaws.{leaf_assigns, one_leaf, same_through}
 use Rattle.fdd_store.proofs.SameLaws.{same_trans, same_sym}
@@ -39,7 +39,7 @@ use Rattle.fdd_split.proofs.ThreatLaws.{leaf_copy, threat_free}
 use Rattle.fdd_split.proofs.TidyLaws.{tidy_of}
 
 -- a test of a made diagram is not idle on a path, whatever its branches become
-not_idle : (w : Way) (k : List Bar) (l : Lit) (y n t e : Tree) → IsMade (Node l y n) → Reaches w k (Node l y n) → IsLike y t → IsLike n e → ¬ IsIdleOn w l t e
+not_idle : (w : Way) (k : List Bar) (l : Lit) (y n t e : Tree) → IsCanonical (Node l y n) → Reaches w k (Node l y n) → IsLike y t → IsLike n e → ¬ IsIdleOn w l t e
 not_idle w k l y n t e h ra lt le i = h.reduced.0 (record {
   same = λ p hp.
       let z : Lands w k (Node l y n) p = ra p in
@@ -63,16 +63,16 @@ not_idle w k l y n t e h ra lt le i = h.reduced.0 (record {
 
 -- where a test of a made diagram holds, and where not
 
-branch_yes : (w : Way) (k j : List Bar) (l : Lit) (y n : Tree) → IsMade (Node l y n) → Reaches w k (Node l y n) → ((x : Lit) → SomeBars k x → SomeBars j x) → ((x : Lit) → Assigns y x → place (lit_field x) ≡ place (lit_field l) → SomeBars j x) → ((x : Lit) → SomeBars j x → SomeBars k x ⊎ (place (lit_field x) ≡ place (lit_field l))) → Reaches (with_true w l) j y
+branch_yes : (w : Way) (k j : List Bar) (l : Lit) (y n : Tree) → IsCanonical (Node l y n) → Reaches w k (Node l y n) → ((x : Lit) → SomeBars k x → SomeBars j x) → ((x : Lit) → Assigns y x → place (lit_field x) ≡ place (lit_field l) → SomeBars j x) → ((x : Lit) → SomeBars j x → SomeBars k x ⊎ (place (lit_field x) ≡ place (lit_field l))) → Reaches (with_true w l) j y
 branch_yes w k j l y n h ra kept has only =
     reaches_yes w k j l (Node l y n) y ra (λ p z v. (z.passes l (inl refl)).0 v) (then_beyond l y n h) (λ m s. inr (inl s)) (λ m s. inl s) kept has only
 
-branch_no : (w : Way) (k j : List Bar) (l : Lit) (y n : Tree) → IsMade (Node l y n) → Reaches w k (Node l y n) → ((x : Lit) → SomeBars k x → SomeBars j x) → ((x : Lit) → Assigns n x → l ≡ x → SomeBars j x) → ((x : Lit) → SomeBars j x → SomeBars k x ⊎ (l ≡ x)) → Reaches (with_false w l) j n
+branch_no : (w : Way) (k j : List Bar) (l : Lit) (y n : Tree) → IsCanonical (Node l y n) → Reaches w k (Node l y n) → ((x : Lit) → SomeBars k x → SomeBars j x) → ((x : Lit) → Assigns n x → l ≡ x → SomeBars j x) → ((x : Lit) → SomeBars j x → SomeBars k x ⊎ (l ≡ x)) → Reaches (with_false w l) j n
 branch_no w k j l y n h ra kept has only =
     reaches_no w k j l (Node l y n) n ra (λ p z v x. v ((z.passes l (inl refl)).1 x)) (else_later l y n h) (λ m s. inr (inr s)) (λ m s. inr s) kept has only
 
 -- a made diagram has no idle test on a path
-made_needed : (a : Tree) (k : List Bar) (w : Way) → IsMade a → Reaches w k a → HasNoIdle w a
+made_needed : (a : Tree) (k : List Bar) (w : Way) → IsCanonical a → Reaches w k a → HasNoIdle w a
 made_needed (Leaf cs) k w h ra = tt
 made_needed (Node l y n) k w h ra = (
   not_idle w k l y n y n h ra (like_itself y y refl) (like_itself n n refl),
@@ -83,26 +83,26 @@ made_needed (Node l y n) k w h ra = (
 )
 
 -- a diagram that tests only later literals, on a packet without the literal
-leaf_later : (t : Tree) (l : Lit) (q : Packet) → IsLater l t → Holds q l → leaf_at t q ≡ leaf_at t (with_value q (lit_field l) free)
-leaf_later t l q later y = one_leaf t q (with_value q (lit_field l) free) (λ m s. elim (field_cases (lit_field l) (lit_field m)) [
+leaf_later : (t : Tree) (l : Lit) (q : Packet) → IsLater l t → Holds q l → leaf_at t q ≡ leaf_at t (with_value q (lit_field l) unset)
+leaf_later t l q later y = one_leaf t q (with_value q (lit_field l) unset) (λ m s. elim (field_cases (lit_field l) (lit_field m)) [
   | inl g ↦ (
     (λ v. let r : rank l ≡ rank m = ap rank (one_held q l m g y v) in let o = later m s in absurd (omega (arith, r, o))),
     λ v. absurd (not_free q (lit_field l) m g v),
   )
-  | inr d ↦ (holds_other q (lit_field l) free m d, held_other q (lit_field l) free m d)
+  | inr d ↦ (holds_other q (lit_field l) unset m d, held_other q (lit_field l) unset m d)
 ])
 
-put_back : (q : Packet) (l : Lit) → Holds q l → put l (with_value q (lit_field l) free) ≡ q
+put_back : (q : Packet) (l : Lit) → Holds q l → put l (with_value q (lit_field l) unset) ≡ q
 put_back q l h = same_packet _ _ (λ f. elim (field_cases (lit_field l) f) [
-  | inl e ↦ subst (λ (g : Field). get (put l (with_value q (lit_field l) free)) g ≡ get q g) e (get-with_same (with_value q (lit_field l) free) (lit_field l) (lit_value l) ∙ sym h)
-  | inr d ↦ get-with_other (with_value q (lit_field l) free) (lit_field l) f (lit_value l) d ∙ get-with_other q (lit_field l) f free d
+  | inl e ↦ subst (λ (g : Field). get (put l (with_value q (lit_field l) unset)) g ≡ get q g) e (get-with_same (with_value q (lit_field l) unset) (lit_field l) (lit_value l) ∙ sym h)
+  | inr d ↦ get-with_other (with_value q (lit_field l) unset) (lit_field l) f (lit_value l) d ∙ get-with_other q (lit_field l) f unset d
 ])
 
 -- a diagram that answers as a, and tests only literals after l, gives a packet twice of which two copies of a's leaf make one,
 -- where just one of them assigns l
 gives_twice : (a e : Tree) (l : Lit) (q : Packet) (c d : List Lit) → AreProper a → AreProper e → IsLater l a → IsLater l e → IsLike a e → Holds q l → IsIn (leaf_at a q) c → IsIn (leaf_at a q) d → apply c q ≡ apply d q → IsIn c l → KeepsField d (lit_field l) → ¬ EachOnce (answers e q)
 gives_twice a e l q c d pa pe la lae like hq ic id one sets leaves once =
-    let q0 : Packet = with_value q (lit_field l) free in
+    let q0 : Packet = with_value q (lit_field l) unset in
     let cc : IsCopy c = leaf_copy a q c pa ic in
     let cd : IsCopy d = leaf_copy a q d pa id in
     let leaf_a : leaf_at a q ≡ leaf_at a q0 = leaf_later a l q la hq in
@@ -113,11 +113,11 @@ gives_twice a e l q c d pa pe la lae like hq ic id one sets leaves once =
     let s2 : Source (leaf_at e q0) q0 (apply d q0) = source (leaf_at e q0) q0 (apply d q0) ((like.same q0).back _ (outcome (leaf_at a q0) d q0 d0)) in
     let c1 : IsCopy s1.copy = leaf_copy e q0 s1.copy pe s1.among in
     let c2 : IsCopy s2.copy = leaf_copy e q0 s2.copy pe s2.among in
-    let bare : get q0 (lit_field l) ≡ free = get-with_same q (lit_field l) free in
+    let bare : get q0 (lit_field l) ≡ unset = get-with_same q (lit_field l) unset in
     let at_x : get (apply c q0) (lit_field l) ≡ lit_value l = sets_value c 0 l q0 cc sets in
-    let own : get (apply d q0) (lit_field l) ≡ free = leaves_value d (lit_field l) q0 leaves ∙ bare in
+    let own : get (apply d q0) (lit_field l) ≡ unset = leaves_value d (lit_field l) q0 leaves ∙ bare in
     let rest : (f : Field) → lit_field l ≢ f → get (apply c q0) f ≡ get (apply d q0) f = λ f n. moved_at c d q q0 f cc cd one
-    (λ y al g. holds_other q (lit_field l) free y (λ s. n (s ∙ g)) (held c d q y cc cd one al)) in
+    (λ y al g. holds_other q (lit_field l) unset y (λ s. n (s ∙ g)) (held c d q y cc cd one al)) in
     let same : apply s1.copy q ≡ apply s2.copy q = subst (λ (x : Packet). apply s1.copy x ≡ apply s2.copy x) (put_back q l hq)
     (still_one e q0 l c d s1.copy s2.copy bare c1 c2 s1.makes s2.makes at_x own rest) in
     let i1 : IsIn (leaf_at e q) s1.copy = subst (λ (z : List (List Lit)). IsIn z s1.copy) (sym leaf_e) s1.among in
@@ -186,7 +186,7 @@ pub needed_of : (r : Tree) (k : List Bar) (a : Tree) (n : ℕ) (w : Way) → IsR
 needed_of (Leaf cs) k a n w h ra d = tt
 needed_of (Node l t e) k a n w h ra (inl d) = subst (λ (x : Tree). HasNoIdle w x) d.1 (made_needed a k w h.made ra)
 needed_of (Node l t e) k a n w h ra (inr (inl b)) =
-    let m : IsMade (Node l b.yes b.no) = made_here k a n h l t e b in
+    let m : IsCanonical (Node l b.yes b.no) = made_here k a n h l t e b in
     let ra' : Reaches w k (Node l b.yes b.no) = subst (λ (x : Tree). Reaches w k x) b.is ra in (
       not_idle w k l b.yes b.no t e m ra' (like_of t b.yes_bars b.yes b.then_is) (like_of e b.no_bars b.no b.else_is),
       needed_of t b.yes_bars b.yes _ (with_true w l) (ready_then k a n h l t e b) (branch_yes w k b.yes_bars l b.yes b.no m ra' b.yes_narrows.kept b.yes_narrows.has b.yes_narrows.only) b.then_is,

@@ -6,7 +6,7 @@ use Rattle.nk_values.specs.Ranges.{place}
 use Rattle.nk_values.specs.Ranks.{step, rank}
 use Rattle.nk_values.proofs.LitLaws.{lit_small, same_rank}
 use Rattle.fdd_nodes.specs.Trees.{Tree, Leaf, Node, IsOrderedFrom, Tests, Assigns}
-use Rattle.fdd_store.specs.Made.{IsMade, IsBeyond, IsLater, AreProper}
+use Rattle.fdd_store.specs.Canonical.{IsCanonical, IsBeyond, IsLater, AreProper}
 use Rattle.fdd_store.specs.Results.{Cuts}
 use Rattle.fdd_store.proofs.MadeLaws.{tests_from, ordered_by, places_past, ranks_past, made_then, made_else, then_beyond, else_later}
 use Rattle.fdd_split.specs.declared.bars.Bar.{Bar}
@@ -37,13 +37,13 @@ fields_apart l n h e = let k : place (lit_field l) ≡ place (lit_field n) = ap 
 
 -- what is needed of a diagram that is divided
 pub record IsReady (k : List Bar) (a : Tree) (n : ℕ) : Type 0 where
-  pub made : IsMade a
+  pub made : IsCanonical a
   pub unbarred : IsUnbarred k a
   pub ordered : IsOrderedFrom n a
   pub threats : ThreatsFrom n k a
 
 -- branches of the diagram itself
-module _ (k : List Bar) (l : Lit) (y n : Tree) (h : IsMade (Node l y n)) (u : IsUnbarred k (Node l y n)) (first : ComesFirst k (Node l y n) l) where
+module _ (k : List Bar) (l : Lit) (y n : Tree) (h : IsCanonical (Node l y n)) (u : IsUnbarred k (Node l y n)) (first : ComesFirst k (Node l y n) l) where
   module _ (j : List Bar) (w : Narrows k j (Place (place (lit_field l))) y) where
     pub unbarred_then : IsUnbarred j y
     unbarred_then m t b = elim (w.only m b) [
@@ -70,7 +70,7 @@ module _ (k : List Bar) (l : Lit) (y n : Tree) (h : IsMade (Node l y n)) (u : Is
         next_rank l x r (λ e. threat_free j n x (made_else l y n h).proper t (w.has x (threat_assigned j n x t) e))
 
 -- the parts where a first threat is tested
-module _ (k : List Bar) (l : Lit) (a : Tree) (h : IsMade a) (u : IsUnbarred k a) (d : Threat k a l) (first : ComesFirst k a l) (before : IsLater l a) where
+module _ (k : List Bar) (l : Lit) (a : Tree) (h : IsCanonical a) (u : IsUnbarred k a) (d : Threat k a l) (first : ComesFirst k a l) (before : IsLater l a) where
   free_here : ¬ SomeBars k l
   free_here = threat_free k a l h.proper d
 
@@ -89,10 +89,10 @@ module _ (k : List Bar) (l : Lit) (a : Tree) (h : IsMade a) (u : IsUnbarred k a)
         next_rank l x (first x (threat_less k j a x w.kept t))
         (λ e. threat_free j a x h.proper t (w.has x (threat_assigned j a x t) e))
 
-  pub ordered_then_of : (v : Tree) → IsMade v → Cuts l a v → IsOrderedFrom (step * (place (lit_field l) + 1)) v
+  pub ordered_then_of : (v : Tree) → IsCanonical v → Cuts l a v → IsOrderedFrom (step * (place (lit_field l) + 1)) v
   ordered_then_of v hv c = ordered_by v 0 _ hv.ordered (λ m t. ranks_past l m (c.beyond.past m t))
 
-  module _ (v : Tree) (hv : IsMade v) (c : Cuts l a v) (i : List Bar) (w : Narrows k i (Place (place (lit_field l))) v) where
+  module _ (v : Tree) (hv : IsCanonical v) (c : Cuts l a v) (i : List Bar) (w : Narrows k i (Place (place (lit_field l))) v) where
     pub unbarred_then_of : IsUnbarred i v
     unbarred_then_of m t b = elim (w.only m b) [
       | inl z ↦ u m (c.tests m t) z
@@ -109,8 +109,8 @@ module _ (k : List Bar) (l : Lit) (a : Tree) (h : IsMade a) (u : IsUnbarred k a)
 
 module _ (k : List Bar) (a : Tree) (n : ℕ) (r : IsReady k a n) (l : Lit) (t e : Tree) where
   module _ (b : Branches k a l (λ j x. Divides j x t) (λ j x. Divides j x e)) where
-    pub made_here : IsMade (Node l b.yes b.no)
-    made_here = subst (λ (x : Tree). IsMade x) b.is r.made
+    pub made_here : IsCanonical (Node l b.yes b.no)
+    made_here = subst (λ (x : Tree). IsCanonical x) b.is r.made
 
     unbarred_here : IsUnbarred k (Node l b.yes b.no)
     unbarred_here = subst (λ (x : Tree). IsUnbarred k x) b.is r.unbarred

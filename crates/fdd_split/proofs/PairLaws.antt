@@ -12,7 +12,7 @@ use Rattle.nk_values.specs.Ranks.{rank}
 use Rattle.nk_values.proofs.LitLaws.{lit_small}
 use Rattle.nk_values.proofs.PacketLaws.{get-with_same, get-with_other, same_packet, field_cases}
 use Rattle.fdd_nodes.specs.Trees.{apply}
-use Rattle.fdd_nodes.specs.Cells.{open_cell}
+use Rattle.fdd_nodes.specs.Cells.{whole_cell}
 use Rattle.fdd_nodes.specs.Copies.{IsCopy, IsCopyFrom}
 use Rattle.fdd_nodes.proofs.CellLaws.{lit_not_free, get-open}
 use Rattle.fdd_split.specs.declared.bars.Bar.{Bar}
@@ -41,10 +41,10 @@ put_held p l h = same_packet _ _ (λ f. elim (field_cases (lit_field l) f) [
 put_again : (p : Packet) (l : Lit) → put l (put l p) ≡ put l p
 put_again p l = put_held (put l p) l (get-with_same p (lit_field l) (lit_value l))
 
-open_clear : (k : List Bar) → IsClear k open_cell
+open_clear : (k : List Bar) → IsClear k whole_cell
 open_clear k y b h = lit_not_free y (sym h ∙ get-open (lit_field y))
 
--- a literal of the ends of copies behind the literal l is of another field
+-- a literal of the ends of copies after the literal l is of another field
 alone_behind : (c d : List Lit) (l y : Lit) → IsCopyFrom (place (lit_field l) + 1) c → IsCopyFrom (place (lit_field l) + 1) d → IsAlone c d y → place (lit_field l) < place (lit_field y)
 alone_behind c d l y hc hd (inl a) = let z = places_from c _ y hc a.0 in omega (arith, z)
 alone_behind c d l y hc hd (inr a) = let z = places_from d _ y hd a.0 in omega (arith, z)
@@ -104,7 +104,7 @@ module _ (k : List Bar) (l : Lit) (cs d : List Lit) (hc : IsCopyFrom (place (lit
   pub alone_meeting : (r m : Meeting) → IsMeeting k cs d r → IsAfterAlone k l r m → IsMeeting k (l ∷ cs) d m
   alone_meeting Never m w s = subst (λ (x : Meeting). IsMeeting k (l ∷ cs) d x) (sym s) (λ z. w (rest_meets z))
   alone_meeting Always m w s =
-      stopped m (record { packet = open_cell; clear = open_clear k; same = ap (λ (x : List Lit). apply x open_cell) w }) s
+      stopped m (record { packet = whole_cell; clear = open_clear k; same = ap (λ (x : List Lit). apply x whole_cell) w }) s
   alone_meeting (Where x) m w s = stopped m w.meets s
 
 swap_alone : (c d : List Lit) (x : Lit) → IsAlone c d x → IsAlone d c x

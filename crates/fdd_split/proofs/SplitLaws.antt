@@ -7,7 +7,7 @@ use Rattle.fdd_nodes.specs.Trees.{Tree, Leaf, Node, Tests, Assigns}
 use Rattle.fdd_nodes.specs.Names.{IsFew, literals}
 use Rattle.fdd_nodes.specs.Paths.{no_tests}
 use Rattle.fdd_nodes.proofs.NameLaws.{count_within, named, fresh_of_one}
-use Rattle.fdd_store.specs.Made.{IsMade}
+use Rattle.fdd_store.specs.Canonical.{IsCanonical}
 use Rattle.fdd_split.specs.Divides.{Divides}
 use Rattle.fdd_split.specs.Split.{SplitOf}
 use Rattle.fdd_split.proofs.AnswerLaws.{like_of}
@@ -17,7 +17,7 @@ use Rattle.fdd_split.proofs.NeedLaws.{needed_of}
 use Rattle.fdd_split.proofs.OrderLaws.{ordered_of, proper_of}
 use Rattle.fdd_split.proofs.TidyLaws.{tidy_of, ready_first, once_of}
 
-pub split_root : (a r : Tree) → IsFew a → IsMade a → Divides [] a r → SplitOf a r
+pub split_root : (a r : Tree) → IsFew a → IsCanonical a → Divides [] a r → SplitOf a r
 split_root a r few h d =
     let g = fresh_of_one a few in
     let like = like_of r [] a d in

@@ -6,7 +6,7 @@ use Rattle.nk_values.specs.Ranges.{place}
 use Rattle.nk_values.specs.Ranks.{rank}
 use Rattle.fdd_nodes.specs.Trees.{Tree, Node, Assigns}
 use Rattle.fdd_store.specs.Looks.{Forked}
-use Rattle.fdd_store.specs.Made.{IsMade, IsLater}
+use Rattle.fdd_store.specs.Canonical.{IsCanonical, IsLater}
 use Rattle.fdd_store.specs.Results.{Cuts}
 use Rattle.fdd_store.specs.Stores.{Kept, Has, Gives, Grows, tree_at}
 use Rattle.fdd_store.proofs.ForkLaws.{fall_then, fall_else}
@@ -31,7 +31,7 @@ IsStep j s u w = (weight j (tree_at s u) < w) × (Has s u × TestsNoBarred j (tr
 pub first_some : (T : Lit → Type 0) (o : Option Lit) (l : Lit) → o ≡ Some l → IsFirstOf T o → T l × ((x : Lit) → T x → rank l ≤ rank x)
 first_some T o l e h = subst (λ (z : Option Lit). IsFirstOf T z) e h
 
-module _ (k : List Bar) (old : Kept) (a : ℕ) (m : Lit) (t e : ℕ) (f : Forked old m t e (tree_at old a)) (made : IsMade (tree_at old a)) (u : TestsNoBarred k (tree_at old a)) (j : List Bar) (y : Narrows k j (Place (place (lit_field m))) (tree_at old t)) where
+module _ (k : List Bar) (old : Kept) (a : ℕ) (m : Lit) (t e : ℕ) (f : Forked old m t e (tree_at old a)) (made : IsCanonical (tree_at old a)) (u : TestsNoBarred k (tree_at old a)) (j : List Bar) (y : Narrows k j (Place (place (lit_field m))) (tree_at old t)) where
   pub then_step : IsStep j old t (weight k (tree_at old a))
   then_step = (
     weight_of_branch k j (tree_at old a) (tree_at old t)
@@ -59,7 +59,7 @@ module _ (k : List Bar) (old : Kept) (a : ℕ) (m : Lit) (t e : ℕ) (f : Forked
     branches_done first r s dt de =
         divides_branches k j i (tree_at old a) (tree_at old t) (tree_at old e) r s m f.is first y n dt (subst (λ (z : Tree). Divides i z s) there de)
 
-module _ (k : List Bar) (old : Kept) (a : ℕ) (l : Lit) (has : Has old a) (made : IsMade (tree_at old a)) (u : TestsNoBarred k (tree_at old a)) (h : Threat k (tree_at old a) l) (first : ComesFirst k (tree_at old a) l) (before : IsLater l (tree_at old a)) where
+module _ (k : List Bar) (old : Kept) (a : ℕ) (l : Lit) (has : Has old a) (made : IsCanonical (tree_at old a)) (u : TestsNoBarred k (tree_at old a)) (h : Threat k (tree_at old a) l) (first : ComesFirst k (tree_at old a) l) (before : IsLater l (tree_at old a)) where
   module _ (j : List Bar) (n : Narrows k j (Literal l) (tree_at old a)) where
     module _ (new : Kept) (g : Grows old new) where
       same : tree_at new a ≡ tree_at old a

@@ -11,10 +11,10 @@ use Rattle.nk_values.specs.Ranges.{place}
 use Rattle.nk_values.specs.Ranks.{rank}
 use Rattle.nk_values.proofs.PacketLaws.{get-with_same, same_field, field_cases}
 use Rattle.fdd_nodes.specs.Trees.{Tree, Leaf, Node, leaf_at, Tests, Assigns}
-use Rattle.fdd_nodes.specs.Cells.{free}
+use Rattle.fdd_nodes.specs.Cells.{unset}
 use Rattle.fdd_nodes.specs.Copies.{IsCopy}
 use Rattle.fdd_nodes.proofs.SplitLaws.{leaf_at-then, leaf_at-else}
-use Rattle.fdd_store.specs.Made.{AreProper, IsLater}
+use Rattle.fdd_store.specs.Canonical.{AreProper, IsLater}
 use Rattle.fdd_store.proofs.MoveLaws.{one_leaf}
 use Rattle.fdd_split.specs.declared.bars.Bar.{Bar}
 use Rattle.fdd_split.specs.declared.bars.Bar.TheVariants.{Place, Literal}
@@ -35,11 +35,11 @@ pub leaf_other : (t : Tree) (p : Packet) (f : Field) (n : ℕ) → ((m : Lit) �
 leaf_other t p f n h = one_leaf t p (with_value p f n) (λ m k. (holds_other p f n m (h m k), held_other p f n m (h m k)))
 
 -- a packet without a number in a field holds nothing barred, if it held nothing that is barred but at that field
-pub clear_without : (k j : List Bar) (p : Packet) (f : Field) → IsClear k p → ((y : Lit) → SomeBars j y → SomeBars k y ⊎ (f ≡ lit_field y)) → IsClear j (with_value p f free)
+pub clear_without : (k j : List Bar) (p : Packet) (f : Field) → IsClear k p → ((y : Lit) → SomeBars j y → SomeBars k y ⊎ (f ≡ lit_field y)) → IsClear j (with_value p f unset)
 clear_without k j p f h o y b w = elim (field_cases f (lit_field y)) [
   | inl e ↦ not_free p f y e w
   | inr d ↦ elim (o y b) [
-    | inl z ↦ h y z (held_other p f free y d w)
+    | inl z ↦ h y z (held_other p f unset y d w)
     | inr z ↦ d z
   ]
 ]
@@ -49,8 +49,8 @@ module _ (k j : List Bar) (m : Lit) (t e : Tree) (x : Lit) where
   pub down_yes : AreProper t → ((n : Lit) → Tests t n → lit_field m ≢ lit_field n) → ¬ Assigns t m → ((y : Lit) → SomeBars j y → SomeBars k y ⊎ IsBarredBy (Place (place (lit_field m))) y) → (h : Threat k (Node m t e) x) → Holds h.packet m → Threat j t x
   down_yes pr past clean only h y =
       let p : Packet = h.packet in
-      let q : Packet = with_value p (lit_field m) free in
-      let same : leaf_at (Node m t e) p ≡ leaf_at t q = leaf_at-then m t e p y ∙ leaf_other t p (lit_field m) free past in
+      let q : Packet = with_value p (lit_field m) unset in
+      let same : leaf_at (Node m t e) p ≡ leaf_at t q = leaf_at-then m t e p y ∙ leaf_other t p (lit_field m) unset past in
       let there : leaf_at (Node m t e) p ≡ leaf_at t p = leaf_at-then m t e p y in
       let in_one : IsIn (leaf_at t p) h.one = subst (λ (z : List (List Lit)). IsIn z h.one) there h.has_one in
       let in_other : IsIn (leaf_at t p) h.other = subst (λ (z : List (List Lit)). IsIn z h.other) there h.has_other in
@@ -65,7 +65,7 @@ module _ (k j : List Bar) (m : Lit) (t e : Tree) (x : Lit) where
             (λ z a w. elim (field_cases (lit_field m) (lit_field z)) [
               | inl s ↦
                   absurd (clean (subst (λ (v : Lit). Assigns t v) (sym (one_held p m z s y w)) (alone_assigned t p h.one h.other z in_one in_other a)))
-              | inr d ↦ holds_other p (lit_field m) free z d w
+              | inr d ↦ holds_other p (lit_field m) unset z d w
             ]);
         alone = h.alone;
       }
@@ -115,14 +115,14 @@ module _ (k j : List Bar) (m : Lit) (t e : Tree) (x : Lit) where
   up_no pr later kept has h = elim (holds_or h.packet m) [
     | inl y ↦
         let p : Packet = h.packet in
-        let q : Packet = with_value p (lit_field m) free in
+        let q : Packet = with_value p (lit_field m) unset in
         let n : ¬ Holds q m = not_free p (lit_field m) m refl in
         let leaf : leaf_at e p ≡ leaf_at e q = one_leaf e p q (λ z w. elim (field_cases (lit_field m) (lit_field z)) [
           | inl s ↦ (
             (λ v. let r : rank m ≡ rank z = ap rank (one_held p m z s y v) in let o = later z w in absurd (omega (arith, r, o))),
             λ v. absurd (not_free p (lit_field m) z s v),
           )
-          | inr d ↦ (holds_other p (lit_field m) free z d, held_other p (lit_field m) free z d)
+          | inr d ↦ (holds_other p (lit_field m) unset z d, held_other p (lit_field m) unset z d)
         ]) in
         let same : leaf_at e p ≡ leaf_at (Node m t e) q = leaf ∙ sym (leaf_at-else m t e q n) in
         record {
@@ -135,7 +135,7 @@ module _ (k j : List Bar) (m : Lit) (t e : Tree) (x : Lit) where
           same = moved h.one h.other p q (leaf_copy e p h.one pr h.has_one) (leaf_copy e p h.other pr h.has_other) h.same
               (λ z a w. elim (field_cases (lit_field m) (lit_field z)) [
                 | inl s ↦ absurd (h.clear z (has z (alone_assigned e p h.one h.other z h.has_one h.has_other a) (one_held p m z s y w)) w)
-                | inr d ↦ holds_other p (lit_field m) free z d w
+                | inr d ↦ holds_other p (lit_field m) unset z d w
               ]);
           alone = h.alone;
         }

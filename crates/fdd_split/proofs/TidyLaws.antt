@@ -13,12 +13,12 @@ use Rattle.nk_values.specs.Members.{IsIn, EachOnce}
 use Rattle.nk_values.specs.Ranges.{place}
 use Rattle.nk_values.specs.Ranks.{step}
 use Rattle.fdd_nodes.specs.Trees.{Tree, Leaf, Node, leaf_at, apply, outcomes, answers}
-use Rattle.fdd_nodes.specs.Cells.{Respects, open_cell}
+use Rattle.fdd_nodes.specs.Cells.{Respects, whole_cell}
 use Rattle.fdd_nodes.specs.Copies.{IsCopy, copy_cmp}
 use Rattle.fdd_nodes.proofs.CellLaws.{get-open}
 use Rattle.fdd_nodes.proofs.MakesLaws.{Source, source}
 use Rattle.fdd_nodes.proofs.SplitLaws.{leaf_at-then, leaf_at-else}
-use Rattle.fdd_store.specs.Made.{IsMade, IsBeyond, AreProper, IsProper}
+use Rattle.fdd_store.specs.Canonical.{IsCanonical, IsBeyond, AreProper, IsProper}
 use Rattle.fdd_store.proofs.MadeLaws.{then_beyond, respects_with}
 use Rattle.fdd_store.proofs.CopyLaws.{one_copy}
 use Rattle.fdd_split.specs.declared.bars.Bar.{Bar}
@@ -31,12 +31,12 @@ use Rattle.fdd_split.proofs.ThreatLaws.{down_yes, down_no}
 use Rattle.fdd_split.proofs.OrderLaws.{IsReady, fields_apart, made_here, ready_then, ready_else, ready_part, ready_rest, ordered_of, then_divided, proper_of}
 
 pub record IsTidy (k : List Bar) (r : Tree) : Type 0 where
-  pub respects : Respects open_cell r
+  pub respects : Respects whole_cell r
   pub none : HasNoThreat k r
 
 tidy_node : (k i j : List Bar) (l : Lit) (t e : Tree) → AreProper t → IsBeyond l t → ((y : Lit) → SomeBars i y → SomeBars k y ⊎ (place (lit_field y) ≡ place (lit_field l))) → ((y : Lit) → SomeBars j y → SomeBars k y ⊎ (l ≡ y)) → IsTidy i t → IsTidy j e → IsTidy k (Node l t e)
 tidy_node k i j l t e pr b left right ht he = record {
-  respects = (respects_with t l open_cell b ht.respects, he.respects);
+  respects = (respects_with t l whole_cell b ht.respects, he.respects);
   none = λ x h. elim (holds_or h.packet l) [
     | inl y ↦ ht.none x (down_yes k i l t e x pr (λ m w. fields_apart l m (b.past m w)) b.clean left h y)
     | inr n ↦ he.none x (down_no k j l t e x right h n)
@@ -45,11 +45,11 @@ tidy_node k i j l t e pr b left right ht he = record {
 
 pub tidy_of : (r : Tree) (k : List Bar) (a : Tree) (n : ℕ) → IsReady k a n → Divides k a r → IsTidy k r
 tidy_of (Leaf cs) k a n w d = record {
-  respects = subst (λ (x : Tree). Respects open_cell x) d.1 w.made.respects;
+  respects = subst (λ (x : Tree). Respects whole_cell x) d.1 w.made.respects;
   none = subst (λ (x : Tree). HasNoThreat k x) d.1 d.0;
 }
 tidy_of (Node l t e) k a n w (inl d) = record {
-  respects = subst (λ (x : Tree). Respects open_cell x) d.1 w.made.respects;
+  respects = subst (λ (x : Tree). Respects whole_cell x) d.1 w.made.respects;
   none = subst (λ (x : Tree). HasNoThreat k x) d.1 d.0;
 }
 tidy_of (Node l t e) k a n w (inr (inl b)) =
@@ -67,7 +67,7 @@ tidy_of (Node l t e) k a n w (inr (inr d)) =
 
 -- copies that differ by no literal are one
 pub copies_one : (c d : List Lit) (p : Packet) → IsCopy c → IsCopy d → apply c p ≡ apply d p → ((x : Lit) → ¬ IsAlone c d x) → c ≡ d
-copies_one c d p hc hd e n = one_copy c d 0 open_cell hc hd (λ f k. get-open f) (moved c d p open_cell hc hd e (λ y a w. absurd (n y a)))
+copies_one c d p hc hd e n = one_copy c d 0 whole_cell hc hd (λ f k. get-open f) (moved c d p whole_cell hc hd e (λ y a w. absurd (n y a)))
 
 pub leaf_proper : (t : Tree) (p : Packet) → AreProper t → IsProper (leaf_at t p)
 leaf_proper (Leaf cs) p h = h
@@ -106,5 +106,5 @@ once_of r p h n =
     (λ c d i j e. copies_one c d p (pr.copies c i) (pr.copies d j) e
     (λ x a. n x (record { packet = p; clear = λ y b. absurd b; one = c; other = d; has_one = i; has_other = j; same = e; alone = a })))
 
-pub ready_first : (a : Tree) → IsMade a → IsReady [] a 0
+pub ready_first : (a : Tree) → IsCanonical a → IsReady [] a 0
 ready_first a h = record { made = h; unbarred = λ m t b. b; ordered = h.ordered; threats = λ x t. omega arith }

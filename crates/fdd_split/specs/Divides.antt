@@ -4,7 +4,7 @@ use Rattle.nk_values.specs.declared.lit.Lit.{Lit}
 use Rattle.nk_values.specs.Lits.{lit_field}
 use Rattle.nk_values.specs.Ranges.{place}
 use Rattle.fdd_nodes.specs.Trees.{Tree, Leaf, Node}
-use Rattle.fdd_store.specs.Made.{IsMade, IsLater}
+use Rattle.fdd_store.specs.Canonical.{IsCanonical, IsLater}
 use Rattle.fdd_store.specs.Results.{Cuts}
 use Rattle.fdd_split.specs.declared.bars.Bar.{Bar}
 use Rattle.fdd_split.specs.declared.bars.Bar.TheVariants.{Place, Literal}
@@ -30,7 +30,7 @@ pub record Doubles (k : List Bar) (a : Tree) (l : Lit) (T E : List Bar → Tree 
   pub first : ComesFirst k a l
   pub before : IsLater l a
   pub part : Tree
-  pub made : IsMade part
+  pub made : IsCanonical part
   pub cuts : Cuts l a part
   pub yes_bars : List Bar
   pub no_bars : List Bar

@@ -7,7 +7,7 @@ use Rattle.nk_values.specs.Held.{Holds}
 use Rattle.nk_values.specs.Members.{EachOnce}
 use Rattle.nk_values.specs.Packets.{IsInRange}
 use Rattle.fdd_nodes.specs.Trees.{Tree, Leaf, Node, answers, SameAnswers, IsOrdered, Tests, Assigns}
-use Rattle.fdd_nodes.specs.Cells.{Respects, open_cell}
+use Rattle.fdd_nodes.specs.Cells.{Respects, whole_cell}
 use Rattle.fdd_nodes.specs.Paths.{Way, IsOnPath, no_tests, with_true, with_false}
 
 -- on each packet in range of the path that passes the test the branches give the same packets as often
@@ -22,7 +22,7 @@ HasNoIdle w (Node l t e) = (¬ IsIdleOn w l t e) × HasNoIdle (with_true w l) t 
 -- The tests are ordered, no leaf assigns what its path fixes, no packet in range is given twice, and no test is idle.
 pub record IsSplit (t : Tree) : Type 0 where
   pub ordered : IsOrdered t
-  pub respects : Respects open_cell t
+  pub respects : Respects whole_cell t
   pub once : (p : Packet) → IsInRange p → EachOnce (answers t p)
   pub needed : HasNoIdle no_tests t
 

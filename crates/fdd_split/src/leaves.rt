@@ -7,7 +7,7 @@ ghost use Rattle.nk_values.specs.Lits.{lit_field};
 ghost use Rattle.nk_values.specs.Members.{IsIn};
 ghost use Rattle.fdd_nodes.specs.Copies.{IsCopy};
 ghost use Rattle.fdd_nodes.specs.Roots.{IsLeaf};
-ghost use Rattle.fdd_store.specs.Made.{IsMade};
+ghost use Rattle.fdd_store.specs.Canonical.{IsCanonical};
 ghost use Rattle.fdd_store.specs.Stores.{Has, tree_at};
 ghost use Rattle.fdd_split.specs.Pairs.{FieldThreat, IsCandidate, IsFirstOf, IsFirstWith};
 ghost use Rattle.fdd_split.specs.Threats.{Threat, KeepsField};
@@ -32,7 +32,7 @@ pub(crate) fn leaf_threat(
 ) -> Result<Option<Lit>, AllocError>
     requires has { Has store.now a }
     requires leaf { IsLeaf (tree_at store.now a) }
-    requires made { IsMade (tree_at store.now a) }
+    requires made { IsCanonical (tree_at store.now a) }
     ensures { IfOk result (λ o. IsFirstOf (Threat bars.now (tree_at store.now a)) o) }
 {
     let copies = store.leaf(a).copies();

@@ -3,7 +3,7 @@
 //! Layer: diagrams; private. Called by `threats`.
 ghost use Rattle.std.specs.Prelude.{IfOk, OnOk, IsTrue};
 ghost use Rattle.fdd_nodes.specs.Roots.{IsLeaf};
-ghost use Rattle.fdd_store.specs.Made.{IsMade};
+ghost use Rattle.fdd_store.specs.Canonical.{IsCanonical};
 ghost use Rattle.fdd_store.specs.Stores.{Has, tree_at};
 ghost use Rattle.fdd_split.specs.Memos.{AreKept, IsPlain};
 
@@ -72,7 +72,7 @@ fn is_single(store: &Store, a: Id) -> bool
 fn is_plain_leaf(alloc: Global, store: &Store, a: Id) -> Result<bool, AllocError>
     requires has { Has store.now a }
     requires leaf { IsLeaf (tree_at store.now a) }
-    requires made { IsMade (tree_at store.now a) }
+    requires made { IsCanonical (tree_at store.now a) }
     ensures { IfOk result (λ b. IsTrue b → IsPlain (tree_at store.now a)) }
 {
     match leaf_threat(alloc, store, &[], a)? {

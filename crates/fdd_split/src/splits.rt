@@ -6,7 +6,7 @@ ghost use Rattle.fdd_nodes.specs.Fdds.{tree_of};
 ghost use Rattle.fdd_nodes.specs.Names.{IsFew};
 ghost use Rattle.fdd_nodes.specs.Trees.{tree};
 ghost use Rattle.fdd_store.specs.Looks.{Forked};
-ghost use Rattle.fdd_store.specs.Made.{IsMade, IsLater};
+ghost use Rattle.fdd_store.specs.Canonical.{IsCanonical, IsLater};
 ghost use Rattle.fdd_store.specs.Stores.{Has, Grows, tree_at};
 ghost use Rattle.fdd_split.specs.Divides.{Divides};
 ghost use Rattle.fdd_split.specs.Memos.{AreKept};
@@ -22,6 +22,14 @@ use fdd_store::{Id, Look, Store};
 use nk_values::Lit;
 use std::alloc::{AllocError, Global};
 use std::rc::Rc;
+
+// The first test of a diagram, and the places of its branches.
+#[derive(Clone, Copy)]
+struct Fork {
+    test: Lit,
+    yes: Id,
+    no: Id,
+}
 
 /// The split diagram that answers as a diagram of a store: no two copies of a leaf give one packet, and no test is
 /// idle.
@@ -103,11 +111,11 @@ fn divide(
 {
     match store.look(a) {
         Look::Leaf => split_by(alloc, store, memo, bars, l, a),
-        Look::Fork(m, t, e) => {
-            if l.precedes(&m) {
+        Look::Fork(test, yes, no) => {
+            if l.precedes(&test) {
                 split_by(alloc, store, memo, bars, l, a)
             } else {
-                split_branches(alloc, store, memo, bars, a, m, t, e)
+                split_branches(alloc, store, memo, bars, a, Fork { test, yes, no })
             }
         }
     }
@@ -121,25 +129,23 @@ fn split_branches(
     memo: &mut Memo,
     bars: &[Bar],
     a: Id,
-    m: Lit,
-    t: Id,
-    e: Id,
+    fork: Fork,
 ) -> Result<Rc<Node>, AllocError>
     requires has { Has store.old a }
     requires kept { AreKept store.old memo.old }
-    requires made { IsMade (tree_at store.old a) }
-    requires forked { Forked store.old m t e (tree_at store.old a) }
+    requires made { IsCanonical (tree_at store.old a) }
+    requires forked { Forked store.old fork.test fork.yes fork.no (tree_at store.old a) }
     requires unbarred { TestsNoBarred bars.now (tree_at store.old a) }
-    requires first { ComesFirst bars.now (tree_at store.old a) m }
+    requires first { ComesFirst bars.now (tree_at store.old a) fork.test }
     ensures grows { Grows store.old store.new }
     ensures kept { OnOk result (AreKept store.new memo.new) }
     ensures divided { IfOk result (λ r. Divides bars.now (tree_at store.old a) (tree r.value)) }
 {
-    let yes_bars = bars_then(alloc, store, bars, &m, t)?;
-    let no_bars = bars_else(alloc, store, bars, &m, e)?;
-    let yes = split_below(alloc, store, memo, &yes_bars, t)?;
-    let no = split_below(alloc, store, memo, &no_bars, e)?;
-    let made = Rc::new(alloc, Node::Test(m, yes, no))?;
+    let yes_bars = bars_then(alloc, store, bars, &fork.test, fork.yes)?;
+    let no_bars = bars_else(alloc, store, bars, &fork.test, fork.no)?;
+    let yes = split_below(alloc, store, memo, &yes_bars, fork.yes)?;
+    let no = split_below(alloc, store, memo, &no_bars, fork.no)?;
+    let made = Rc::new(alloc, Node::Test(fork.test, yes, no))?;
     Ok(made)
 }
 
@@ -155,7 +161,7 @@ fn split_by(
 ) -> Result<Rc<Node>, AllocError>
     requires has { Has store.old a }
     requires kept { AreKept store.old memo.old }
-    requires made { IsMade (tree_at store.old a) }
+    requires made { IsCanonical (tree_at store.old a) }
     requires unbarred { TestsNoBarred bars.now (tree_at store.old a) }
     requires threat { Threat bars.now (tree_at store.old a) l }
     requires first { ComesFirst bars.now (tree_at store.old a) l }

@@ -8,7 +8,7 @@ use Rattle.nk_values.specs.Lits.{lit_field, lit_value}
 use Rattle.nk_values.specs.Packets.{get}
 use Rattle.nk_values.proofs.LitLaws.{same_lit}
 use Rattle.nk_values.proofs.PacketLaws.{get-with_same, get-with_other, field_cases}
-use Rattle.fdd_nodes.specs.Cells.{Agrees, IsOpen, IsFresh, fill}
+use Rattle.fdd_nodes.specs.Cells.{Agrees, IsUnset, IsFresh, fill}
 use Rattle.fdd_nodes.specs.Trees.{Tree, Tests}
 use Rattle.fdd_nodes.proofs.CellLaws.{tells_open, fill_fixed, fill_open}
 use Rattle.fdd_star.specs.declared.fault.StarError.{StarError}
@@ -31,7 +31,7 @@ put_holds l m g h = elim (field_cases (lit_field l) (lit_field m)) [
   | inr d ↦ inr (sym (get-with_other g (lit_field l) (lit_field m) (lit_value l) d) ∙ h)
 ]
 
-pub open_besides : (l : Lit) (c : Packet) (x : Field) → ¬ (lit_field l ≡ x) → IsOpen c x → IsOpen (put l c) x
+pub open_besides : (l : Lit) (c : Packet) (x : Field) → ¬ (lit_field l ≡ x) → IsUnset c x → IsUnset (put l c) x
 open_besides l c x d o = get-with_other c (lit_field l) x (lit_value l) d ∙ o
 
 -- the fault of a cell that is filled
@@ -47,7 +47,7 @@ fault_filled p c g pk out e d = record {
 }
 
 -- that of a cell within another one
-pub fault_within : (p : Tree) (l : Lit) (c g : Packet) (e : StarError) → Tests p l → IsOpen c (lit_field l) → IsErrorIn p (put l c) g e → IsErrorIn p c g e
+pub fault_within : (p : Tree) (l : Lit) (c g : Packet) (e : StarError) → Tests p l → IsUnset c (lit_field l) → IsErrorIn p (put l c) g e → IsErrorIn p c g e
 fault_within p l c g Memory t o h = tt
 fault_within p l c g (Fault f) t o h = record {
   deep = h.deep;
@@ -59,7 +59,7 @@ fault_within p l c g (Fault f) t o h = record {
   ];
 }
 
--- that of what makes the turns there
+-- that of what makes the iterations there
 pub fault_narrowed : (p b : Tree) (c g : Packet) (e : StarError) → IsNarrowed p c b → IsErrorIn b c g e → IsErrorIn p c g e
 fault_narrowed p b c g Memory n h = tt
 fault_narrowed p b c g (Fault f) n h = record {

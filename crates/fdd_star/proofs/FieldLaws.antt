@@ -1,4 +1,4 @@
--- Turns leave a field alone that the diagram never sets.
+-- Iterates leave a field alone that the diagram never sets.
 use Rattle.std.specs.Prelude.{MatchResult, OnOk}
 use Rattle.std.proofs.Common.{◌≡◌, ℕ, zero, suc, inl, inr, sym, ap, ◌∙◌, subst, true, Result, Ok, Err}
 use Rattle.std.proofs.lemmas.Bool.{eqb-true}
@@ -10,13 +10,13 @@ use Rattle.nk_values.specs.Lits.{lit_field, lit_value}
 use Rattle.nk_values.specs.Members.{IsIn}
 use Rattle.nk_values.specs.Packets.{get}
 use Rattle.nk_values.proofs.PacketLaws.{get-with_same, get-with_other, field_cases}
-use Rattle.fdd_nodes.specs.Cells.{Agrees, IsOpen}
+use Rattle.fdd_nodes.specs.Cells.{Agrees, IsUnset}
 use Rattle.fdd_nodes.specs.Names.{IsFew}
 use Rattle.fdd_nodes.specs.Trees.{Tree, Node, leaf_at, answers, SameAnswers}
 use Rattle.fdd_nodes.proofs.CellLaws.{lit_not_free}
 use Rattle.fdd_nodes.proofs.MakesLaws.{source, at_field}
 pub use Rattle.fdd_star.specs.Shared.{id_eq}
-use Rattle.fdd_star.specs.Stars.{Turns, StarOf, IsShallow}
+use Rattle.fdd_star.specs.Stars.{Iterates, StarOf, IsShallow}
 use Rattle.fdd_star.proofs.StarLaws.{few_within, star_shallow}
 use Rattle.fdd_store.specs.Digests.{SetsField}
 use Rattle.fdd_store.specs.Stores.{Kept, Gives, tree_at}
@@ -27,18 +27,18 @@ use Rattle.fdd_store.proofs.MoveLaws.{leaf_assigns}
 pub same_id : (x y : ℕ) → id_eq x y ≡ true → x ≡ y
 same_id x y h = eqb-true _ _ h
 
--- Two diagrams that answer alike where a property holds, which no turn ends, make the same turns there.
+-- Two diagrams that answer alike where a property holds, which no iteration ends, make the same iterations there.
 
 turns_on : (p p' : Tree) (K : Packet → Type 0) → ((pk q : Packet) → K pk → IsIn (answers p pk) q → IsIn (answers p' pk) q) → ((pk q : Packet) → K pk → IsIn (answers p pk) q → K q)
-    → (n : ℕ) (pk out : Packet) → K pk → Turns p n pk out → Turns p' n pk out
+    → (n : ℕ) (pk out : Packet) → K pk → Iterates p n pk out → Iterates p' n pk out
 turns_on p p' K same goes zero pk out k w = w
 turns_on p p' K same goes (suc n) pk out k w = (w.0, same pk w.0 k w.1, turns_on p p' K same goes n w.0 out (goes pk w.0 k w.1) w.2)
 
 module _ (p p' : Tree) (K : Packet → Type 0) (same : (pk : Packet) → K pk → SameAnswers (answers p' pk) (answers p pk)) (goes : (pk q : Packet) → K pk → IsIn (answers p pk) q → K q) where
-  pub turns_to : (n : ℕ) (pk out : Packet) → K pk → Turns p n pk out → Turns p' n pk out
+  pub turns_to : (n : ℕ) (pk out : Packet) → K pk → Iterates p n pk out → Iterates p' n pk out
   turns_to = turns_on p p' K (λ pk q k w. (same pk k).back q w) goes
 
-  pub turns_from : (n : ℕ) (pk out : Packet) → K pk → Turns p' n pk out → Turns p n pk out
+  pub turns_from : (n : ℕ) (pk out : Packet) → K pk → Iterates p' n pk out → Iterates p n pk out
   turns_from = turns_on p' p K (λ pk q k w. (same pk k).front q w) (λ pk q k w. goes pk q k ((same pk k).front q w))
 
 keeps_field : (t : Tree) (f : Field) → ¬ SetsField t f → (pk q : Packet) → IsIn (answers t pk) q → get q f ≡ get pk f
@@ -59,10 +59,10 @@ Held l pk = Holds pk l
 
 -- a packet of a cell within another one
 
-pub agrees_out : (c pk : Packet) (l : Lit) → IsOpen c (lit_field l) → Agrees (put l c) pk → Agrees c pk
+pub agrees_out : (c pk : Packet) (l : Lit) → IsUnset c (lit_field l) → Agrees (put l c) pk → Agrees c pk
 agrees_out c pk l o a = record {
   at = λ f n. elim (field_cases (lit_field l) f) [
-    | inl e ↦ absurd (n (subst (IsOpen c) e o))
+    | inl e ↦ absurd (n (subst (IsUnset c) e o))
     | inr d ↦ let s = get-with_other c (lit_field l) f (lit_value l) d in a.at f (λ z. n (sym s ∙ z)) ∙ s
   ];
 }

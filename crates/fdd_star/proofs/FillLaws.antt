@@ -10,12 +10,12 @@ use Rattle.nk_values.specs.Members.{IsIn}
 use Rattle.nk_values.specs.Packets.{get}
 use Rattle.nk_values.proofs.PacketLaws.{get-with_same, get-with_other, field_cases, same_packet}
 use Rattle.fdd_nodes.specs.Trees.{Tree, Leaf, Node, leaf_at, apply, answers, IsSetBy, Tests, Assigns}
-use Rattle.fdd_nodes.specs.Cells.{Agrees, IsFresh, fill, IsOpen}
+use Rattle.fdd_nodes.specs.Cells.{Agrees, IsFresh, fill, IsUnset}
 use Rattle.fdd_nodes.proofs.CellLaws.{tells_open, lit_not_free, fill_fixed, fill_open}
 use Rattle.fdd_nodes.proofs.MakesLaws.{source, outcome, among_lists}
 use Rattle.fdd_nodes.proofs.SplitLaws.{leaf_at-then, leaf_at-else}
 use Rattle.fdd_star.specs.Asks.{Asks}
-use Rattle.fdd_star.specs.Stars.{Turns}
+use Rattle.fdd_star.specs.Stars.{Iterates}
 
 -- a packet of the cell, filled into the cell's, is itself
 pub fill_agrees : (c pk : Packet) → Agrees c pk → fill c pk ≡ pk
@@ -75,23 +75,23 @@ filled_answer t q z pk h k =
     let among = subst (λ (cs : List (List Lit)). IsIn cs s.copy) (leaf_fill t q pk h) s.among in
     (apply s.copy q, outcome (leaf_at t q) s.copy q among, sym (apply_fill s.copy q pk) ∙ s.makes)
 
--- the packet holds nothing that is asked of any packet which turns reach from q
+-- the packet holds nothing that is asked of any packet which iterations reach from q
 abbrev pub EscapesAll : Tree → Packet → Packet → Type 0
-EscapesAll t q pk = (n : ℕ) (r : Packet) → Turns t n q r → Escapes t r pk
+EscapesAll t q pk = (n : ℕ) (r : Packet) → Iterates t n q r → Escapes t r pk
 
 escapes_next : (t : Tree) (q r pk : Packet) → EscapesAll t q pk → IsIn (answers t q) r → EscapesAll t r pk
 escapes_next t q r pk h k n s w = h (suc n) s (r, k, w)
 
--- turns from q are turns from what is filled into q
-pub turns_filled : (t : Tree) (n : ℕ) (q r pk : Packet) → EscapesAll t q pk → Turns t n q r → Turns t n (fill q pk) (fill r pk)
+-- iterations from q are iterations from what is filled into q
+pub turns_filled : (t : Tree) (n : ℕ) (q r pk : Packet) → EscapesAll t q pk → Iterates t n q r → Iterates t n (fill q pk) (fill r pk)
 turns_filled t zero q r pk h k = ap (λ z. fill z pk) k
 turns_filled t (suc n) q r pk h k = (fill k.0 pk, answer_filled t q k.0 pk (h 0 q refl) k.1, turns_filled t n k.0 r pk (escapes_next t q k.0 pk h k.1) k.2)
 
-pub filled_turns : (t : Tree) (n : ℕ) (q z pk : Packet) → EscapesAll t q pk → Turns t n (fill q pk) z → (r : Packet) × Turns t n q r × (fill r pk ≡ z)
+pub filled_turns : (t : Tree) (n : ℕ) (q z pk : Packet) → EscapesAll t q pk → Iterates t n (fill q pk) z → (r : Packet) × Iterates t n q r × (fill r pk ≡ z)
 filled_turns t zero q z pk h k = (q, refl, k)
 filled_turns t (suc n) q z pk h k =
     let a = filled_answer t q k.0 pk (h 0 q refl) k.1 in
-    let b = filled_turns t n a.0 z pk (escapes_next t q a.0 pk h a.1) (subst (λ (y : Packet). Turns t n y z) (sym a.2) k.2) in
+    let b = filled_turns t n a.0 z pk (escapes_next t q a.0 pk h a.1) (subst (λ (y : Packet). Iterates t n y z) (sym a.2) k.2) in
     (b.0, (a.0, a.1, b.1), b.2)
 
 -- what is asked is tested
@@ -103,14 +103,14 @@ asks_tests (Node l t e) q m h = elim h [
 ]
 
 -- and of a field that nothing fixes
-pub asks_free : (t : Tree) (q : Packet) (m : Lit) → Asks t q m → IsOpen q (lit_field m)
+pub asks_free : (t : Tree) (q : Packet) (m : Lit) → Asks t q m → IsUnset q (lit_field m)
 asks_free (Leaf cs) q m h = absurd h
 asks_free (Node l t e) q m h = elim h [
-  | inl k ↦ subst (λ (x : Lit). IsOpen q (lit_field x)) k.1 k.0
+  | inl k ↦ subst (λ (x : Lit). IsUnset q (lit_field x)) k.1 k.0
   | inr k ↦ elim k [ inl w ↦ asks_free t q m w.1 | inr w ↦ asks_free e q m w.1 ]
 ]
 
--- what turns leave as it was in a field, or assign
+-- what iterations leave as it was in a field, or assign
 abbrev Keeps : Tree → Packet → Packet → Field → Type 0
 Keeps t q r f = (get r f ≡ get q f) ⊎ ((m : Lit) × Assigns t m × (lit_field m ≡ f) × (get r f ≡ lit_value m))
 
@@ -140,7 +140,7 @@ keeps_answer t q r h f =
       | inr w ↦ inr (w.0, leaf_assigns t q w.0 (among_lists (leaf_at t q) s.copy w.0 s.among w.1), w.2, ap (λ z. get z f) (sym s.makes) ∙ w.3)
     ]
 
-keeps_turns : (t : Tree) (n : ℕ) (q r : Packet) → Turns t n q r → (f : Field) → Keeps t q r f
+keeps_turns : (t : Tree) (n : ℕ) (q r : Packet) → Iterates t n q r → (f : Field) → Keeps t q r f
 keeps_turns t zero q r h f = inl (ap (λ z. get z f) (sym h))
 keeps_turns t (suc n) q r h f = elim (keeps_turns t n h.0 r h.2 f) [
   | inl e ↦ elim (keeps_answer t q h.0 h.1 f) [
@@ -150,22 +150,22 @@ keeps_turns t (suc n) q r h f = elim (keeps_turns t n h.0 r h.2 f) [
   | inr w ↦ inr w
 ]
 
--- turns leave no field open that was fixed
-pub turns_free : (t : Tree) (n : ℕ) (q r : Packet) → Turns t n q r → (f : Field) → IsOpen r f → IsOpen q f
+-- iterations leave no field open that was fixed
+pub turns_free : (t : Tree) (n : ℕ) (q r : Packet) → Iterates t n q r → (f : Field) → IsUnset r f → IsUnset q f
 turns_free t n q r h f y = elim (keeps_turns t n q r h f) [
   | inl e ↦ sym e ∙ y
   | inr w ↦ absurd (lit_not_free w.0 (sym w.3 ∙ y))
 ]
 
--- what a fresh packet holds is not what turns put into a field that other turns leave open
-told_apart : (t : Tree) (n k : ℕ) (q r s g : Packet) (f : Field) → IsFresh g t → Turns t n q r → Turns t k q s → IsOpen r f → ¬ IsOpen s f → get g f ≢ get s f
+-- what a fresh packet holds is not what iterations put into a field that other iterations leave open
+told_apart : (t : Tree) (n k : ℕ) (q r s g : Packet) (f : Field) → IsFresh g t → Iterates t n q r → Iterates t k q s → IsUnset r f → ¬ IsUnset s f → get g f ≢ get s f
 told_apart t n k q r s g f fresh hr hs y z e = elim (keeps_turns t k q s hs f) [
   | inl d ↦ z (d ∙ turns_free t n q r hr f y)
   | inr w ↦ fresh.assigned w.0 w.1 (ap (λ h. get g h) w.2 ∙ e ∙ w.3)
 ]
 
--- filled with a fresh packet, different packets that turns reach are different
-pub filled_once : (t : Tree) (n k : ℕ) (q r s g : Packet) → IsFresh g t → Turns t n q r → Turns t k q s → fill r g ≡ fill s g → r ≡ s
+-- filled with a fresh packet, different packets that iterations reach are different
+pub filled_once : (t : Tree) (n k : ℕ) (q r s g : Packet) → IsFresh g t → Iterates t n q r → Iterates t k q s → fill r g ≡ fill s g → r ≡ s
 filled_once t n k q r s g fresh hr hs e = same_packet r s (λ f.
     let ef : get (fill r g) f ≡ get (fill s g) f = ap (λ z. get z f) e in
     elim (tells_open r f) [

@@ -8,7 +8,7 @@ use Rattle.nk_values.specs.Lits.{lit_field, lit_value}
 use Rattle.nk_values.specs.Members.{IsIn}
 use Rattle.nk_values.specs.Packets.{get}
 use Rattle.nk_values.proofs.PacketLaws.{get-with_same, get-with_other, same_packet, field_cases}
-use Rattle.fdd_nodes.specs.Cells.{IsOpen}
+use Rattle.fdd_nodes.specs.Cells.{IsUnset}
 use Rattle.fdd_nodes.specs.Trees.{apply}
 use Rattle.fdd_nodes.proofs.CellLaws.{lit_not_free}
 use Rattle.fdd_star.specs.Reaches.{Follows, HoldsAll}
@@ -48,10 +48,10 @@ first_follows s c h pk = apply_held s (apply s pk) (makes_held s c pk h)
 
 -- a field that the cell leaves open is none of theirs
 
-pub held_apart : (s : List Lit) (c : Packet) (f : Field) → HoldsAll c s → IsOpen c f → (m : Lit) → IsIn s m → ¬ (lit_field m ≡ f)
+pub held_apart : (s : List Lit) (c : Packet) (f : Field) → HoldsAll c s → IsUnset c f → (m : Lit) → IsIn s m → ¬ (lit_field m ≡ f)
 held_apart s c f h o m k e = lit_not_free m (sym (h m k) ∙ ap (get c) e ∙ o)
 
-pub held_within : (s : List Lit) (c : Packet) (l : Lit) → HoldsAll c s → IsOpen c (lit_field l) → HoldsAll (put l c) s
+pub held_within : (s : List Lit) (c : Packet) (l : Lit) → HoldsAll c s → IsUnset c (lit_field l) → HoldsAll (put l c) s
 held_within s c l h o m k = get-with_other c (lit_field l) (lit_field m) (lit_value l) (λ e. held_apart s c (lit_field l) h o m k (sym e)) ∙ h m k
 
 pub apply_apart : (s : List Lit) (pk : Packet) (f : Field) → ((m : Lit) → IsIn s m → ¬ (lit_field m ≡ f)) → get (apply s pk) f ≡ get pk f

@@ -17,7 +17,7 @@ use Rattle.nk_values.specs.Members.{IsIn}
 use Rattle.nk_values.specs.Ranks.{rank, lit_cmp}
 use Rattle.nk_values.proofs.LitLaws.{same_rank}
 use Rattle.nk_values.proofs.MemberLaws.{in-left, in-right, in-either}
-use Rattle.fdd_nodes.specs.Cells.{IsOpen}
+use Rattle.fdd_nodes.specs.Cells.{IsUnset}
 use Rattle.fdd_nodes.specs.Known.{Bars}
 use Rattle.fdd_nodes.specs.Roots.{IsLeaf}
 use Rattle.fdd_nodes.specs.Trees.{Tree, Leaf, Node, leaf_at, apply, outcomes, answers}
@@ -110,7 +110,7 @@ module _ (k : Kept) (q : Packet) (l : Lit) (a x y : Tree) (old new : List Lit) (
     };
   })
 
-  pub walks_open : (mid : List Lit) → IsOpen q (lit_field l) → mid ≡ old ++ l ∷ [] → Walks k y q mid new r → Walks k a q old new r
+  pub walks_open : (mid : List Lit) → IsUnset q (lit_field l) → mid ≡ old ++ l ∷ [] → Walks k y q mid new r → Walks k a q old new r
   walks_open mid o i w = subst (λ (t : Tree). Walks k t q old new r) (sym e) (record {
     leaf = record { has = w.leaf.has; is = w.leaf.is ∙ ap Leaf (sym (leaf_at-else l x y q away)) };
     asked = record {

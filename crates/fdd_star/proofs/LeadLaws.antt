@@ -1,4 +1,4 @@
--- The cells that turns lead to.
+-- The cells that iterations lead to.
 use Rattle.std.proofs.Common.{◌≡◌, ℕ, ◌+◌, ◌<◌, inl, inr, ap, sym, ◌∙◌, subst, arith, Bool, true, false, cond, List, [], ◌∷◌, ◌++◌, length, take, get_or}
 use Rattle.std.proofs.lemmas.List.{append_assoc, append-nil, take_more, take_all, take-append-le}
 use Rattle.std.proofs.lemmas.Option.{slice_get_cases}
@@ -117,16 +117,16 @@ lead_more k d as' bs a cs e h f = record {
 
 pub record Closes (p : Tree) (c : Packet) (n : ℕ) (cs : List Packet) : Type 0 where
   pub first : IsIn cs c
-  pub turn : (d : Packet) → IsIn (take n cs) d → Leads p d cs
+  pub iteration : (d : Packet) → IsIn (take n cs) d → Leads p d cs
 
 pub closes_start : (p : Tree) (c : Packet) (old new : List Packet) → new ≡ insert_key cell_eq old c → Closes p c 0 new
-closes_start p c old new e = record { first = cell_added old new c e; turn = λ d k. absurd k }
+closes_start p c old new e = record { first = cell_added old new c e; iteration = λ d k. absurd k }
 
 pub closes_more : (p : Tree) (c d : Packet) (n : ℕ) (old new : List Packet) → n < length old → get_or old n d ≡ d → Closes p c n old → LeadsOn p d old new → Closes p c (n + 1) new
 closes_more p c d n old new b e h w = record {
   first = in_same _ _ c (sym w.joined) (in-left old w.more c h.first);
-  turn = λ x i. elim (in-either (take n old) (d ∷ []) x (in_same _ _ x taken i)) [
-    | inl u ↦ lead_wider old new w.more w.joined p x (h.turn x u)
+  iteration = λ x i. elim (in-either (take n old) (d ∷ []) x (in_same _ _ x taken i)) [
+    | inl u ↦ lead_wider old new w.more w.joined p x (h.iteration x u)
     | inr u ↦ elim u [ inl s ↦ subst (λ (y : Packet). Leads p y new) s w.leads | inr o ↦ absurd o ]
   ];
 }
@@ -137,7 +137,7 @@ closes_more p c d n old new b e h w = record {
 pub closed_of : (p : Tree) (c : Packet) (n : ℕ) (cs : List Packet) → (n < length cs → ⊥) → Closes p c n cs → IsClosed p c cs
 closed_of p c n cs f h = record {
   first = h.first;
-  turn = λ d i. elim (slice_get_cases cs n).1 [ inl w ↦ absurd (f w.1) | inr w ↦ h.turn d (in_same _ _ d (sym (take_all n cs w.0)) i) ];
+  iteration = λ d i. elim (slice_get_cases cs n).1 [ inl w ↦ absurd (f w.1) | inr w ↦ h.iteration d (in_same _ _ d (sym (take_all n cs w.0)) i) ];
 }
 
 -- a diagram that is gone through

@@ -1,4 +1,4 @@
--- Diagrams that are narrowed to what the turns from a cell can meet.
+-- Diagrams that are narrowed to what the iterations from a cell can meet.
 use Rattle.std.specs.Prelude.{Result, Ok, Err, IfOk}
 use Rattle.std.proofs.Common.{◌≡◌, ℕ, inl, inr, refl, sym, subst, arith, rules, Bool, true, false, not, List, [], ◌∷◌, ◌++◌, length}
 use Rattle.std.proofs.lemmas.Bool.{not-false}
@@ -10,7 +10,7 @@ use Rattle.nk_values.specs.Lits.{lit_field, lit_value}
 use Rattle.nk_values.specs.Members.{IsIn}
 use Rattle.nk_values.specs.Packets.{get}
 use Rattle.nk_values.proofs.MemberLaws.{in-left, in-right, in-either}
-use Rattle.fdd_nodes.specs.Cells.{Agrees, IsOpen}
+use Rattle.fdd_nodes.specs.Cells.{Agrees, IsUnset}
 use Rattle.fdd_nodes.specs.Known.{Knows}
 use Rattle.fdd_nodes.specs.contracts.cell.KnownPartialEq.TheImpl as known_impl
 use Rattle.fdd_nodes.specs.declared.cell.Known.{Known}
@@ -36,7 +36,7 @@ use Rattle.fdd_store.proofs.StoreLaws.{has_grown, tree_grown}
 names_itself : (t : Tree) → IsNamedBy t t
 names_itself t = record { tests = λ m k. k; assigns = λ m k. k }
 
--- a diagram is one that makes its turns
+-- a diagram is one that makes its iterations
 
 pub narrowed_none : (p : Tree) (c : Packet) → IsNarrowed p c p
 narrowed_none p c = record { has = λ n pk out a w. w; only = λ n pk out a w. w; names = names_itself p }
@@ -52,7 +52,7 @@ narrowed_on p c cs r h o = record {
     start pk a = record { cell = c; there = h.first; agrees = a }
 
     goes : (pk q : Packet) → Among cs pk → IsIn (answers p pk) q → Among cs q
-    goes pk q w k = (h.turn w.cell w.there).to pk q w.agrees k
+    goes pk q w k = (h.iteration w.cell w.there).to pk q w.agrees k
 
 -- so its stars are those of the diagram
 
@@ -62,18 +62,18 @@ star_narrowed f p b c ls r h s = record {
   all = λ n pk out a miss k. s.all n pk out a miss (h.has n pk out a k);
   normal = s.normal;
   names = record { tests = λ m k. h.names.tests m (s.names.tests m k); assigns = λ m k. elim (s.names.assigns m k) [ inl w ↦ inl w | inr w ↦ inr (h.names.assigns m w) ] };
-  is_open = s.is_open;
+  is_unset = s.is_unset;
   first = s.first;
 }
 
-pub narrowed_within : (p b : Tree) (c : Packet) (l : Lit) → IsOpen c (lit_field l) → IsNarrowed p c b → IsNarrowed p (put l c) b
+pub narrowed_within : (p b : Tree) (c : Packet) (l : Lit) → IsUnset c (lit_field l) → IsNarrowed p c b → IsNarrowed p (put l c) b
 narrowed_within p b c l o h = record {
   has = λ n pk out a. h.has n pk out (agrees_out c pk l o a);
   only = λ n pk out a. h.only n pk out (agrees_out c pk l o a);
   names = h.names;
 }
 
--- and no turn changes a field that it never sets
+-- and no iteration changes a field that it never sets
 pub narrowed_where : (p q : Tree) (c : Packet) (l : Lit) → (¬ SetsField p (lit_field l)) → CofactorOf l p q → IsNarrowed p (put l c) q
 narrowed_where p q c l n f = record {
   has = λ j pk out a. turns_to p q (Held l) f.answer (holds_on p l n) j pk out (agrees_holds c pk l a);

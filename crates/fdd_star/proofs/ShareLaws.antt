@@ -10,13 +10,13 @@ use Rattle.nk_values.specs.Members.{IsIn}
 use Rattle.nk_values.specs.Packets.{get}
 use Rattle.nk_values.proofs.LitLaws.{same_lit}
 use Rattle.nk_values.proofs.PacketLaws.{get-with_same, get-with_other, field_cases, same_packet}
-use Rattle.fdd_nodes.specs.Cells.{Agrees, IsOpen}
+use Rattle.fdd_nodes.specs.Cells.{Agrees, IsUnset}
 use Rattle.fdd_nodes.specs.Trees.{Tree, Leaf, Node, leaf_at, apply, answers, SameAnswers, Assigns}
 use Rattle.fdd_nodes.proofs.CellLaws.{agrees_with}
 use Rattle.fdd_nodes.proofs.MakesLaws.{source, outcome, among_lists}
 use Rattle.fdd_nodes.proofs.SplitLaws.{leaf_at-then, leaf_at-else}
 use Rattle.fdd_star.specs.Reaches.{HoldsAll, Misses, StarBut}
-use Rattle.fdd_star.specs.Stars.{Turns}
+use Rattle.fdd_star.specs.Stars.{Iterates}
 use Rattle.fdd_star.proofs.FaultLaws.{open_besides, put_holds}
 use Rattle.fdd_star.proofs.FillLaws.{leaf_assigns}
 use Rattle.fdd_star.proofs.FirstLaws.{held_apart, put_held}
@@ -110,33 +110,33 @@ module _ (i j : Lit) (field : lit_field j ≡ lit_field i) where
           (apply o.copy x, outcome (leaf_at p x) o.copy x o.among, subst (Stands (apply o.copy x)) (ap (apply o.copy) w.1 ∙ o.makes) (copy_stands p x x y o.copy (λ m k. k) o.among s))
     ]
 
-    turns_to : (n : ℕ) (x y z : Packet) → Stands x y → Turns p n x z → (r : Packet) × Turns p n y r × Stands z r
+    turns_to : (n : ℕ) (x y z : Packet) → Stands x y → Iterates p n x z → (r : Packet) × Iterates p n y r × Stands z r
     turns_to zero x y z s k = (y, refl, subst (λ (v : Packet). Stands v y) k s)
     turns_to (suc n) x y z s k = let a = answer_to x y k.0 s k.1 in let b = turns_to n k.0 a.0 z a.2 k.2 in (b.0, (a.0, a.1, b.1), b.2)
 
-    turns_from : (n : ℕ) (x y r : Packet) → Stands x y → Turns p n y r → (z : Packet) × Turns p n x z × Stands z r
+    turns_from : (n : ℕ) (x y r : Packet) → Stands x y → Iterates p n y r → (z : Packet) × Iterates p n x z × Stands z r
     turns_from zero x y r s k = (x, refl, subst (Stands x) k s)
     turns_from (suc n) x y r s k = let a = answer_from x y k.0 s k.1 in let b = turns_from n a.0 k.0 r a.2 k.2 in (b.0, (a.0, a.1, b.1), b.2)
 
   -- so the part where i holds is the part where j holds
   module _ (first : List Lit) (p q : Tree) (c : Packet) (ls : List Lit) (r : Tree) (held_first : HoldsAll c first) (at_i : (x : Packet) → Holds x i → SameAnswers (answers q x) (answers p x)) (at_j : (x : Packet) → Holds x j → SameAnswers (answers q x) (answers p x))
-      (assigns : (m : Lit) → Assigns q m → Assigns p m) (past : LeavesOut (lit_field i) q) (unset : ¬ Assigns p i) (o : IsOpen c (lit_field i)) (h : StarBut first p (put i c) ls r) where
+      (assigns : (m : Lit) → Assigns q m → Assigns p m) (past : LeavesOut (lit_field i) q) (unset : ¬ Assigns p i) (o : IsUnset c (lit_field i)) (h : StarBut first p (put i c) ls r) where
     itself : (x : Packet) → SameAnswers (answers r x) (answers r x)
     itself x = record { front = λ z k. k; back = λ z k. k }
 
     outside : LeavesOut (lit_field i) r
-    outside m k e = (open_within c i (lit_field m) (h.is_open m k)).0 (sym e)
+    outside m k e = (open_within c i (lit_field m) (h.is_unset m k)).0 (sym e)
 
     unset_too : ¬ Assigns r i
     unset_too w = elim (h.names.assigns i w) [ inl v ↦ held_apart first c (lit_field i) held_first o i v refl | inr v ↦ unset v ]
 
-    moved : (m : Lit) → IsOpen (put i c) (lit_field m) → IsOpen (put j c) (lit_field m)
+    moved : (m : Lit) → IsUnset (put i c) (lit_field m) → IsUnset (put j c) (lit_field m)
     moved m w = let v = open_within c i (lit_field m) w in open_besides j c (lit_field m) (λ e. v.0 (sym field ∙ e)) v.1
 
     inner : (pk : Packet) → Agrees (put j c) pk → Agrees (put i c) (put i pk)
     inner pk a =
-        let b = agrees_out c pk j (subst (IsOpen c) (sym field) o) a in
-        agrees_with c (put i pk) i (get-with_same pk (lit_field i) (lit_value i)) (record { at = λ f n. get-with_other pk (lit_field i) f (lit_value i) (λ e. n (subst (IsOpen c) e o)) ∙ b.at f n })
+        let b = agrees_out c pk j (subst (IsUnset c) (sym field) o) a in
+        agrees_with c (put i pk) i (get-with_same pk (lit_field i) (lit_value i)) (record { at = λ f n. get-with_other pk (lit_field i) f (lit_value i) (λ e. n (subst (IsUnset c) e o)) ∙ b.at f n })
 
     misses : (pk : Packet) → Misses (put j c) ls pk → Misses (put i c) ls (put i pk)
     misses pk miss m k w held = elim (put_holds i m pk held) [ inl e ↦ (open_within c i (lit_field m) w).0 (ap lit_field e) | inr u ↦ miss m k (moved m w) u ]
@@ -150,14 +150,14 @@ module _ (i j : Lit) (field : lit_field j ≡ lit_field i) where
           let x = answer_from r r (λ v _. itself v) (λ v _. itself v) (λ m w. w) outside unset_too (put i pk) pk out (stands pk (held pk a)) k in
           let w = h.made (put i pk) x.0 (inner pk a) (misses pk miss) x.1 in
           let y = turns_to p q at_i at_j assigns past unset w.0 (put i pk) pk x.0 (stands pk (held pk a)) w.2 in
-          (w.0, w.1, subst (Turns p w.0 pk) (stands_once x.0 y.0 out y.2 x.2) y.1);
+          (w.0, w.1, subst (Iterates p w.0 pk) (stands_once x.0 y.0 out y.2 x.2) y.1);
       all = λ n pk out a miss k.
           let x = turns_from p q at_i at_j assigns past unset n (put i pk) pk out (stands pk (held pk a)) k in
           let y = answer_to r r (λ v _. itself v) (λ v _. itself v) (λ m w. w) outside unset_too (put i pk) pk x.0 (stands pk (held pk a)) (h.all n (put i pk) x.0 (inner pk a) (misses pk miss) x.1) in
           subst (IsIn (answers r pk)) (stands_once x.0 y.0 out y.2 x.2) y.1;
       normal = h.normal;
       names = h.names;
-      is_open = λ m k. moved m (h.is_open m k);
+      is_unset = λ m k. moved m (h.is_unset m k);
       first = h.first;
     }
       where

@@ -14,7 +14,7 @@ use Rattle.nk_values.specs.Lits.{lit_field}
 use Rattle.nk_values.specs.Members.{IsIn}
 use Rattle.nk_values.specs.Ranks.{lit_eq}
 use Rattle.nk_values.proofs.MemberLaws.{in-either}
-use Rattle.fdd_nodes.specs.Cells.{IsOpen}
+use Rattle.fdd_nodes.specs.Cells.{IsUnset}
 use Rattle.fdd_nodes.specs.Trees.{Tree, Assigns}
 use Rattle.fdd_star.specs.declared.shared.Shared.{Shared}
 use Rattle.fdd_star.specs.Kept.{EachIs}
@@ -64,7 +64,7 @@ shared_moved k first p c ls ms l s t e turns h = elim turns.kept [
 ]
 
 -- the part where a literal holds is that of the others of which the same is left
-pub shared_of : (k : Kept) (first : List Lit) (p : Tree) (c : Packet) (ls : List Lit) (l : Lit) (q a : ℕ) → HoldsAll c first → Has k q → CofactorOf l p (tree_at k q) → LeavesOut (lit_field l) (tree_at k q) → ¬ Assigns p l → IsOpen c (lit_field l) → Gives k a (StarBut first p (put l c) ls) → IsShared k first p c ls (lit_field l) q a
+pub shared_of : (k : Kept) (first : List Lit) (p : Tree) (c : Packet) (ls : List Lit) (l : Lit) (q a : ℕ) → HoldsAll c first → Has k q → CofactorOf l p (tree_at k q) → LeavesOut (lit_field l) (tree_at k q) → ¬ Assigns p l → IsUnset c (lit_field l) → Gives k a (StarBut first p (put l c) ls) → IsShared k first p c ls (lit_field l) q a
 shared_of k first p c ls l q a held has w out unset o g = record {
   has = has;
   star = λ j e v. gives_as _ _ _ _ (λ r x. star_shared l j e first p (tree_at k q) c ls r held w.answer v.answer w.assigns out unset o x) g;
@@ -75,7 +75,7 @@ shared_kept k first p c ls s t q a e e' h w = subst (λ (f : Field). EachIs (IsS
 
 -- tests that were asked, one by one
 
--- ms is old and behind it left, which is of what was asked; the rest is of it too, and there is no more of it
+-- ms is old and after it left, which is of what was asked; the rest is of it too, and there is no more of it
 pub record Lists (old asked ms rest left : List Lit) : Type 0 where
   pub joined : ms ≡ old ++ left
   pub has : (m : Lit) → IsIn asked m → IsIn ms m ⊎ IsIn rest m

@@ -11,7 +11,7 @@ use Rattle.nk_values.specs.Packets.{get}
 use Rattle.nk_values.proofs.MemberLaws.{in-either, in-left, in-right}
 use Rattle.nk_values.proofs.PacketLaws.{get-with_same, get-with_other, field_cases}
 use Rattle.fdd_nodes.specs.Trees.{Tree, Leaf, Node, apply, outcomes, SameAnswers, IsSetBy, Tests, Assigns}
-use Rattle.fdd_nodes.specs.Cells.{open_cell, fill, Agrees, IsOpen}
+use Rattle.fdd_nodes.specs.Cells.{whole_cell, fill, Agrees, IsUnset}
 use Rattle.fdd_nodes.specs.Names.{literals, AreFew, IsFew}
 use Rattle.fdd_nodes.proofs.CellLaws.{lit_not_free, agrees_with, open_agrees, get-open}
 use Rattle.fdd_nodes.proofs.MakesLaws.{source, outcome}
@@ -20,7 +20,7 @@ use Rattle.fdd_store.specs.Operations.{ChoiceOf}
 use Rattle.fdd_star.specs.declared.reach.Reach.{Reach}
 use Rattle.fdd_star.specs.Asks.{Asks}
 use Rattle.fdd_star.specs.Reaches.{reached_copies, asked_of, HoldsAll, IsClosed, IsNamedBy, NamesOf, Misses, StarBut}
-use Rattle.fdd_star.specs.Stars.{Turns, StarOf, IsShallow}
+use Rattle.fdd_star.specs.Stars.{Iterates, StarOf, IsShallow}
 use Rattle.fdd_star.proofs.FirstLaws.{apply_apart, held_apart}
 use Rattle.fdd_star.proofs.FillLaws.{EscapesAll, fill_agrees, apply_fill, turns_filled, filled_turns}
 
@@ -69,15 +69,15 @@ star_leaf f p c r cs h s = record {
       let w = h.made o.copy (s.front o.copy o.among) in
       let turns = turns_filled p w.0 c (apply o.copy c) pk (escapes pk miss) w.2 in
       let same = sym (apply_fill o.copy c pk) ∙ ap (apply o.copy) (fill_agrees c pk g) ∙ o.makes in
-      (w.0, w.1, subst (λ (z : Packet). Turns p w.0 z out) (fill_agrees c pk g) (subst (Turns p w.0 (fill c pk)) same turns));
+      (w.0, w.1, subst (λ (z : Packet). Iterates p w.0 z out) (fill_agrees c pk g) (subst (Iterates p w.0 (fill c pk)) same turns));
   all = λ n pk out g miss k.
-      let w = filled_turns p n c out pk (escapes pk miss) (subst (λ (z : Packet). Turns p n z out) (sym (fill_agrees c pk g)) k) in
+      let w = filled_turns p n c out pk (escapes pk miss) (subst (λ (z : Packet). Iterates p n z out) (sym (fill_agrees c pk g)) k) in
       let o = source (reached_copies r) c w.0 (h.all n w.0 w.1) in
       let same = ap (apply o.copy) (sym (fill_agrees c pk g)) ∙ apply_fill o.copy c pk ∙ ap (λ z. fill z pk) o.makes ∙ w.2 in
       subst (IsIn (outcomes cs pk)) same (outcome cs o.copy pk (s.back o.copy o.among));
   normal = record { ordered = tt; respects = λ m k z. lit_not_free m (sym z ∙ get-open (lit_field m)); tight = tt };
   names = named_leaf f p c r cs h s;
-  is_open = λ m k. absurd k;
+  is_unset = λ m k. absurd k;
   first = λ pk. record {
     front = λ z k.
         let o = source cs pk z k in
@@ -92,24 +92,24 @@ star_leaf f p c r cs h s = record {
     escapes pk miss n q w m k =
         let o = source (reached_copies r) c q (h.all n q w) in
         let i = h.asks o.copy m o.among (subst (λ (z : Packet). Asks p z m) (sym o.makes) k) in
-        miss m i (h.is_open m i)
+        miss m i (h.is_unset m i)
 
 -- an open field of a cell with a literal
 
-pub open_within : (c : Packet) (l : Lit) (x : Field) → IsOpen (put l c) x → (¬ (lit_field l ≡ x)) × IsOpen c x
+pub open_within : (c : Packet) (l : Lit) (x : Field) → IsUnset (put l c) x → (¬ (lit_field l ≡ x)) × IsUnset c x
 open_within c l x o = elim (field_cases (lit_field l) x) [
-  | inl e ↦ absurd (lit_not_free l (sym (get-with_same c (lit_field l) (lit_value l)) ∙ subst (IsOpen (put l c)) (sym e) o))
+  | inl e ↦ absurd (lit_not_free l (sym (get-with_same c (lit_field l) (lit_value l)) ∙ subst (IsUnset (put l c)) (sym e) o))
   | inr d ↦ (d, sym (get-with_other c (lit_field l) x (lit_value l) d) ∙ o)
 ]
 
 -- with fewer literals of open fields that may be held
-pub star_as : (s : List Lit) (p : Tree) (c : Packet) (ls ms : List Lit) (r : Tree) → ((m : Lit) → IsIn ls m → IsOpen c (lit_field m) → IsIn ms m) → StarBut s p c ls r → StarBut s p c ms r
+pub star_as : (s : List Lit) (p : Tree) (c : Packet) (ls ms : List Lit) (r : Tree) → ((m : Lit) → IsIn ls m → IsUnset c (lit_field m) → IsIn ms m) → StarBut s p c ls r → StarBut s p c ms r
 star_as s p c ls ms r f h = record {
   made = λ pk out g miss k. h.made pk out g (λ m i o. miss m (f m i o) o) k;
   all = λ n pk out g miss k. h.all n pk out g (λ m i o. miss m (f m i o) o) k;
   normal = h.normal;
   names = h.names;
-  is_open = h.is_open;
+  is_unset = h.is_unset;
   first = h.first;
 }
 
@@ -117,7 +117,7 @@ star_as s p c ls ms r f h = record {
 around : (ws xs ys zs : List Packet) → SameAnswers ws xs → SameAnswers xs ys → SameAnswers zs ys → SameAnswers ws zs
 around ws xs ys zs g h k = record { front = λ x i. k.back x (h.front x (g.front x i)); back = λ x i. g.back x (h.back x (k.front x i)) }
 
-pub star_more : (s : List Lit) (p : Tree) (c : Packet) (ls ms : List Lit) (l : Lit) (a b r : Tree) → HoldsAll c s → Tests p l → IsOpen c (lit_field l) → ls ≡ ms ++ l ∷ [] → StarBut s p (put l c) ms a → StarBut s p c ls b → ChoiceOf l a b r → StarBut s p c ms r
+pub star_more : (s : List Lit) (p : Tree) (c : Packet) (ls ms : List Lit) (l : Lit) (a b r : Tree) → HoldsAll c s → Tests p l → IsUnset c (lit_field l) → ls ≡ ms ++ l ∷ [] → StarBut s p (put l c) ms a → StarBut s p c ls b → ChoiceOf l a b r → StarBut s p c ms r
 star_more s p c ls ms l a b r held tested o e ha hb choice = record {
   made = λ pk out g miss k. elim (eqb_tells (get pk (lit_field l)) (lit_value l)) [
     | inl y ↦ ha.made pk out (agrees_with c pk l y.1 g) (within pk miss) ((choice.yes pk y.1).front out k)
@@ -135,9 +135,9 @@ star_more s p c ls ms l a b r held tested o e ha hb choice = record {
     ];
     assigns = λ m k. elim (choice.assigns m k) [ inl u ↦ ha.names.assigns m u | inr u ↦ hb.names.assigns m u ];
   };
-  is_open = λ m k. elim (choice.tests m k) [
-    | inl v ↦ subst (λ (x : Lit). IsOpen c (lit_field x)) v o
-    | inr v ↦ elim v [ inl u ↦ (open_within c l (lit_field m) (ha.is_open m u)).1 | inr u ↦ hb.is_open m u ]
+  is_unset = λ m k. elim (choice.tests m k) [
+    | inl v ↦ subst (λ (x : Lit). IsUnset c (lit_field x)) v o
+    | inr v ↦ elim v [ inl u ↦ (open_within c l (lit_field m) (ha.is_unset m u)).1 | inr u ↦ hb.is_unset m u ]
   ];
   first = λ pk. elim (eqb_tells (get pk (lit_field l)) (lit_value l)) [
     | inl y ↦ around _ _ _ _ (choice.yes pk y.1) (ha.first pk) (choice.yes (apply s pk) (stands pk ∙ y.1))
@@ -182,7 +182,7 @@ ended_few s p l a b few tested ha hb =
     assigns : (m : Lit) → Assigns (Node l a b) m → IsIn s m ⊎ Assigns p m
     assigns m k = elim k [ inl w ↦ ha.assigns m w | inr w ↦ hb.assigns m w ]
 
-pub star_of : (s : List Lit) (p : Tree) (c : Packet) (ls : List Lit) (r : Tree) → s ≡ [] → c ≡ open_cell → ls ≡ [] → StarBut s p c ls r → StarOf p r
+pub star_of : (s : List Lit) (p : Tree) (c : Packet) (ls : List Lit) (r : Tree) → s ≡ [] → c ≡ whole_cell → ls ≡ [] → StarBut s p c ls r → StarOf p r
 star_of s p c ls r first e none h = record {
   made = λ pk out k. h.made pk out (agrees pk) (misses pk) k;
   all = λ n pk out _ k. h.all n pk out (agrees pk) (misses pk) k;

@@ -1,4 +1,4 @@
--- Turns, counted.
+-- Iterates, counted.
 use Rattle.std.proofs.Common.{◌≡◌, ℕ, zero, suc, ◌+◌, ◌<◌, ◌≤◌, ◌⊎◌, inl, inr, refl, ap, sym, ◌∙◌, subst, arith, List, [], ◌∷◌, ◌++◌, take, drop, length, get_or, add-one}
 use Rattle.std.proofs.lemmas.List.{take-append-drop, length-append}
 use Rattle.std.proofs.Math.Seq.{take-append_seam, drop-append_seam, take-length}
@@ -13,18 +13,18 @@ use Rattle.nk_values.specs.Lits.{lit_field}
 use Rattle.nk_values.specs.Packets.{IsInRange}
 use Rattle.fdd_nodes.specs.Cells.{IsFresh, IsValid, fill}
 use Rattle.fdd_nodes.proofs.CellLaws.{fill_in_range}
-use Rattle.fdd_star.specs.Reaches.{reached_copies, Follows, HoldsAll, Starts, Grows, Fewer, Turned, IsClosed}
-use Rattle.fdd_star.specs.Stars.{Turns, IsDeep}
+use Rattle.fdd_star.specs.Reaches.{reached_copies, Follows, HoldsAll, Starts, Grows, Fewer, IsIterated, IsClosed}
+use Rattle.fdd_star.specs.Stars.{Iterates, IsDeep}
 use Rattle.fdd_star.proofs.FirstLaws.{apply_held, first_follows}
 use Rattle.fdd_star.proofs.FillLaws.{asks_free, asks_tests, turns_free, turns_filled, filled_turns, filled_once, fresh_escapes}
 
--- a turn more at the end
-pub turn_more : (p : Tree) (n : ℕ) (q r s : Packet) → Turns p n q r → IsIn (answers p r) s → Turns p (suc n) q s
+-- a iteration more at the end
+pub turn_more : (p : Tree) (n : ℕ) (q r s : Packet) → Iterates p n q r → IsIn (answers p r) s → Iterates p (suc n) q s
 turn_more p zero q r s h k = (s, subst (λ (x : Packet). IsIn (answers p x) s) (sym h) k, refl)
 turn_more p (suc n) q r s h k = (h.0, h.1, turn_more p n h.0 r s h.2 k)
 
--- the last of some turns
-pub last_turn : (p : Tree) (n : ℕ) (q s : Packet) → Turns p (suc n) q s → (r : Packet) × Turns p n q r × IsIn (answers p r) s
+-- the last of some iterations
+pub last_turn : (p : Tree) (n : ℕ) (q s : Packet) → Iterates p (suc n) q s → (r : Packet) × Iterates p n q r × IsIn (answers p r) s
 last_turn p zero q s h = (q, refl, subst (IsIn (answers p q)) h.2 h.1)
 last_turn p (suc n) q s h = let w = last_turn p n h.0 s h.2 in (w.0, (h.0, h.1, w.1), w.2)
 
@@ -49,8 +49,8 @@ fewer_more p n c q h = (h.0, (let b = h.1 in omega (arith, b)), h.2)
 fewer_turn : (p : Tree) (n : ℕ) (c q r : Packet) → Fewer p n c q → IsIn (answers p q) r → Fewer p (suc n) c r
 fewer_turn p n c q r h k = (suc h.0, (let b = h.1 in omega (arith, b)), turn_more p h.0 c q r h.2 k)
 
--- nothing more is reached by the next turn from what fewer than n turns reach
-pub turned_start : (f : List Lit) (p : Tree) (c : Packet) (r : Reach) → HoldsAll c f → Starts f c r → Turned f p c 0 0 r
+-- nothing more is reached by the next iteration from what fewer than n iterations reach
+pub turned_start : (f : List Lit) (p : Tree) (c : Packet) (r : Reach) → HoldsAll c f → Starts f c r → IsIterated f p c 0 0 r
 turned_start f p c r held s = record {
   told = s.told;
   within = omega arith;
@@ -61,16 +61,16 @@ turned_start f p c r held s = record {
   named = λ x m h k. elim (in_same _ _ x s.copies h) [ inl e ↦ inl (in_same _ _ m (sym e) k) | inr n ↦ absurd n ];
   follows = λ x h. elim (in_same _ _ x s.copies h) [ inl e ↦ subst (Follows f) e (first_follows f c held) | inr n ↦ absurd n ];
   asks = λ x m h k. absurd h;
-  is_open = λ m h. absurd (in_same _ _ m s.asked h);
+  is_unset = λ m h. absurd (in_same _ _ m s.asked h);
   tests = λ m h. absurd (in_same _ _ m s.asked h);
 }
   where
-    no_turn : (p : Tree) (k : ℕ) (c q : Packet) → k ≤ 0 → Turns p k c q → c ≡ q
+    no_turn : (p : Tree) (k : ℕ) (c q : Packet) → k ≤ 0 → Iterates p k c q → c ≡ q
     no_turn p zero c q b h = h
     no_turn p (suc k) c q b h = absurd (omega (arith, b))
 
--- all that one turn more reaches is noted
-turned_all : (f : List Lit) (p : Tree) (c : Packet) (n place : ℕ) (r s : Reach) → Turned f p c n place r → Grows p c (drop place (reached_copies r)) r s → (k : ℕ) (q : Packet) → k < suc (suc n) → Turns p k c q → IsIn (outcomes (reached_copies s) c) q
+-- all that one iteration more reaches is noted
+turned_all : (f : List Lit) (p : Tree) (c : Packet) (n place : ℕ) (r s : Reach) → IsIterated f p c n place r → Grows p c (drop place (reached_copies r)) r s → (k : ℕ) (q : Packet) → k < suc (suc n) → Iterates p k c q → IsIn (outcomes (reached_copies s) c) q
 turned_all f p c n place r s t g zero q b h = outcome_in _ _ c q (sym g.joined) (outcome_left _ _ c q (t.all q (0, omega arith, h)))
 turned_all f p c n place r s t g (suc k) q b h =
     let w = last_turn p k c q h in
@@ -81,7 +81,7 @@ turned_all f p c n place r s t g (suc k) q b h =
       | inr i ↦ g.has o.copy q i step
     ]
 
-pub turned_more : (f : List Lit) (p : Tree) (c : Packet) (n place : ℕ) (r s : Reach) → Turned f p c n place r → Grows p c (drop place (reached_copies r)) r s → Turned f p c (suc n) (length (reached_copies r)) s
+pub turned_more : (f : List Lit) (p : Tree) (c : Packet) (n place : ℕ) (r s : Reach) → IsIterated f p c n place r → Grows p c (drop place (reached_copies r)) r s → IsIterated f p c (suc n) (length (reached_copies r)) s
 turned_more f p c n place r s t g =
     let front = ap (take (length (reached_copies r))) g.joined ∙ take-append_seam (reached_copies r) g.more in
     let behind = ap (drop (length (reached_copies r))) g.joined ∙ drop-append_seam (reached_copies r) g.more in
@@ -108,24 +108,24 @@ turned_more f p c n place r s t g =
         | inl i ↦ g.kept m (t.asks x m i k)
         | inr i ↦ g.asks x m i k
       ];
-      is_open = λ m h. elim (g.asked m h) [
-        | inl i ↦ t.is_open m i
+      is_unset = λ m h. elim (g.asked m h) [
+        | inl i ↦ t.is_unset m i
         | inr i ↦ let w = t.made i.0 (from_drop i.0 i.1) in turns_free p w.0 c (apply i.0 c) w.2 (lit_field m) (asks_free p (apply i.0 c) m i.2)
       ];
       tests = λ m h. elim (g.asked m h) [ inl i ↦ t.tests m i | inr i ↦ asks_tests p (apply i.0 c) m i.2 ];
     }
 
--- where the last turn added nothing, no number of turns does
-closed_all : (f : List Lit) (p : Tree) (c : Packet) (n : ℕ) (r : Reach) → Turned f p c n (length (reached_copies r)) r → (k : ℕ) (q : Packet) → Turns p k c q → IsIn (outcomes (reached_copies r) c) q
+-- where the last iteration added nothing, no number of iterations does
+closed_all : (f : List Lit) (p : Tree) (c : Packet) (n : ℕ) (r : Reach) → IsIterated f p c n (length (reached_copies r)) r → (k : ℕ) (q : Packet) → Iterates p k c q → IsIn (outcomes (reached_copies r) c) q
 closed_all f p c n r t zero q h = t.all q (0, omega arith, h)
 closed_all f p c n r t (suc k) q h =
     let w = last_turn p k c q h in
     let o = source (reached_copies r) c w.0 (closed_all f p c n r t k w.0 w.1) in
     t.all q (fewer_turn p n c (apply o.copy c) q (t.early o.copy (in_same _ _ o.copy (sym (take-length (reached_copies r))) o.among)) (subst (λ (y : Packet). IsIn (answers p y) q) (sym o.makes) w.2))
 
-pub closed_of : (f : List Lit) (p : Tree) (c : Packet) (n place : ℕ) (r : Reach) → n ≤ 513 → place ≡ length (reached_copies r) → Turned f p c n place r → IsClosed f p c r
+pub closed_of : (f : List Lit) (p : Tree) (c : Packet) (n place : ℕ) (r : Reach) → n ≤ 513 → place ≡ length (reached_copies r) → IsIterated f p c n place r → IsClosed f p c r
 closed_of f p c n place r b e t' =
-    let t = subst (λ (k : ℕ). Turned f p c n k r) e t' in
+    let t = subst (λ (k : ℕ). IsIterated f p c n k r) e t' in
     let whole : (x : List Lit) → IsIn (reached_copies r) x → IsIn (take (length (reached_copies r)) (reached_copies r)) x = λ x h. in_same _ _ x (sym (take-length (reached_copies r))) h in
     record {
       made = λ x h. let w = t.early x (whole x h) in (w.0, (let k = w.1 in omega (arith, k, b)), w.2);
@@ -133,12 +133,12 @@ closed_of f p c n place r b e t' =
       named = t.named;
       follows = t.follows;
       asks = λ x m h k. t.asks x m (whole x h) k;
-      is_open = t.is_open;
+      is_unset = t.is_unset;
       tests = t.tests;
     }
 
--- what a turn more than 512 adds is late, also for the packet that is filled with a fresh one
-pub deep_of : (f : List Lit) (p : Tree) (c : Packet) (place : ℕ) (r : Reach) (x : List Lit) (g : Packet) → IsValid c → IsInRange g → IsFresh g p → Turned f p c 513 place r → IsIn (drop place (reached_copies r)) x → IsDeep p (fill c g) (fill (apply x c) g)
+-- what a iteration more than 512 adds is late, also for the packet that is filled with a fresh one
+pub deep_of : (f : List Lit) (p : Tree) (c : Packet) (place : ℕ) (r : Reach) (x : List Lit) (g : Packet) → IsValid c → IsInRange g → IsFresh g p → IsIterated f p c 513 place r → IsIn (drop place (reached_copies r)) x → IsDeep p (fill c g) (fill (apply x c) g)
 deep_of f p c place r x g v range fresh t h =
     let w = t.made x (in_same _ _ x (take-append-drop place (reached_copies r)) (in-right (take place (reached_copies r)) (drop place (reached_copies r)) x h)) in
     record {
@@ -147,13 +147,13 @@ deep_of f p c place r x g v range fresh t h =
       late = λ k.
           let z = filled_turns p k.0 c (fill (apply x c) g) g (fresh_escapes p c g fresh) k.2 in
           let same = filled_once p k.0 w.0 c z.0 (apply x c) g fresh z.1 w.2 z.2 in
-          t.late x h (k.0, (let b = k.1 in omega (arith, b)), subst (Turns p k.0 c) same z.1);
+          t.late x h (k.0, (let b = k.1 in omega (arith, b)), subst (Iterates p k.0 c) same z.1);
     }
 
 -- the same, as a loop has it
 
-pub turned_next : (f : List Lit) (p : Tree) (c : Packet) (n place until : ℕ) (r s : Reach) → until ≡ length (reached_copies r) → Turned f p c n place r → Grows p c (drop place (reached_copies r)) r s → Turned f p c (n + 1) until s
-turned_next f p c n place until r s e t g = subst (λ (k : ℕ). Turned f p c k until s) (sym (add-one n)) (subst (λ (k : ℕ). Turned f p c (suc n) k s) (sym e) (turned_more f p c n place r s t g))
+pub turned_next : (f : List Lit) (p : Tree) (c : Packet) (n place until : ℕ) (r s : Reach) → until ≡ length (reached_copies r) → IsIterated f p c n place r → Grows p c (drop place (reached_copies r)) r s → IsIterated f p c (n + 1) until s
+turned_next f p c n place until r s e t g = subst (λ (k : ℕ). IsIterated f p c k until s) (sym (add-one n)) (subst (λ (k : ℕ). IsIterated f p c (suc n) k s) (sym e) (turned_more f p c n place r s t g))
 
 in_drop : (n : ℕ) (xs : List (List Lit)) (x : List Lit) → n < length xs → x ≡ get_or xs n x → IsIn (drop n xs) x
 in_drop n [] x h e = absurd (omega (arith, h))
@@ -161,8 +161,8 @@ in_drop zero (y ∷ ys) x h e = inl (sym e)
 in_drop (suc n) (y ∷ ys) x h e = in_drop n ys x (omega (arith, h)) e
 
 pub deep_named : (f : List Lit) (p : Tree) (c q : Packet) (n place : ℕ) (r : Reach) (x : List Lit) (g pk out : Packet) → pk ≡ fill c g → out ≡ fill q g → q ≡ apply x c → IsValid c → IsInRange g → IsFresh g p
-    → n ≡ 513 → Turned f p c n place r → place < length (reached_copies r) → x ≡ get_or (reached_copies r) place x → IsDeep p pk out
+    → n ≡ 513 → IsIterated f p c n place r → place < length (reached_copies r) → x ≡ get_or (reached_copies r) place x → IsDeep p pk out
 deep_named f p c q n place r x g pk out epk eout eq v range fresh en turned b at =
     let out' = eout ∙ ap (λ (z : Packet). fill z g) eq in
-    let turned' = subst (λ (k : ℕ). Turned f p c k place r) en turned in
+    let turned' = subst (λ (k : ℕ). IsIterated f p c k place r) en turned in
     subst (λ (z : Packet). IsDeep p z out) (sym epk) (subst (IsDeep p (fill c g)) (sym out') (deep_of f p c place r x g v range fresh turned' (in_drop place (reached_copies r) x b at)))

@@ -5,7 +5,7 @@ use Rattle.nk_values.specs.declared.lit.Lit.{Lit}
 use Rattle.nk_values.specs.Held.{Holds}
 use Rattle.nk_values.specs.Lits.{lit_field}
 use Rattle.nk_values.specs.Members.{IsIn}
-use Rattle.fdd_nodes.specs.Cells.{IsOpen}
+use Rattle.fdd_nodes.specs.Cells.{IsUnset}
 use Rattle.fdd_nodes.specs.Trees.{Tree, Leaf, Node, leaf_at}
 use Rattle.fdd_star.specs.declared.keys.Key.{Key}
 use Rattle.fdd_star.specs.declared.visits.Visit.{Visit}
@@ -16,7 +16,8 @@ use Rattle.fdd_store.specs.Stores.{Kept, Has, tree_at}
 -- the literal is tested on the packet's path, at a field that nothing fixes
 abbrev pub Asks : Tree → Packet → Lit → Type 0
 Asks (Leaf cs) q m = ⊥
-Asks (Node l t e) q m = ((IsOpen q (lit_field l)) × (l ≡ m)) ⊎ ((Holds q l × Asks t q m) ⊎ ((¬ Holds q l) × Asks e q m))
+Asks (Node l t e) q m = ((IsUnset q (lit_field l)) × (l ≡ m))
+    ⊎ ((Holds q l × Asks t q m) ⊎ ((¬ Holds q l) × Asks e q m))
 
 -- new has what is asked on the packet's path, beside what old has
 pub record AsksMore (t : Tree) (q : Packet) (old new : List Lit) : Type 0 where

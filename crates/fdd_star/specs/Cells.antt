@@ -1,4 +1,4 @@
--- The cells that the turns of a diagram lead to.
+-- The cells that the iterations of a diagram lead to.
 use Rattle.std.specs.Prelude.{◌≡◌, ℕ, List, ◌++◌}
 use Rattle.nk_values.specs.declared.packet.Packet.{Packet}
 use Rattle.nk_values.specs.Members.{IsIn}
@@ -20,12 +20,12 @@ pub record Leads (t : Tree) (d : Packet) (cs : List Packet) : Type 0 where
 pub record AllLead (k : Kept) (d : Packet) (as' : List ℕ) (cs : List Packet) : Type 0 where
   pub each : (a : ℕ) → IsIn as' a → Leads (tree_at k a) d cs
 
--- the cell c is there, and a turn from any of the cells leads to one of them
+-- the cell c is there, and a iteration from any of the cells leads to one of them
 pub record IsClosed (p : Tree) (c : Packet) (cs : List Packet) : Type 0 where
   pub first : IsIn cs c
-  pub turn : (d : Packet) → IsIn cs d → Leads p d cs
+  pub iteration : (d : Packet) → IsIn cs d → Leads p d cs
 
--- new has more cells behind those of old, among them those to which the diagram leads from the cell d
+-- new has more cells after those of old, among them those to which the diagram leads from the cell d
 pub record LeadsOn (t : Tree) (d : Packet) (old new : List Packet) : Type 0 where
   pub more : List Packet
   pub joined : new ≡ old ++ more

@@ -5,7 +5,7 @@ use Rattle.nk_values.specs.declared.packet.Packet.{Packet}
 use Rattle.nk_values.specs.declared.lit.Lit.{Lit}
 use Rattle.nk_values.specs.Held.{Holds}
 use Rattle.nk_values.specs.Packets.{get}
-use Rattle.fdd_nodes.specs.Cells.{Agrees, IsOpen}
+use Rattle.fdd_nodes.specs.Cells.{Agrees, IsUnset}
 use Rattle.fdd_nodes.specs.Trees.{Tree, Tests}
 use Rattle.fdd_star.specs.declared.fault.StarError.{StarError}
 use Rattle.fdd_star.specs.declared.fault.StarError.TheVariants.{Fault, Memory}
@@ -18,7 +18,7 @@ use Rattle.fdd_store.specs.Operations.{LeavesOut}
 pub record IsFaultIn (p : Tree) (c g : Packet) (f : StarFault) : Type 0 where
   pub deep : IsDeep p f.packet f.output
   pub agrees : Agrees c f.packet
-  pub kept : (x : Field) → IsOpen c x → LeavesOut x p → get f.packet x ≡ get g x
+  pub kept : (x : Field) → IsUnset c x → LeavesOut x p → get f.packet x ≡ get g x
   pub only : (m : Lit) → Holds f.packet m → Holds c m ⊎ (Holds g m ⊎ Tests p m)
 
 -- nothing is said of memory

@@ -1,6 +1,8 @@
 -- What diagrams name.
-use Rattle.std.specs.Prelude.{ℕ, ◌⊎◌, List, []}
+use Rattle.std.specs.Prelude.{◌≡◌, ℕ, ◌⊎◌, List, []}
+use Rattle.nk_values.specs.declared.field.Field.{Field}
 use Rattle.nk_values.specs.declared.lit.Lit.{Lit}
+use Rattle.nk_values.specs.Lits.{lit_field}
 use Rattle.nk_values.specs.Members.{IsIn}
 use Rattle.fdd_nodes.specs.Trees.{Tree, Tests, Assigns}
 use Rattle.fdd_star.specs.declared.names.Names.{Names}
@@ -9,6 +11,10 @@ use Rattle.fdd_store.specs.Stores.{Kept, tree_at}
 -- the diagram tests or assigns the literal
 abbrev pub NamesLit : Tree → Lit → Type 0
 NamesLit t m = Tests t m ⊎ Assigns t m
+
+-- or some literal of the field
+abbrev pub NamesField : Tree → Field → Type 0
+NamesField t f = (m : Lit) × NamesLit t m × (lit_field m ≡ f)
 
 -- new has what old has, and the literals with the property, and nothing else
 pub record Gains (P : Lit → Type 0) (old new : List Lit) : Type 0 where

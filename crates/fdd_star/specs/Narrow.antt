@@ -1,4 +1,4 @@
--- Diagrams that are narrowed to what the turns from a cell can meet.
+-- Diagrams that are narrowed to what the iterations from a cell can meet.
 use Rattle.std.specs.Prelude.{ℕ, List}
 use Rattle.nk_values.specs.declared.packet.Packet.{Packet}
 use Rattle.nk_values.specs.declared.lit.Lit.{Lit}
@@ -9,13 +9,13 @@ use Rattle.fdd_nodes.specs.Known.{Knows}
 use Rattle.fdd_nodes.specs.Trees.{Tree, answers, SameAnswers}
 use Rattle.fdd_star.specs.Cells.{Among}
 use Rattle.fdd_star.specs.Reaches.{IsNamedBy}
-use Rattle.fdd_star.specs.Stars.{Turns}
+use Rattle.fdd_star.specs.Stars.{Iterates}
 use Rattle.fdd_store.specs.Stores.{Kept, Has, tree_at}
 
--- r makes the turns of p from each packet of the cell c, and names only what p names
+-- r makes the iterations of p from each packet of the cell c, and names only what p names
 pub record IsNarrowed (p : Tree) (c : Packet) (r : Tree) : Type 0 where
-  pub has : (n : ℕ) (pk out : Packet) → Agrees c pk → Turns p n pk out → Turns r n pk out
-  pub only : (n : ℕ) (pk out : Packet) → Agrees c pk → Turns r n pk out → Turns p n pk out
+  pub has : (n : ℕ) (pk out : Packet) → Agrees c pk → Iterates p n pk out → Iterates r n pk out
+  pub only : (n : ℕ) (pk out : Packet) → Agrees c pk → Iterates r n pk out → Iterates p n pk out
   pub names : IsNamedBy p r
 
 -- on the packets of some cells r answers as t, and it names only what t names

@@ -6,11 +6,11 @@ use Rattle.nk_values.specs.Held.{Holds}
 use Rattle.nk_values.specs.Lits.{lit_field}
 use Rattle.nk_values.specs.Members.{IsIn}
 use Rattle.fdd_nodes.specs.Trees.{Tree, apply, outcomes, answers, SameAnswers, Tests, Assigns}
-use Rattle.fdd_nodes.specs.Cells.{Agrees, IsOpen}
+use Rattle.fdd_nodes.specs.Cells.{Agrees, IsUnset}
 use Rattle.fdd_nodes.specs.Normals.{IsNormal}
 use Rattle.fdd_star.specs.declared.reach.Reach.{Reach}
 use Rattle.fdd_star.specs.Asks.{Asks}
-use Rattle.fdd_star.specs.Stars.{Turns, AtMost}
+use Rattle.fdd_star.specs.Stars.{Iterates, AtMost}
 
 abbrev pub reached_copies : Reach → List (List Lit)
 reached_copies r = r.copies.items
@@ -70,13 +70,13 @@ pub record Grows (p : Tree) (c : Packet) (xs : List (List Lit)) (old new : Reach
   pub asked : (m : Lit) → IsIn (asked_of new) m → IsIn (asked_of old) m ⊎
       ((x : List Lit) × IsIn xs x × Asks p (apply x c) m)
 
--- what p makes of a packet in fewer than n turns
+-- what p makes of a packet in fewer than n iterations
 abbrev pub Fewer : Tree → ℕ → Packet → Packet → Type 0
-Fewer p n pk out = (k : ℕ) × (k < n) × Turns p k pk out
+Fewer p n pk out = (k : ℕ) × (k < n) × Iterates p k pk out
 
--- After the first copy s and n turns the copies make exactly what at most n turns reach from the cell's packet. Those
--- before the place make what fewer do, and what they ask is noted; the others make nothing of that.
-pub record Turned (s : List Lit) (p : Tree) (c : Packet) (n place : ℕ) (r : Reach) : Type 0 where
+-- After the first copy s and n iterations the copies make exactly what at most n iterations reach from the cell's
+-- packet. Those before the place make what fewer do, and what they ask is noted; the others make nothing of that.
+pub record IsIterated (s : List Lit) (p : Tree) (c : Packet) (n place : ℕ) (r : Reach) : Type 0 where
   pub told : IsTold c r
   pub within : place ≤ length (reached_copies r)
   pub made : (x : List Lit) → IsIn (reached_copies r) x → Fewer p (suc n) c (apply x c)
@@ -87,18 +87,18 @@ pub record Turned (s : List Lit) (p : Tree) (c : Packet) (n place : ℕ) (r : Re
   pub follows : (x : List Lit) → IsIn (reached_copies r) x → Follows s x
   pub asks : (x : List Lit) (m : Lit) → IsIn (take place (reached_copies r)) x → Asks p (apply x c) m →
       IsIn (asked_of r) m
-  pub is_open : (m : Lit) → IsIn (asked_of r) m → IsOpen c (lit_field m)
+  pub is_unset : (m : Lit) → IsIn (asked_of r) m → IsUnset c (lit_field m)
   pub tests : (m : Lit) → IsIn (asked_of r) m → Tests p m
 
--- All that any number of turns reach from the cell's packet is reached in 512; what was asked on the way is of fields
--- that the cell leaves open. Each copy begins with the first copy s.
+-- All that any number of iterations reach from the cell's packet is reached in 512; what was asked on the way is of
+-- fields that are unset in the cell. Each copy begins with the first copy s.
 pub record IsClosed (s : List Lit) (p : Tree) (c : Packet) (r : Reach) : Type 0 where
   pub made : (x : List Lit) → IsIn (reached_copies r) x → AtMost p 512 c (apply x c)
-  pub all : (n : ℕ) (q : Packet) → Turns p n c q → IsIn (outcomes (reached_copies r) c) q
+  pub all : (n : ℕ) (q : Packet) → Iterates p n c q → IsIn (outcomes (reached_copies r) c) q
   pub named : (x : List Lit) (m : Lit) → IsIn (reached_copies r) x → IsIn x m → IsIn s m ⊎ Assigns p m
   pub follows : (x : List Lit) → IsIn (reached_copies r) x → Follows s x
   pub asks : (x : List Lit) (m : Lit) → IsIn (reached_copies r) x → Asks p (apply x c) m → IsIn (asked_of r) m
-  pub is_open : (m : Lit) → IsIn (asked_of r) m → IsOpen c (lit_field m)
+  pub is_unset : (m : Lit) → IsIn (asked_of r) m → IsUnset c (lit_field m)
   pub tests : (m : Lit) → IsIn (asked_of r) m → Tests p m
 
 -- a names only what p names
@@ -113,14 +113,14 @@ pub record NamesOf (s : List Lit) (p a : Tree) : Type 0 where
 
 -- the packet holds none of the literals of fields that the cell leaves open
 abbrev pub Misses : Packet → List Lit → Packet → Type 0
-Misses c ls pk = (m : Lit) → IsIn ls m → IsOpen c (lit_field m) → ¬ Holds pk m
+Misses c ls pk = (m : Lit) → IsIn ls m → IsUnset c (lit_field m) → ¬ Holds pk m
 
 -- On each packet of the cell that holds none of some literals, r answers as the star of p. On any packet it answers as
 -- if the copy s came first.
 pub record StarBut (s : List Lit) (p : Tree) (c : Packet) (ls : List Lit) (r : Tree) : Type 0 where
   pub made : (pk out : Packet) → Agrees c pk → Misses c ls pk → IsIn (answers r pk) out → AtMost p 512 pk out
-  pub all : (n : ℕ) (pk out : Packet) → Agrees c pk → Misses c ls pk → Turns p n pk out → IsIn (answers r pk) out
+  pub all : (n : ℕ) (pk out : Packet) → Agrees c pk → Misses c ls pk → Iterates p n pk out → IsIn (answers r pk) out
   pub normal : IsNormal r
   pub names : NamesOf s p r
-  pub is_open : (m : Lit) → Tests r m → IsOpen c (lit_field m)
+  pub is_unset : (m : Lit) → Tests r m → IsUnset c (lit_field m)
   pub first : (pk : Packet) → SameAnswers (answers r pk) (answers r (apply s pk))

@@ -32,7 +32,7 @@ pub record MovesTo (f : Field) (old new : Shared) : Type 0 where
   pub field : new.field ≡ f
   pub kept : ((old.field ≡ f) × (new.parts.entries ≡ old.parts.entries)) ⊎ (new.parts.entries ≡ [])
 
--- behind the literals of old, new has those of asked which were not there
+-- after the literals of old, new has those of asked which were not there
 pub record IsLeft (old asked new left : List Lit) : Type 0 where
   pub joined : new ≡ old ++ left
   pub has : (m : Lit) → IsIn asked m → IsIn new m

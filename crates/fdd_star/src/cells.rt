@@ -1,4 +1,4 @@
-//! The cells that the turns of a diagram lead to.
+//! The cells that the iterations of a diagram lead to.
 //!
 //! Layer: diagrams; private. Called by `narrow`.
 ghost use Rattle.std.specs.Prelude.{IsTrue, IfOk, OnOk};
@@ -16,8 +16,8 @@ const MOST_CELLS: usize = 4_096;
 
 const MOST_PLACES: usize = 262_144;
 
-/// Adds a cell and those that turns lead to from it, or from another one of them, whatever its packets hold where it
-/// fixes nothing. It tells whether all are there: not if they are many, or if too much of the diagram would be gone
+/// Adds a cell and those that iterations lead to from it, or from another one of them, whatever its packets hold in
+/// unset fields. It tells whether all are there: not if they are many, or if too much of the diagram would be gone
 /// through for them. What was gone through is taken from the allowance.
 pub(crate) fn add_led_to(
     alloc: Global,
@@ -85,7 +85,7 @@ fn add_cells(
         Look::Fork(l, yes, no) => match here.knows(&l) {
             Known::Yes => add_cells(store, cells, done, here, yes)?,
             Known::No => add_cells(store, cells, done, here, no)?,
-            Known::Open => {
+            Known::Unset => {
                 add_cells(store, cells, done, here, yes)?;
                 add_cells(store, cells, done, here, no)?
             }

@@ -5,7 +5,7 @@ use nk_values::Packet;
 use std::alloc::AllocError;
 use thiserror::Error;
 
-/// Why a star can't be made: a packet, and an output of it that takes 513 turns.
+/// Why a star can't be made: a packet, and an output of it that takes 513 iterations.
 #[derive(Debug, Clone, Copy, Error)]
 #[error("a star has an output that takes 513 iterations")]
 pub struct StarFault {

@@ -1,6 +1,6 @@
 //! What was found of stars.
 //!
-//! Layer: diagrams; private. Called by `ending`, `parts` and `repetition`.
+//! Layer: diagrams; private. Called by `progress`.
 use crate::visits::Visits;
 use std::alloc::Global;
 

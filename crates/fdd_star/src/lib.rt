@@ -11,8 +11,10 @@ mod keys;
 mod names;
 mod narrow;
 mod parts;
+mod progress;
 mod reach;
 mod repetition;
+mod scope;
 mod shared;
 mod visits;
 

@@ -1,4 +1,4 @@
-//! Diagrams that are narrowed to what the turns from a cell can meet.
+//! Diagrams that are narrowed to what the iterations from a cell can meet.
 //!
 //! Layer: diagrams; private. Called by `parts`.
 ghost use Rattle.std.specs.Prelude.{IfOk};
@@ -6,51 +6,50 @@ ghost use Rattle.fdd_nodes.specs.Names.{IsFew};
 ghost use Rattle.fdd_nodes.specs.declared.cell.Known.TheVariants.{No, Yes};
 ghost use Rattle.fdd_star.specs.Narrow.{AreBut, IsDiagramAt, IsNarrowed, IsOn};
 ghost use Rattle.fdd_store.specs.Looks.{Forked};
-ghost use Rattle.fdd_store.specs.Made.{IsMade};
+ghost use Rattle.fdd_store.specs.Canonical.{IsCanonical};
 ghost use Rattle.fdd_store.specs.Stores.{Has, Grows, tree_at};
 
 use crate::cells::add_led_to;
+use crate::scope::Scope;
 use crate::shared::is_shared;
-use fdd_nodes::{Assignments, Cell, Known};
+use fdd_nodes::{Cell, Known};
 use fdd_store::{Id, Look, Store};
 use indexmap::IndexSet;
 use nk_values::Lit;
 use std::alloc::{AllocError, Global};
 
 /// The body of which parts are taken at a cell for the literals that were asked there: that without the tests which
-/// come out one way in all turns from the cell, if it has fewer parts. It makes the same turns. If the cell fixes what
-/// the first copy does and no more, no test comes out one way.
+/// come out one way in all iterations from the cell, if it has fewer parts. It makes the same iterations. If the cell
+/// fixes what the first copy does and no more, no test comes out one way.
 pub(crate) fn narrowed(
     alloc: Global,
     store: &mut Store,
     allowance: &mut usize,
-    assigned: &IndexSet<Lit>,
-    first: &Assignments,
-    p: Id,
-    cell: &Cell,
+    scope: &Scope<'_>,
     asked: &[Lit],
 ) -> Result<Id, AllocError>
-    requires has { Has store.old p }
-    requires few { IsFew (tree_at store.old p) }
+    requires has { Has store.old scope.now.body }
+    requires few { IsFew (tree_at store.old scope.now.body) }
     ensures grows { Grows store.old store.new }
-    ensures body { IfOk result (IsDiagramAt store.new (IsNarrowed (tree_at store.old p) cell.now)) }
+    ensures body { IfOk result
+        (IsDiagramAt store.new (IsNarrowed (tree_at store.old scope.now.body) scope.now.cell.now)) }
 {
-    if asked.len() < 2 || *cell == Cell::open().after(first) {
-        return Ok(p);
+    if asked.len() < 2 || *scope.cell == Cell::whole().after(scope.first) {
+        return Ok(scope.body);
     }
-    let many = parts(alloc, store, assigned, p, asked)?;
+    let many = parts(alloc, store, scope.assigned, scope.body, asked)?;
     if many < 2 {
-        return Ok(p);
+        return Ok(scope.body);
     }
-    let body = on_reached(alloc, store, allowance, p, cell)?;
-    if parts(alloc, store, assigned, body, asked)? < many {
+    let body = on_reached(alloc, store, allowance, scope.body, scope.cell)?;
+    if parts(alloc, store, scope.assigned, body, asked)? < many {
         Ok(body)
     } else {
-        Ok(p)
+        Ok(scope.body)
     }
 }
 
-// A diagram on the packets of a cell and those that turns lead to, if they can be told.
+// A diagram on the packets of a cell and those that iterations lead to, if they can be told.
 fn on_reached(
     alloc: Global,
     store: &mut Store,
@@ -95,6 +94,15 @@ fn parts(
     Ok(count)
 }
 
+// Some cells, and among them those that have packets which hold a literal, and those that have others.
+#[derive(Clone, Copy)]
+struct Split<'a> {
+    cells: &'a [Cell],
+    lit: Lit,
+    there: &'a [Cell],
+    away: &'a [Cell],
+}
+
 // A diagram on the packets of some cells, along its first tests that the cells tell.
 #[cycle(on_cells)]
 fn on_cells(alloc: Global, store: &mut Store, a: Id, cells: &[Cell]) -> Result<Id, AllocError>
@@ -111,7 +119,13 @@ fn on_cells(alloc: Global, store: &mut Store, a: Id, cells: &[Cell]) -> Result<I
         Look::Fork(l, yes, no) => {
             let there = cells_but(alloc, cells, &l, Known::No)?;
             let away = cells_but(alloc, cells, &l, Known::Yes)?;
-            on_sides(alloc, store, a, l, yes, no, cells, &there, &away)
+            let split = Split {
+                cells,
+                lit: l,
+                there: &there,
+                away: &away,
+            };
+            on_sides(alloc, store, a, yes, no, split)
         }
     }
 }
@@ -123,22 +137,25 @@ fn on_sides(
     alloc: Global,
     store: &mut Store,
     a: Id,
-    l: Lit,
     yes: Id,
     no: Id,
-    cells: &[Cell],
-    there: &[Cell],
-    away: &[Cell],
+    split: Split<'_>,
 ) -> Result<Id, AllocError>
-    requires fork { Forked store.old l yes no (tree_at store.old a) }
+    requires fork { Forked store.old split.lit yes no (tree_at store.old a) }
     requires has { Has store.old a }
-    requires made { IsMade (tree_at store.old a) }
+    requires made { IsCanonical (tree_at store.old a) }
     requires few { IsFew (tree_at store.old a) }
-    requires there { AreBut cells.now l No there.now }
-    requires away { AreBut cells.now l Yes away.now }
+    requires there { AreBut split.cells.now split.lit No split.there.now }
+    requires away { AreBut split.cells.now split.lit Yes split.away.now }
     ensures grows { Grows store.old store.new }
-    ensures on { IfOk result (IsDiagramAt store.new (IsOn cells.now (tree_at store.old a))) }
+    ensures on { IfOk result (IsDiagramAt store.new (IsOn split.entry.cells.now (tree_at store.old a))) }
 {
+    let Split {
+        cells,
+        lit,
+        there,
+        away,
+    } = split;
     if away.is_empty() {
         return on_cells(alloc, store, yes, there);
     }
@@ -150,7 +167,7 @@ fn on_sides(
     }
     let part = on_cells(alloc, store, yes, there)?;
     let rest = on_cells(alloc, store, no, away)?;
-    store.choice(alloc, l, part, rest)
+    store.choice(alloc, lit, part, rest)
 }
 
 // The cells of some that do not know this of a literal.

@@ -5,14 +5,15 @@ ghost use Rattle.std.specs.Prelude.{IfOk};
 ghost use Rattle.fdd_star.specs.Shared.{IsLeft};
 
 use crate::fault::StarError;
-use crate::found::Found;
 use crate::narrow::narrowed;
+use crate::progress::Progress;
 use crate::reach::Reach;
+use crate::scope::Scope;
 use crate::shared::Shared;
-use fdd_nodes::{Assignments, Cell, Leaf};
+use fdd_nodes::Leaf;
 use fdd_store::{Id, Store};
 use indexmap::{IndexMap, IndexSet};
-use nk_values::{Field, Lit, Packet};
+use nk_values::{Field, Lit};
 use std::alloc::{AllocError, Global};
 use std::collections::BTreeSet;
 
@@ -45,50 +46,30 @@ impl Parts {
     pub(crate) fn of(
         alloc: Global,
         store: &mut Store,
-        found: &mut Found,
-        missed: &mut IndexSet<Lit>,
-        other: &Packet,
-        assigned: &IndexSet<Lit>,
-        first: &Assignments,
-        p: Id,
-        cell: &Cell,
+        progress: &mut Progress,
+        scope: &Scope<'_>,
     ) -> Result<Parts, StarError>
-        requires has { Has store.old p }
-        requires few { IsFew (tree_at store.old p) }
-        requires valid { IsValid cell.now }
-        requires found { AreFound store.old found.old }
-        requires range { IsInRange other.now }
-        requires fresh { IsFresh other.now (tree_at store.old p) }
-        requires held { HoldsAll cell.now first.now }
+        requires has { Has store.old scope.now.body }
+        requires few { IsFew (tree_at store.old scope.now.body) }
+        requires valid { IsValid scope.now.cell.now }
+        requires found { AreFound store.old progress.old.found }
+        requires range { IsInRange scope.now.other.now }
+        requires fresh { IsFresh scope.now.other.now (tree_at store.old scope.now.body) }
+        requires held { HoldsAll scope.now.cell.now scope.now.first.now }
         ensures grows { Grows store.old store.new }
-        ensures found { OnOk result (AreFound store.new found.new) }
+        ensures found { OnOk result (AreFound store.new progress.new.found) }
         ensures parts { MatchResult result
-            (HasParts store.new first.now (tree_at store.old p) cell.now missed.old.keys missed.new.keys)
-            (λ e. IsErrorIn (tree_at store.old p) cell.now other.now e) }
+            (HasParts store.new scope.now.first.now (tree_at store.old scope.now.body) scope.now.cell.now
+            progress.old.missed.keys progress.new.missed.keys)
+            (λ e. IsErrorIn (tree_at store.old scope.now.body) scope.now.cell.now scope.now.other.now e) }
     {
-        let Reach { copies, asked, .. } = Reach::of(
-            alloc,
-            store,
-            &mut found.visits,
-            other,
-            first,
-            p,
-            cell,
-        )?;
+        let Progress { found, missed } = progress;
+        let Reach { copies, asked, .. } = Reach::of(alloc, store, &mut found.visits, scope)?;
         found.allowance = found.allowance.saturating_add(copies.len() / 4);
         let left = left_of(alloc, missed, asked)?;
         let leaf = Leaf::gathered(alloc, copies)?;
         let all = store.put_leaf(alloc, leaf)?;
-        let body = narrowed(
-            alloc,
-            store,
-            &mut found.allowance,
-            assigned,
-            first,
-            p,
-            cell,
-            &left,
-        )?;
+        let body = narrowed(alloc, store, &mut found.allowance, scope, &left)?;
         Ok(Parts {
             all,
             left,

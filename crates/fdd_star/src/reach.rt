@@ -2,15 +2,16 @@
 //!
 //! Layer: diagrams; private. Called by `parts`.
 use crate::fault::{StarError, StarFault};
+use crate::scope::Scope;
 use crate::visits::{Visit, Visits, visit_of};
 use fdd_nodes::{Assignments, Cell};
-use fdd_store::{Id, Store};
+use fdd_store::Store;
 use indexmap::IndexSet;
-use nk_values::{Lit, Packet};
+use nk_values::Lit;
 use std::alloc::{AllocError, Global};
 use std::collections::BTreeSet;
 
-/// The cells that are reached, each once and in the order of turns, with a copy that makes each of the first;
+/// The cells that are reached, each once and in the order of iterations, with a copy that makes each of the first;
 /// and the tests that were asked on the way at fields which nothing fixes.
 #[derive(Drop)]
 pub(crate) struct Reach {
@@ -32,48 +33,46 @@ impl Reach {
     ghost use Rattle.fdd_star.specs.Reaches.{IsClosed};
     ghost use Rattle.fdd_store.specs.Stores.{Has, tree_at};
 
-    /// What any number of turns reach after the first copy, or an output that takes 513 turns. The fault fills the cell
-    /// with another packet, which has nothing that the diagram names.
+    /// What any number of iterations reach after the first copy, or an output that takes 513 iterations. The fault fills
+    /// the cell with another packet, which has nothing that the diagram names.
     pub(crate) fn of(
         alloc: Global,
         store: &Store,
         visits: &mut Visits,
-        other: &Packet,
-        first: &Assignments,
-        p: Id,
-        cell: &Cell,
+        scope: &Scope<'_>,
     ) -> Result<Reach, StarError>
-        requires has { Has store.now p }
-        requires valid { IsValid cell.now }
+        requires has { Has store.now scope.now.body }
+        requires valid { IsValid scope.now.cell.now }
         requires visits { AreVisits store.now visits.old }
-        requires range { IsInRange other.now }
-        requires fresh { IsFresh other.now (tree_at store.now p) }
-        requires held { HoldsAll cell.now first.now }
+        requires range { IsInRange scope.now.other.now }
+        requires fresh { IsFresh scope.now.other.now (tree_at store.now scope.now.body) }
+        requires held { HoldsAll scope.now.cell.now scope.now.first.now }
         ensures visits { OnOk result (AreVisits store.now visits.new) }
-        ensures reach { MatchResult result (λ r. IsClosed first.now (tree_at store.now p) cell.now r)
-            (λ e. IsErrorIn (tree_at store.now p) cell.now other.now e) }
+        ensures reach { MatchResult result
+            (λ r. IsClosed scope.now.first.now (tree_at store.now scope.now.body) scope.now.cell.now r)
+            (λ e. IsErrorIn (tree_at store.now scope.now.body) scope.now.cell.now scope.now.other.now e) }
     {
-        let mut all = Reach::start(alloc, cell, first)?;
+        let mut all = Reach::start(alloc, scope.cell, scope.first)?;
         let mut from = 0;
-        for turn in 0..513u64 {
+        for iteration in 0..513u64 {
             let until = all.copies.len();
             if from == until {
                 return Ok(all);
             }
-            all.turn(alloc, store, visits, p, cell, from)?;
+            all.iterate(alloc, store, visits, scope, from)?;
             from = until;
         }
         match all.copies.get(from) {
             None => Ok(all),
             Some(late) => {
-                let packet = cell.filled(other);
-                let output = cell.after(late).filled(other);
+                let packet = scope.cell.filled(scope.other);
+                let output = scope.cell.after(late).filled(scope.other);
                 Err(StarError::Fault(StarFault { packet, output }))
             }
         }
     }
 
-    // The packet of the cell, before the first turn. It holds the first copy.
+    // The packet of the cell, before the first iteration. It holds the first copy.
     fn start(alloc: Global, cell: &Cell, first: &Assignments) -> Result<Reach, AllocError>
         requires { HoldsAll cell.now first.now }
         ensures { IfOk result (λ r. Starts first.now cell.now r) }
@@ -88,54 +87,55 @@ impl Reach {
         Ok(all)
     }
 
-    // One turn more for the copies from a place on.
-    fn turn(
+    // One iteration more for the copies from a place on.
+    fn iterate(
         &mut self,
         alloc: Global,
         store: &Store,
         visits: &mut Visits,
-        p: Id,
-        cell: &Cell,
+        scope: &Scope<'_>,
         from: usize,
     ) -> Result<(), AllocError>
-        requires has { Has store.now p }
+        requires has { Has store.now scope.now.body }
         requires visits { AreVisits store.now visits.old }
         requires place { from ≤ length (reached_copies self.old) }
-        requires told { IsTold cell.now self.old }
+        requires told { IsTold scope.now.cell.now self.old }
         ensures visits { OnOk result (AreVisits store.now visits.new) }
         ensures grown { OnOk result
-            (Grows (tree_at store.now p) cell.now (drop from (reached_copies self.old)) self.old self.new) }
+            (Grows (tree_at store.now scope.now.body) scope.now.cell.now (drop from (reached_copies self.old)) self.old
+            self.new) }
     {
         for i in from..self.copies.len() {
             let copy = self.copies[i].copy()?;
-            self.step(alloc, store, visits, p, cell, &copy)?;
+            self.step(alloc, store, visits, scope, &copy)?;
         }
         Ok(())
     }
 
-    // One turn more for a copy.
+    // One iteration more for a copy.
     fn step(
         &mut self,
         alloc: Global,
         store: &Store,
         visits: &mut Visits,
-        p: Id,
-        cell: &Cell,
+        scope: &Scope<'_>,
         copy: &Assignments,
     ) -> Result<(), AllocError>
-        requires has { Has store.now p }
+        requires has { Has store.now scope.now.body }
         requires visits { AreVisits store.now visits.old }
-        requires told { IsTold cell.now self.old }
+        requires told { IsTold scope.now.cell.now self.old }
         ensures visits { OnOk result (AreVisits store.now visits.new) }
-        ensures grown { OnOk result (Grows (tree_at store.now p) cell.now (copy.now ∷ []) self.old self.new) }
+        ensures grown { OnOk result
+            (Grows (tree_at store.now scope.now.body) scope.now.cell.now (copy.now ∷ []) self.old self.new) }
     {
+        let Scope { body, cell, .. } = *scope;
         let here = cell.after(copy);
-        if let Some(known) = visits.get(p, &here) {
+        if let Some(known) = visits.get(body, &here) {
             return self.follow(alloc, store, cell, copy, known);
         }
-        let made = visit_of(alloc, store, p, &here)?;
+        let made = visit_of(alloc, store, body, &here)?;
         self.follow(alloc, store, cell, copy, &made)?;
-        visits.keep(p, &here, made)
+        visits.keep(body, &here, made)
     }
 
     // Adds what a visit's leaf makes of a copy's packet, and notes what was asked.

@@ -6,7 +6,7 @@ ghost use Rattle.nk_values.specs.Held.{put};
 ghost use Rattle.nk_values.specs.Lits.{lit_field};
 ghost use Rattle.nk_values.specs.declared.packet.Packet.{Packet};
 ghost use Rattle.nk_values.specs.Packets.{IsInRange};
-ghost use Rattle.fdd_nodes.specs.Cells.{IsFresh, IsOpen, IsValid};
+ghost use Rattle.fdd_nodes.specs.Cells.{IsFresh, IsUnset, IsValid};
 ghost use Rattle.fdd_nodes.specs.Names.{AreFew, IsFew};
 ghost use Rattle.fdd_nodes.specs.Trees.{Leaf};
 ghost use Rattle.fdd_star.specs.Faults.{IsErrorIn};
@@ -20,24 +20,24 @@ ghost use Rattle.fdd_store.specs.Operations.{CofactorOf};
 ghost use Rattle.fdd_store.specs.Stores.{Has, Grows, Gives, tree_at};
 
 use crate::fault::StarError;
-use crate::found::Found;
 use crate::names::Names;
 use crate::parts::Parts;
+use crate::progress::Progress;
+use crate::scope::Scope;
 use crate::shared::{Shared, is_shared};
 use fdd_differ::{Listed, unnamed};
 use fdd_nodes::{Assignments, Cell};
 use fdd_store::{Id, Store};
-use indexmap::IndexSet;
-use nk_values::{Lit, Packet};
+use nk_values::Lit;
 use std::alloc::Global;
 
-/// The star `p*` of a diagram of a store: what any number of turns give (ICFP 2015, section 3).
+/// The star `p*` of a diagram of a store: what any number of iterations give (ICFP 2015, section 3).
 ///
-/// From the packet of a cell, which holds what is fixed and nothing that the diagram names elsewhere, the turns are
-/// made one by one, each on what the one before added. Each test that is asked of a field left open parts the cell. For
-/// the packets on which it holds and no earlier one does, the star is found anew, so that no cell is gone through
-/// twice. Tests of one field share their part if the diagram makes the same of what each leaves. 512 turns are made at
-/// most; if one more would add something, the fault has a packet and an output that show it.
+/// From the packet of a cell, which holds what is fixed and nothing that the diagram names elsewhere, the iterations
+/// are made one by one, each on what the one before added. Each test that is asked of an unset field parts the cell.
+/// For the packets on which it holds and no earlier one does, the star is found anew, so that no cell is gone through
+/// twice. Tests of one field share their part if the diagram makes the same of what each leaves. 512 iterations are
+/// made at most; if one more would add something, the fault has a packet and an output that show it.
 pub fn star(alloc: Global, store: &mut Store, p: Id) -> Result<Id, StarError>
     requires has { Has store.old p }
     requires few { IsFew (tree_at store.old p) }
@@ -51,20 +51,16 @@ pub fn star(alloc: Global, store: &mut Store, p: Id) -> Result<Id, StarError>
     let other = unnamed(&Listed {
         lits: names.named.as_slice(),
     });
-    let mut found = Found::new(alloc);
-    let mut missed = IndexSet::new(alloc);
-    let cell = Cell::open();
-    part_in(
-        alloc,
-        store,
-        &mut found,
-        &mut missed,
-        &other,
-        &names.assigned,
-        &none,
-        p,
-        &cell,
-    )
+    let mut progress = Progress::new(alloc);
+    let cell = Cell::whole();
+    let scope = Scope {
+        body: p,
+        cell: &cell,
+        first: &none,
+        assigned: &names.assigned,
+        other: &other,
+    };
+    part_in(alloc, store, &mut progress, &scope)
 }
 
 /// The star on the packets of a cell that hold none of the missed literals. A first copy comes before it, which the
@@ -73,44 +69,33 @@ pub fn star(alloc: Global, store: &mut Store, p: Id) -> Result<Id, StarError>
 pub(crate) fn part_in(
     alloc: Global,
     store: &mut Store,
-    found: &mut Found,
-    missed: &mut IndexSet<Lit>,
-    other: &Packet,
-    assigned: &IndexSet<Lit>,
-    first: &Assignments,
-    p: Id,
-    cell: &Cell,
+    progress: &mut Progress,
+    scope: &Scope<'_>,
 ) -> Result<Id, StarError>
-    requires has { Has store.old p }
-    requires few { AreFew (Leaf (first.now ∷ [])) (tree_at store.old p) }
-    requires valid { IsValid cell.now }
-    requires found { AreFound store.old found.old }
-    requires range { IsInRange other.now }
-    requires fresh { IsFresh other.now (tree_at store.old p) }
-    requires assigned { Covers assigned.now.keys (tree_at store.old p) }
-    requires held { HoldsAll cell.now first.now }
+    requires has { Has store.old scope.now.body }
+    requires few { AreFew (Leaf (scope.now.first.now ∷ [])) (tree_at store.old scope.now.body) }
+    requires valid { IsValid scope.now.cell.now }
+    requires found { AreFound store.old progress.old.found }
+    requires range { IsInRange scope.now.other.now }
+    requires fresh { IsFresh scope.now.other.now (tree_at store.old scope.now.body) }
+    requires assigned { Covers scope.now.assigned.now.keys (tree_at store.old scope.now.body) }
+    requires held { HoldsAll scope.now.cell.now scope.now.first.now }
     ensures grows { Grows store.old store.new }
     ensures part { MatchResult result
-        (IsPart store.new first.now (tree_at store.old p) cell.now missed.old.keys found.new missed.new.keys)
-        (λ e. IsErrorIn (tree_at store.old p) cell.now other.now e) }
+        (IsPart store.new scope.now.first.now (tree_at store.old scope.now.body) scope.now.cell.now
+        progress.old.missed.keys progress.new.found progress.new.missed.keys)
+        (λ e. IsErrorIn (tree_at store.old scope.now.body) scope.now.cell.now scope.now.other.now e) }
 {
-    let mut parts = Parts::of(alloc, store, found, missed, other, assigned, first, p, cell)?;
+    let mut parts = Parts::of(alloc, store, progress, scope)?;
     while let Some(l) = parts.left.pop() {
+        let missed = &mut progress.missed;
         missed.truncate(missed.len().saturating_sub(1));
         parts.shared.move_to(l.field());
-        let part = part_of(
-            alloc,
-            store,
-            found,
-            missed,
-            &mut parts.shared,
-            other,
-            assigned,
-            first,
-            parts.body,
-            cell,
-            &l,
-        )?;
+        let narrowed = Scope {
+            body: parts.body,
+            ..*scope
+        };
+        let part = part_of(alloc, store, progress, &mut parts.shared, &narrowed, &l)?;
         parts.all = store.choice(alloc, l, part, parts.all)?;
     }
     Ok(parts.all)
@@ -122,58 +107,53 @@ pub(crate) fn part_in(
 fn part_of(
     alloc: Global,
     store: &mut Store,
-    found: &mut Found,
-    missed: &mut IndexSet<Lit>,
+    progress: &mut Progress,
     shared: &mut Shared,
-    other: &Packet,
-    assigned: &IndexSet<Lit>,
-    first: &Assignments,
-    body: Id,
-    cell: &Cell,
+    scope: &Scope<'_>,
     l: &Lit,
 ) -> Result<Id, StarError>
-    requires has { Has store.old body }
-    requires few { AreFew (Leaf (first.now ∷ [])) (tree_at store.old body) }
-    requires valid { IsValid cell.now }
-    requires found { AreFound store.old found.old }
-    requires shared { AreShared store.old first.now (tree_at store.old body) cell.now missed.old.keys shared.old }
+    requires has { Has store.old scope.now.body }
+    requires few { AreFew (Leaf (scope.now.first.now ∷ [])) (tree_at store.old scope.now.body) }
+    requires valid { IsValid scope.now.cell.now }
+    requires found { AreFound store.old progress.old.found }
+    requires shared { AreShared store.old scope.now.first.now (tree_at store.old scope.now.body) scope.now.cell.now
+        progress.old.missed.keys shared.old }
     requires field { shared.old.field ≡ lit_field l.now }
-    requires range { IsInRange other.now }
-    requires fresh { IsFresh other.now (tree_at store.old body) }
-    requires assigned { Covers assigned.now.keys (tree_at store.old body) }
-    requires held { HoldsAll cell.now first.now }
-    requires is_open { IsOpen cell.now (lit_field l.now) }
+    requires range { IsInRange scope.now.other.now }
+    requires fresh { IsFresh scope.now.other.now (tree_at store.old scope.now.body) }
+    requires assigned { Covers scope.now.assigned.now.keys (tree_at store.old scope.now.body) }
+    requires held { HoldsAll scope.now.cell.now scope.now.first.now }
+    requires is_unset { IsUnset scope.now.cell.now (lit_field l.now) }
     ensures grows { Grows store.old store.new }
     ensures part { MatchResult result
-        (IsPart store.new first.now (tree_at store.old body) (put l.now cell.now) missed.old.keys found.new
-        missed.new.keys) (λ e. IsErrorIn (tree_at store.old body) (put l.now cell.now) other.now e) }
+        (IsPart store.new scope.now.first.now (tree_at store.old scope.now.body) (put l.now scope.now.cell.now)
+        progress.old.missed.keys progress.new.found progress.new.missed.keys)
+        (λ e. IsErrorIn (tree_at store.old scope.now.body) (put l.now scope.now.cell.now) scope.now.other.now e) }
     ensures shared { OnOk result
-        (AreShared store.new first.now (tree_at store.old body) cell.now missed.old.keys shared.new) }
+        (AreShared store.new scope.now.first.now (tree_at store.old scope.now.body) scope.now.cell.now
+        progress.old.missed.keys shared.new) }
 {
+    let body = scope.body;
     let left = store.cofactor(alloc, body, *l)?;
     if let Some(part) = shared.parts.get(&left) {
         return Ok(*part);
     }
     let inner = inner_of(store, body, left, l);
-    let part = part_in(
-        alloc,
-        store,
-        found,
-        missed,
-        other,
-        assigned,
-        first,
-        inner,
-        &cell.with(l),
-    )?;
-    if is_shared(store, assigned, body, l) {
+    let cell = scope.cell.with(l);
+    let within = Scope {
+        body: inner,
+        cell: &cell,
+        ..*scope
+    };
+    let part = part_in(alloc, store, progress, &within)?;
+    if is_shared(store, scope.assigned, body, l) {
         shared.keep(left, part)?;
     }
     Ok(part)
 }
 
-// What makes the turns of a body where a literal holds. No turn changes a field that the body never sets: there it is
-// what the literal leaves of the body.
+// What makes the iterations of a body if a literal holds. No iteration changes a field that the body never sets: then
+// it is what the literal leaves of the body.
 fn inner_of(store: &Store, body: Id, left: Id, l: &Lit) -> Id
     requires has { Has store.now body }
     requires has_left { Has store.now left }

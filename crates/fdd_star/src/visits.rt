@@ -94,7 +94,7 @@ fn walk(store: &Store, a: Id, here: &Cell, asked: &mut Vec<Lit>) -> Result<Id, A
         Look::Fork(l, t, e) => match here.knows(&l) {
             Known::Yes => walk(store, t, here, asked),
             Known::No => walk(store, e, here, asked),
-            Known::Open => {
+            Known::Unset => {
                 asked.push(l)?;
                 walk(store, e, here, asked)
             }

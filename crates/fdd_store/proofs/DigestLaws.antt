@@ -16,7 +16,7 @@ use Rattle.fdd_store.specs.declared.digest.Digest.{Digest}
 use Rattle.fdd_store.specs.declared.fields.Fields.{Fields}
 use Rattle.fdd_store.specs.declared.shape.Shape.{Shape}
 use Rattle.fdd_store.specs.Digests.{behind, IsDigest, SetsAre, DigestAt, AreDigests}
-use Rattle.fdd_store.specs.Made.{IsMade, IsLater, IsPastOf}
+use Rattle.fdd_store.specs.Canonical.{IsCanonical, IsLater, IsPastOf}
 use Rattle.fdd_store.specs.Results.{Passes}
 use Rattle.fdd_store.specs.Sets.{has}
 use Rattle.fdd_store.specs.Stores.{Kept, Has, Grows, shape_tree, trees}
@@ -74,7 +74,7 @@ long_by : (k : Kept) (es : List Digest) (n : ℕ) → n ≤ length k.shapes → 
 long_by k es zero h a = omega arith
 long_by k es (suc n) h a = let e = a n (omega (arith, h)) in let w = slice_get_within es n e.digest e.there in omega (arith, w)
 
--- other digests behind those of the places
+-- other digests after those of the places
 pub digests_kept : (k : Kept) (es ys : List Digest) (n : ℕ) → n ≡ length k.shapes → AreDigests k es → AreDigests k (take n es ++ ys)
 digests_kept k es ys n h a = λ i w. record { digest = (a i w).digest; there = kept_digest n i es ys _ (omega (arith, h, w)) (a i w).there; right = (a i w).right }
 
@@ -151,7 +151,7 @@ cut_digests k n m es a =
     let g : Grows back k = record { shapes = (drop n k.shapes, sym (take-append-drop n k.shapes)); known = (drop m k.known, sym (take-append-drop m k.known)) } in
     digests_cut back k es n (length_taken n k.shapes) g a
 
--- what stands behind a field
+-- what stands after a field
 
 pub behind_same : (f : ℕ) (l : Lit) (t e : Tree) → place (lit_field l) ≡ f → behind f (Node l t e) ≡ behind f e
 behind_same f l t e h = ap (λ b. cond b (behind f e) (Node l t e)) (eq-eqb _ _ h)
@@ -159,13 +159,13 @@ behind_same f l t e h = ap (λ b. cond b (behind f e) (Node l t e)) (eq-eqb _ _ 
 pub behind_other : (f : ℕ) (l : Lit) (t e : Tree) → place (lit_field l) ≢ f → behind f (Node l t e) ≡ Node l t e
 behind_other f l t e h = ap (λ b. cond b (behind f e) (Node l t e)) (ne_eqb _ _ h)
 
-past_other : (l m : Lit) (t e : Tree) → IsMade (Node m t e) → IsLater l (Node m t e) → place (lit_field m) ≢ place (lit_field l) → IsPastOf l (Node m t e)
+past_other : (l m : Lit) (t e : Tree) → IsCanonical (Node m t e) → IsLater l (Node m t e) → place (lit_field m) ≢ place (lit_field l) → IsPastOf l (Node m t e)
 past_other l m t e h w d = λ n u.
     let from = tests_from (Node m t e) (rank m) n (omega arith, h.ordered.1, h.ordered.2) u in
     let first = w m (inl refl) in
     omega (arith, from, first, d, lit_small l, lit_small m, lit_small n)
 
-pub passes_behind : (l : Lit) (t : Tree) → IsMade t → IsLater l t → Passes l t (behind (place (lit_field l)) t)
+pub passes_behind : (l : Lit) (t : Tree) → IsCanonical t → IsLater l t → Passes l t (behind (place (lit_field l)) t)
 passes_behind l (Leaf cs) h w = passes_itself l (Leaf cs) (λ m k. absurd k)
 passes_behind l (Node m t e) h w = elim (eqb_tells (place (lit_field m)) (place (lit_field l))) [
   | inl y ↦ subst (λ (x : Tree). Passes l (Node m t e) x) (sym (behind_same _ m t e y.1))

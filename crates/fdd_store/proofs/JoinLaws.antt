@@ -1,8 +1,8 @@
--- Diagrams beside others behind a test.
+-- Diagrams beside others after a test.
 use Rattle.std.proofs.Common.{◌≡◌, ℕ, inl, inr, subst, []}
 use Rattle.nk_values.specs.declared.lit.Lit.{Lit}
 use Rattle.fdd_nodes.specs.Trees.{Tree, Leaf}
-use Rattle.fdd_store.specs.Made.{IsBeyond}
+use Rattle.fdd_store.specs.Canonical.{IsBeyond}
 use Rattle.fdd_store.specs.Results.{Cuts, Rests, Unites, Forks, Joins}
 use Rattle.fdd_store.specs.Stores.{Kept, tree_at, Has, Gives, Grows}
 use Rattle.fdd_store.proofs.SameLaws.{same_trans}

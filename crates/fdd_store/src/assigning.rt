@@ -3,7 +3,7 @@
 //! Layer: diagrams; private. Adds calls to `Store`.
 ghost use Rattle.std.specs.Prelude.{◌≡◌, [], ◌∷◌, IfOk, IfSome, IsTrue, OnErr};
 ghost use Rattle.fdd_nodes.specs.Trees as trees;
-ghost use Rattle.fdd_store.specs.Made.{IsMade};
+ghost use Rattle.fdd_store.specs.Canonical.{IsCanonical};
 ghost use Rattle.fdd_store.specs.Operations.{AssignmentOf};
 ghost use Rattle.fdd_store.specs.Stores.{Has, Grows, Gives, tree_at};
 
@@ -44,7 +44,7 @@ impl Store {
     fn gives(&self, a: Id, l: &Lit) -> bool
         requires { Has self.now a }
         ensures gives { IsTrue result → tree_at self.now a ≡ trees.Leaf ((l.now ∷ []) ∷ []) }
-        ensures made { IsMade (tree_at self.now a) }
+        ensures made { IsCanonical (tree_at self.now a) }
     {
         match self.look(a) {
             Look::Leaf => match self.leaf(a).copies() {

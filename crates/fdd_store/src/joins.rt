@@ -1,8 +1,8 @@
-//! Diagrams beside others behind a test.
+//! Diagrams beside others after a test.
 //!
 //! Layer: diagrams; private. Adds calls to `Store`.
 ghost use Rattle.std.specs.Prelude.{IfOk};
-ghost use Rattle.fdd_store.specs.Made.{IsNotBefore};
+ghost use Rattle.fdd_store.specs.Canonical.{IsNotBefore};
 ghost use Rattle.fdd_store.specs.Results.{Joins};
 ghost use Rattle.fdd_store.specs.Stores.{Has, Grows, Gives, tree_at};
 

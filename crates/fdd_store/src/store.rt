@@ -47,14 +47,14 @@ impl Drop for Store {
 
 impl Model for Store {
     ghost use Rattle.fdd_store.specs.Digests.{AreDigests};
-    ghost use Rattle.fdd_store.specs.Stores.{Kept, IsStore};
+    ghost use Rattle.fdd_store.specs.Stores.{Kept, IsStore, kept_of};
 
     ghost Value = { Kept };
 
-    ghost view = { λ s. record { shapes = s.shapes.keys; known = s.known.entries } };
+    ghost view = { λ s. kept_of s.shapes.keys s.known.entries };
 
-    ghost invariant = { λ s. IsStore (record { shapes = s.shapes.keys; known = s.known.entries }) ×
-        AreDigests (record { shapes = s.shapes.keys; known = s.known.entries }) s.digests.items };
+    ghost invariant = { λ s. IsStore (kept_of s.shapes.keys s.known.entries) ×
+        AreDigests (kept_of s.shapes.keys s.known.entries) s.digests.items };
 }
 
 /// How many nodes and leaves there are, and how many results.

@@ -1,4 +1,4 @@
--- Policies one after another, repeated, and with more turns of their stars.
+-- Policies one after another, repeated, and with more iterations of their stars.
 use Rattle.std.proofs.Common.{◌≡◌, ℕ, zero, suc, ◌+◌, ◌-◌, ◌≤◌, Bool, true, false, ◌⊎◌, inl, inr, List, [], ◌∷◌, refl, sym, subst, if◌then◌else◌, arith}
 use Rattle.nk_values.specs.Members.{IsIn, Within}
 use Rattle.nk_values.specs.Trails.{Trail}
@@ -19,7 +19,7 @@ from-filter false h y m = absurd m
 pub in-filter : {X : Type 0} (b : Bool) (h : X) → b ≡ true → IsIn (if b then h ∷ [] else []) h
 in-filter b h e = subst (λ c. IsIn (if c then h ∷ [] else []) h) (sym e) (inl refl)
 
--- more turns give no fewer histories
+-- more iterations give no fewer histories
 more_by : (p : Term) (k n : ℕ) (h : Trail) → Within (den p n h) (den p (k + n) h)
 more_by p zero n h = λ t i. subst (λ (m : ℕ). IsIn (den p m h) t) (let e : n ≡ 0 + n = omega arith in e) i
 more_by p (suc k) n h = λ t i. subst (λ (m : ℕ). IsIn (den p m h) t) (let e : suc (k + n) ≡ suc k + n = omega arith in e) (den-more p (k + n) h t (more_by p k n h t i))

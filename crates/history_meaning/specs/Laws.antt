@@ -6,9 +6,9 @@ use Rattle.nk_syntax.specs.Terms.{Term, Terms, Filter, Assign, Sum, Seq, Star, D
 use Rattle.history_meaning.specs.Meaning.{den}
 use Rattle.history_meaning.specs.Network.{Wiring, IsFuture}
 
--- one turn more gives no fewer histories
-abbrev pub MoreTurnsMoreHistories : Type 0
-MoreTurnsMoreHistories = (p : Term) (n : ℕ) (h : Trail) → Within (den p n h) (den p (suc n) h)
+-- one iteration more gives no fewer histories
+abbrev pub MoreIterationsMoreHistories : Type 0
+MoreIterationsMoreHistories = (p : Term) (n : ℕ) (h : Trail) → Within (den p n h) (den p (suc n) h)
 
 -- no `dup` in it
 abbrev mutual

@@ -1,12 +1,12 @@
 //! Laws of the meaning, each the contract of a call that does nothing.
 //!
 //! Layer: values and policies; public. No crate here calls it.
-ghost use Rattle.history_meaning.specs.Laws.{FlatRenewsTheNewest, FuturesGoOn, MoreTurnsMoreHistories};
+ghost use Rattle.history_meaning.specs.Laws.{FlatRenewsTheNewest, FuturesGoOn, MoreIterationsMoreHistories};
 
-/// One more turn of each star gives no fewer histories, so a result under some number of turns is one
+/// One more iteration of each star gives no fewer histories, so a result under some number of iterations is one
 /// under every greater number.
-pub fn more_turns_more_histories()
-    ensures { MoreTurnsMoreHistories }
+pub fn more_iterations_more_histories()
+    ensures { MoreIterationsMoreHistories }
 {}
 
 /// A policy without `dup` renews the newest packet of a history, by that packet alone.

@@ -15,7 +15,7 @@ use Rattle.nk_values.specs.Acts.{out_port, sent_to, acted}
 use Rattle.nk_values.specs.Members.{IsIn}
 use Rattle.nk_values.specs.Patterns.{Incoming}
 use Rattle.nk_values.specs.Tags.{IsVlanId}
-use Rattle.fdd_nodes.specs.Cells.{free, fill, pick, Agrees}
+use Rattle.fdd_nodes.specs.Cells.{unset, fill, pick, Agrees}
 use Rattle.fdd_nodes.specs.Trees.{apply}
 use Rattle.leaf_actions.specs.declared.route.Route.{Route}
 use Rattle.leaf_actions.specs.declared.view.PortView.{PortView}
@@ -24,7 +24,7 @@ use Rattle.leaf_actions.specs.Listing.{changed, retagged, port_number, listed}
 use Rattle.leaf_actions.specs.Settable.{settable, CopyCanBeSet}
 use Rattle.policy_rows.specs.Means.{port_tag}
 use Rattle.leaf_actions.proofs.Chained.{Keeps, keeps_of}
-use Rattle.leaf_actions.proofs.Fixed.{pick_fixed, fill_apply, fill_own, unset, not_typ, not_proto}
+use Rattle.leaf_actions.proofs.Fixed.{pick_fixed, fill_apply, fill_own, never_set, not_typ, not_proto}
 use Rattle.leaf_actions.proofs.Routed.{sent_route}
 
 abbrev inc : ℕ → Header → Option ℕ → Incoming
@@ -98,13 +98,13 @@ acted-six y z port h tag rest =
     acted-tp_dst (y.tcp_dst_port == z.tcp_dst_port) z.tcp_dst_port port (tp_src (y.tcp_src_port == z.tcp_src_port) z.tcp_src_port (nw_dst (y.ip4_dst == z.ip4_dst) z.ip4_dst (nw_src (y.ip4_src == z.ip4_src) z.ip4_src (dst (y.eth_dst == z.eth_dst) z.eth_dst (src (y.eth_src == z.eth_src) z.eth_src h))))) tag rest
 
 -- a field becomes the wanted one
-over_pick : (m n q : ℕ) → (m ≢ free → n ≢ free) → cond (m == n) (pick m q) n ≡ pick n q
+over_pick : (m n q : ℕ) → (m ≢ unset → n ≢ unset) → cond (m == n) (pick m q) n ≡ pick n q
 over_pick m n q h = elim (eqb_tells m n) [
   | inl y ↦ ap (λ b. cond b (pick m q) n) y.0 ∙ ap (λ k. pick k q) y.1
-  | inr o ↦ ap (λ b. cond b (pick m q) n) o.0 ∙ sym (pick_fixed n q (n_fixed (m == free) refl o.1))
+  | inr o ↦ ap (λ b. cond b (pick m q) n) o.0 ∙ sym (pick_fixed n q (n_fixed (m == unset) refl o.1))
 ]
   where
-    n_fixed : (b : Bool) → (m == free) ≡ b → m ≢ n → n ≢ free
+    n_fixed : (b : Bool) → (m == unset) ≡ b → m ≢ n → n ≢ unset
     n_fixed true e d k = d (eqb-true _ _ e ∙ sym k)
     n_fixed false e d k = h (eqb-false _ _ e) k
 
@@ -156,8 +156,8 @@ pub acted_listed : (v : PortView) (x y p : Packet) (k : PortKind) (rs : List Rou
     acted (listed v x y k rs) (inc v.pt (fill y p).header (port_tag k v.stamp)) ≡ map (sent_route v p) rs
 acted_listed v x y p k [] s a e f g c = refl
 acted_listed v x y p k (r ∷ rs) s a e f g c =
-    let ez : (apply r.copy x).header.eth_typ ≡ x.header.eth_typ = unset r.copy x EthTyp not_typ (g r (inl refl)).1 in
-    let fz : (apply r.copy x).header.ip_proto ≡ x.header.ip_proto = unset r.copy x IpProto not_proto (g r (inl refl)).1 in
+    let ez : (apply r.copy x).header.eth_typ ≡ x.header.eth_typ = never_set r.copy x EthTyp not_typ (g r (inl refl)).1 in
+    let fz : (apply r.copy x).header.ip_proto ≡ x.header.ip_proto = never_set r.copy x IpProto not_proto (g r (inl refl)).1 in
     let now : fill (apply r.copy x) p ≡ apply r.copy p = fill_apply r.copy x p ∙ ap (apply r.copy) (fill_own x p a) in
     acted_changed y (apply r.copy x) p v.pt (port_tag k v.stamp) (retagged v.stamp k r.kind ++ Output (port_number v r.port) ∷ listed v x (apply r.copy x) r.kind rs) (keeps_of y (apply r.copy x) c.0) (e ∙ sym ez) (f ∙ sym fz) ∙
     acted_retagged v.stamp k r.kind v.pt (fill (apply r.copy x) p).header (Output (port_number v r.port) ∷ listed v x (apply r.copy x) r.kind rs) s ∙

@@ -15,7 +15,7 @@ use Rattle.nk_values.specs.Packets.{get, with_value}
 use Rattle.nk_values.specs.Ranges.{IsLiteralOf}
 use Rattle.nk_values.specs.Tags.{IsVlanId}
 use Rattle.nk_values.proofs.PacketLaws.{get-with_same, get-with_other, field_cases}
-use Rattle.fdd_nodes.specs.Cells.{open_cell}
+use Rattle.fdd_nodes.specs.Cells.{whole_cell}
 use Rattle.fdd_nodes.specs.Trees.{apply}
 use Rattle.leaf_actions.specs.declared.made.ActionsFault.{ActionsFault}
 use Rattle.leaf_actions.specs.declared.route.Route.{Route}
@@ -77,7 +77,7 @@ out_cases (l ∷ c) x = elim (out_cases c (put l x)) [
 pub is_out : (v : PortView) (x : Packet) (cs : List (List Lit)) (r : Route) → IsRouteOf v x cs r → IsOut v r
 is_out v x cs r k =
     let e : r.port ≡ out_of v r.copy = sym k.port ∙ port_found v.ports (out_of v r.copy) k.site k.found in
-    elim (out_cases r.copy (with_value open_cell Pt v.pt)) [
+    elim (out_cases r.copy (with_value whole_cell Pt v.pt)) [
       | inl d ↦ inl (e ∙ d)
       | inr l ↦ let low = l.low in let high = l.value.high in inr (omega (arith, low, e), omega (arith, high, e))
     ]

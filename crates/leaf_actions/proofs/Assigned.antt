@@ -10,7 +10,7 @@ use Rattle.nk_values.specs.Lits.{lit_field, lit_value}
 use Rattle.nk_values.specs.Packets.{get, with_value}
 use Rattle.nk_values.specs.Ranges.{place}
 use Rattle.nk_values.proofs.PacketLaws.{get-with_same, get-with_other, same_field}
-use Rattle.fdd_nodes.specs.Cells.{open_cell}
+use Rattle.fdd_nodes.specs.Cells.{whole_cell}
 use Rattle.fdd_nodes.specs.Copies.{IsCopyFrom, IsCopy, assigned}
 use Rattle.fdd_nodes.specs.Trees.{apply}
 use Rattle.leaf_actions.specs.declared.view.PortView.{PortView}
@@ -48,7 +48,7 @@ leaves (l ∷ c) f p e = split (place (lit_field l) == place f) refl (leaves c f
         r (sym (ap (λ b. cond b (Some (lit_value l)) (assigned c f)) t) ∙ e) ∙ get-with_other p (lit_field l) f (lit_value l) other
 
 pub out_assigned : (v : PortView) (c : List Lit) (n : ℕ) → IsCopy c → assigned c Pt ≡ Some n → n ≡ out_of v c
-out_assigned v c n h e = sym (assigns c 0 Pt (with_value open_cell Pt v.pt) n h e)
+out_assigned v c n h e = sym (assigns c 0 Pt (with_value whole_cell Pt v.pt) n h e)
 
 pub out_own : (v : PortView) (c : List Lit) → assigned c Pt ≡ None → v.pt ≡ out_of v c
-out_own v c e = sym (leaves c Pt (with_value open_cell Pt v.pt) e)
+out_own v c e = sym (leaves c Pt (with_value whole_cell Pt v.pt) e)

@@ -8,7 +8,7 @@ use Rattle.nk_values.specs.declared.lit.Lit.{Lit}
 use Rattle.nk_values.specs.Members.{IsIn}
 use Rattle.nk_values.specs.Packets.{get}
 use Rattle.nk_values.specs.Ranges.{IsValue}
-use Rattle.fdd_nodes.specs.Cells.{free, IsValid}
+use Rattle.fdd_nodes.specs.Cells.{unset, IsValid}
 use Rattle.fdd_nodes.specs.Trees.{apply}
 use Rattle.leaf_actions.specs.declared.route.Route.{Route}
 use Rattle.leaf_actions.specs.declared.made.ActionsFault.{ActionsFault}
@@ -20,7 +20,7 @@ use Rattle.leaf_actions.proofs.Fixed.{fixed_apply}
 
 -- what x fixes of the header fields that actions set, y fixes too
 pub record Keeps (x y : Packet) : Type 0 where
-  pub each : (f : Field) → IsIn settable f → get x f ≢ free → get y f ≢ free
+  pub each : (f : Field) → IsIn settable f → get x f ≢ unset → get y f ≢ unset
 
 none_lost : (x y : Packet) (fs : List Field) → keeps_fields x y fs ≡ true → (f : Field) → IsIn fs f → loses x y f ≡ false
 none_lost x y [] h f k = absurd k
@@ -31,8 +31,8 @@ none_lost x y (g ∷ fs) h f k = split (loses x y g) refl h (λ r. none_lost x y
     split false e h r (inl i) = ap (loses x y) (sym i) ∙ e
     split false e h r (inr i) = r h i
 
-not_lost : (m n : ℕ) → not (m == free) && n == free ≡ false → m ≢ free → n ≢ free
-not_lost m n h k e = let a : (m == free) ≡ false = ne_eqb _ _ k in let b : (n == free) ≡ true = eq-eqb _ _ e in true_false (sym (rw (a, b) at h))
+not_lost : (m n : ℕ) → not (m == unset) && n == unset ≡ false → m ≢ unset → n ≢ unset
+not_lost m n h k e = let a : (m == unset) ≡ false = ne_eqb _ _ k in let b : (n == unset) ≡ true = eq-eqb _ _ e in true_false (sym (rw (a, b) at h))
   where
     true_false : false ≡ true → ⊥
     true_false e = cc
@@ -40,14 +40,14 @@ not_lost m n h k e = let a : (m == free) ≡ false = ne_eqb _ _ k in let b : (n 
 pub keeps_of : (x y : Packet) → keeps x y ≡ true → Keeps x y
 keeps_of x y h = record { each = λ f k n. not_lost (get x f) (get y f) (none_lost x y settable h f k) n }
 
-lost_none : (m n : ℕ) → (m ≢ free → n ≢ free) → not (m == free) && n == free ≡ false
-lost_none m n h = split (m == free) refl
+lost_none : (m n : ℕ) → (m ≢ unset → n ≢ unset) → not (m == unset) && n == unset ≡ false
+lost_none m n h = split (m == unset) refl
   where
-    split : (b : Bool) → (m == free) ≡ b → not (m == free) && n == free ≡ false
+    split : (b : Bool) → (m == unset) ≡ b → not (m == unset) && n == unset ≡ false
     split true e = rw e refl
     split false e = rw (e, ne_eqb _ _ (h (eqb-false _ _ e))) refl
 
-all_kept : (x y : Packet) (fs : List Field) → ((f : Field) → IsIn fs f → get x f ≢ free → get y f ≢ free) → keeps_fields x y fs ≡ true
+all_kept : (x y : Packet) (fs : List Field) → ((f : Field) → IsIn fs f → get x f ≢ unset → get y f ≢ unset) → keeps_fields x y fs ≡ true
 all_kept x y [] h = refl
 all_kept x y (f ∷ fs) h = let e : loses x y f ≡ false = lost_none (get x f) (get y f) (h f (inl refl)) in ap (λ b. not b && keeps_fields x y fs) e ∙ all_kept x y fs (λ g k. h g (inr k))
 
@@ -59,15 +59,15 @@ pub kept_value : (x y : Packet) (f : Field) → keeps x y ≡ true → IsValid y
 kept_value x y f k v i n = v.at f (λ e. (keeps_of x y k).each f i (λ d. n (d ∙ sym e)) e)
 
 -- whether a copy changes a field
-changed_open : (m n : ℕ) → (m == free) && not (n == free) ≡ true → (m ≡ free) × (n ≢ free)
-changed_open m n h = split (m == free) (n == free) refl refl
+changed_open : (m n : ℕ) → (m == unset) && not (n == unset) ≡ true → (m ≡ unset) × (n ≢ unset)
+changed_open m n h = split (m == unset) (n == unset) refl refl
   where
-    split : (a b : Bool) → (m == free) ≡ a → (n == free) ≡ b → (m ≡ free) × (n ≢ free)
+    split : (a b : Bool) → (m == unset) ≡ a → (n == unset) ≡ b → (m ≡ unset) × (n ≢ unset)
     split true false e k = (eqb-true _ _ e, eqb-false _ _ k)
     split true true e k = let g : true && not true ≡ true = rw (e, k) at h in cc
-    split false b e k = let g : false && not (n == free) ≡ true = rw e at h in cc
+    split false b e k = let g : false && not (n == unset) ≡ true = rw e at h in cc
 
-open_changed : (m n : ℕ) → m ≡ free → n ≢ free → (m == free) && not (n == free) ≡ true
+open_changed : (m n : ℕ) → m ≡ unset → n ≢ unset → (m == unset) && not (n == unset) ≡ true
 open_changed m n e k = rw (eq-eqb _ _ e, ne_eqb _ _ k) refl
 
 includes_of : (x : Packet) (a b : List Lit) → Keeps (apply a x) (apply b x) → Includes x a b
@@ -77,10 +77,10 @@ includes_of x a b h = record {
 
 keeps_included : (x : Packet) (a b : List Lit) → Includes x a b → Keeps (apply a x) (apply b x)
 keeps_included x a b h = record {
-  each = λ f k n. split f k n (get x f == free) refl;
+  each = λ f k n. split f k n (get x f == unset) refl;
 }
   where
-    split : (f : Field) → IsIn settable f → get (apply a x) f ≢ free → (o : Bool) → (get x f == free) ≡ o → get (apply b x) f ≢ free
+    split : (f : Field) → IsIn settable f → get (apply a x) f ≢ unset → (o : Bool) → (get x f == unset) ≡ o → get (apply b x) f ≢ unset
     split f k n true e = (changed_open (get x f) (get (apply b x) f) (h.each f k (open_changed (get x f) (get (apply a x) f) (eqb-true _ _ e) n))).1
     split f k n false e = fixed_apply b x f (eqb-false _ _ e)
 

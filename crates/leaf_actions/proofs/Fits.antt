@@ -15,7 +15,7 @@ use Rattle.nk_values.specs.Members.{IsIn}
 use Rattle.nk_values.specs.Packets.{get}
 use Rattle.nk_values.specs.Ranges.{IsValue}
 use Rattle.nk_values.specs.Tags.{IsVlanId}
-use Rattle.fdd_nodes.specs.Cells.{IsOpen, IsValid}
+use Rattle.fdd_nodes.specs.Cells.{IsUnset, IsValid}
 use Rattle.fdd_nodes.specs.Trees.{apply}
 use Rattle.leaf_actions.specs.declared.route.Route.{Route}
 use Rattle.leaf_actions.specs.declared.view.PortView.{PortView}
@@ -60,7 +60,7 @@ change_fits f m n h = split (m == n) refl
 changed_value : (y z : Packet) (f : Field) → IsIn settable f → Keeps y z → IsValid z → get y f ≢ get z f → IsValue f (get z f)
 changed_value y z f i k v n = v.at f (λ o. n (opens o))
   where
-    opens : IsOpen z f → get y f ≡ get z f
+    opens : IsUnset z f → get y f ≡ get z f
     opens o = split (get y f == get z f) refl
       where
         split : (b : Bool) → (get y f == get z f) ≡ b → get y f ≡ get z f

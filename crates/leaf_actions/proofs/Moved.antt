@@ -17,7 +17,7 @@ use Rattle.nk_values.specs.Lits.{lit_field, lit_value}
 use Rattle.nk_values.specs.Members.{IsIn}
 use Rattle.nk_values.specs.Packets.{get}
 use Rattle.nk_values.proofs.PacketLaws.{get-with_other}
-use Rattle.fdd_nodes.specs.Cells.{free}
+use Rattle.fdd_nodes.specs.Cells.{unset}
 use Rattle.fdd_nodes.specs.Trees.{apply}
 use Rattle.leaf_actions.specs.declared.route.Route.{Route}
 use Rattle.leaf_actions.specs.declared.view.PortView.{PortView}
@@ -61,7 +61,7 @@ count_none p [] h = refl
 count_none p (f ∷ fs) h = ap (λ b. bit b + count_of p fs) (h f (inl refl)) ∙ ap (λ n. 0 + n) (count_none p fs (λ g i. h g (inr i)))
 
 pub no_change : (x : Packet) (c : List Lit) → Moves c → 0 ≡ change_count x c
-no_change x c m = sym (count_none (changes x c) settable (λ f i. ap (λ n. (get x f == free) && not (n == free)) (same_move c x m f i) ∙ unchanged (get x f == free)))
+no_change x c m = sym (count_none (changes x c) settable (λ f i. ap (λ n. (get x f == unset) && not (n == unset)) (same_move c x m f i) ∙ unchanged (get x f == unset)))
 
 -- nothing is to be set
 changed_none : (y z : Packet) (fs : List Field) → ((f : Field) → IsIn fs f → get y f ≡ get z f) → changed y z fs ≡ []
@@ -87,7 +87,7 @@ climbs_moved : (x y : Packet) (rs : List Route) → Same y x → ((r : Route) �
 climbs_moved x y [] s m = tt
 climbs_moved x y (r ∷ rs) s m =
     let z = apply r.copy x in
-    (of_keeps y z (record { each = λ f i n. λ (e : get z f ≡ free). n (same_after x y r.copy s (m r (inl refl)) f i ∙ e) }), climbs_moved x z rs (same_move r.copy x (m r (inl refl))) (λ t i. m t (inr i)))
+    (of_keeps y z (record { each = λ f i n. λ (e : get z f ≡ unset). n (same_after x y r.copy s (m r (inl refl)) f i ∙ e) }), climbs_moved x z rs (same_move r.copy x (m r (inl refl))) (λ t i. m t (inr i)))
 
 each_moves : (cs : List (List Lit)) (c : List Lit) → AllMove cs → IsIn cs c → Moves c
 each_moves [] c m i = absurd i

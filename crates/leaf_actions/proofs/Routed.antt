@@ -16,7 +16,7 @@ use Rattle.nk_values.specs.declared.sent.Sent.{Sent}
 use Rattle.nk_values.specs.Members.{IsIn}
 use Rattle.nk_values.specs.Packets.{with_value}
 use Rattle.nk_values.proofs.MemberLaws.{in-either}
-use Rattle.fdd_nodes.specs.Cells.{open_cell}
+use Rattle.fdd_nodes.specs.Cells.{whole_cell}
 use Rattle.fdd_nodes.specs.Copies.{copy_cmp}
 use Rattle.fdd_nodes.specs.Trees.{apply}
 use Rattle.leaf_actions.specs.declared.route.Route.{Route}
@@ -112,7 +112,7 @@ sent_one v x p c None = refl
 sent_one v x p c (Some s) = refl
 
 out_at : (v : PortView) (p : Packet) (c : List Lit) → p.pt ≡ v.pt → (apply c p).pt ≡ out_of v c
-out_at v p c e = apply_at c p (with_value open_cell Pt v.pt) Pt e
+out_at v p c e = apply_at c p (with_value whole_cell Pt v.pt) Pt e
 
 sent_all : (v : PortView) (x p : Packet) (cs : List (List Lit)) → p.pt ≡ v.pt → map (sent_route v p) (routes_of v x cs) ≡ sendings v cs p
 sent_all v x p [] e = refl

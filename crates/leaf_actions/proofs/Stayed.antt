@@ -19,7 +19,7 @@ use Rattle.nk_values.specs.Lits.{lit_field, lit_value}
 use Rattle.nk_values.specs.Members.{IsIn}
 use Rattle.nk_values.specs.Packets.{get}
 use Rattle.nk_values.proofs.PacketLaws.{get-with_other}
-use Rattle.fdd_nodes.specs.Cells.{free}
+use Rattle.fdd_nodes.specs.Cells.{unset}
 use Rattle.fdd_nodes.specs.Copies.{copy_cmp}
 use Rattle.fdd_nodes.specs.Trees.{apply}
 use Rattle.leaf_actions.specs.declared.route.Route.{Route}
@@ -45,20 +45,20 @@ stays_put l (m ∷ c) x (inl e, s) = (inl e, stays_put l c x s)
 stays_put l (m ∷ c) x (inr n, s) = (inr (fixed_apply (l ∷ []) x (lit_field m) n), stays_put l c x s)
 
 -- such a copy sets no header field that is open
-other_field : (l : Lit) (c : List Lit) (x : Packet) (f : Field) → Stays x (l ∷ c) → IsIn settable f → get x f ≡ free → lit_field l ≢ f
+other_field : (l : Lit) (c : List Lit) (x : Packet) (f : Field) → Stays x (l ∷ c) → IsIn settable f → get x f ≡ unset → lit_field l ≢ f
 other_field l c x f (inl p, s) i o e = not_pt f i (sym e ∙ p)
 other_field l c x f (inr n, s) i o e = n (ap (get x) e ∙ o)
 
-open_stays : (c : List Lit) (x : Packet) (f : Field) → Stays x c → IsIn settable f → get x f ≡ free → get (apply c x) f ≡ free
+open_stays : (c : List Lit) (x : Packet) (f : Field) → Stays x c → IsIn settable f → get x f ≡ unset → get (apply c x) f ≡ unset
 open_stays [] x f s i o = o
 open_stays (l ∷ c) x f s i o =
     open_stays c (put l x) f (stays_put l c x s.1) i (get-with_other x (lit_field l) f (lit_value l) (other_field l c x f s i o) ∙ o)
 
 -- so it counts nothing
-unchanged : (m n : ℕ) → (m ≡ free → n ≡ free) → (m == free) && not (n == free) ≡ false
-unchanged m n h = split (m == free) refl
+unchanged : (m n : ℕ) → (m ≡ unset → n ≡ unset) → (m == unset) && not (n == unset) ≡ false
+unchanged m n h = split (m == unset) refl
   where
-    split : (b : Bool) → (m == free) ≡ b → (m == free) && not (n == free) ≡ false
+    split : (b : Bool) → (m == unset) ≡ b → (m == unset) && not (n == unset) ≡ false
     split true e = rw (e, eq-eqb _ _ (h (eqb-true _ _ e))) refl
     split false e = rw e refl
 
@@ -96,7 +96,7 @@ rising v x p n (a ∷ b ∷ cs) s r (suc k) d i =
     (subst (λ (m : ℕ). is_lt (route_cmp (get_or rs m d) (get_or rs k d)) ≡ false) (add-one k) (rising v x p n (b ∷ cs) s.2 r.1 k d (omega (arith, i))))
 
 -- they climb
-climb_from : (v : PortView) (x y : Packet) (n : ℕ) (cs : List (List Lit)) → ((f : Field) → IsIn settable f → get y f ≢ free → get x f ≢ free) → AllStay v x n cs → AllClimb x y cs
+climb_from : (v : PortView) (x y : Packet) (n : ℕ) (cs : List (List Lit)) → ((f : Field) → IsIn settable f → get y f ≢ unset → get x f ≢ unset) → AllStay v x n cs → AllClimb x y cs
 climb_from v x y n [] h s = tt
 climb_from v x y n (c ∷ cs) h s = (
   of_keeps y (apply c x) (record { each = λ f i m. fixed_apply c x f (h f i m) }),

@@ -2,14 +2,14 @@
 use Rattle.std.specs.Prelude.{◌≡◌, Bool, true, ◌&&◌, not, List, [], ◌∷◌}
 use Rattle.nk_values.specs.declared.field.Field.{Field}
 use Rattle.nk_values.specs.declared.packet.Packet.{Packet}
-use Rattle.fdd_nodes.specs.Cells.{is_open}
+use Rattle.fdd_nodes.specs.Cells.{is_unset}
 use Rattle.fdd_nodes.specs.Trees.{apply}
 use Rattle.leaf_actions.specs.declared.route.Route.{Route}
 use Rattle.leaf_actions.specs.Settable.{settable}
 
 -- the field is fixed in x, and open in y
 abbrev pub loses : Packet → Packet → Field → Bool
-loses x y f = not (is_open x f) && is_open y f
+loses x y f = not (is_unset x f) && is_unset y f
 
 -- none of the fields is lost from x to y
 abbrev pub keeps_fields : Packet → Packet → List Field → Bool

@@ -5,17 +5,17 @@ use Rattle.nk_values.specs.declared.field.Field.{Field}
 use Rattle.nk_values.specs.declared.packet.Packet.{Packet}
 use Rattle.nk_values.specs.declared.lit.Lit.{Lit}
 use Rattle.nk_values.specs.Members.{IsIn}
-use Rattle.fdd_nodes.specs.Cells.{is_open}
+use Rattle.fdd_nodes.specs.Cells.{is_unset}
 use Rattle.fdd_nodes.specs.Trees.{apply}
 use Rattle.leaf_actions.specs.Settable.{settable}
 
 -- the cell x leaves the field open, and the copy sets it
 abbrev pub changes : Packet → List Lit → Field → Bool
-changes x c f = is_open x f && not (is_open (apply c x) f)
+changes x c f = is_unset x f && not (is_unset (apply c x) f)
 
 -- the cell x leaves the field open, and the cell y fixes it
 abbrev pub fixes : Packet → Packet → Field → Bool
-fixes x y f = is_open x f && not (is_open y f)
+fixes x y f = is_unset x f && not (is_unset y f)
 
 abbrev pub bit : Bool → ℕ
 bit true = 1

@@ -7,7 +7,7 @@ use Rattle.nk_values.specs.declared.field.Field.TheVariants.{Pt}
 use Rattle.nk_values.specs.declared.packet.Packet.{Packet}
 use Rattle.nk_values.specs.declared.lit.Lit.{Lit}
 use Rattle.nk_values.specs.Packets.{with_value}
-use Rattle.fdd_nodes.specs.Cells.{open_cell}
+use Rattle.fdd_nodes.specs.Cells.{whole_cell}
 use Rattle.fdd_nodes.specs.Copies.{copy_cmp}
 use Rattle.fdd_nodes.specs.Trees.{apply}
 use Rattle.leaf_actions.specs.declared.route.Route.{Route}
@@ -18,7 +18,7 @@ use Rattle.leaf_actions.specs.Views.{port_in}
 
 -- the port at which a copy of a packet at the view's port stands
 abbrev pub out_of : PortView → List Lit → ℕ
-out_of v c = (apply c (with_value open_cell Pt v.pt)).pt
+out_of v c = (apply c (with_value whole_cell Pt v.pt)).pt
 
 abbrev pub route_by : Packet → List Lit → Option SwitchPort → List Route
 route_by x c None = []

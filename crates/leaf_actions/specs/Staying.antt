@@ -7,7 +7,7 @@ use Rattle.nk_values.specs.declared.lit.Lit.{Lit}
 use Rattle.nk_values.specs.declared.packet.Packet.{Packet}
 use Rattle.nk_values.specs.declared.rows.PortKind.{PortKind}
 use Rattle.nk_values.specs.Lits.{lit_field}
-use Rattle.fdd_nodes.specs.Cells.{IsOpen}
+use Rattle.fdd_nodes.specs.Cells.{IsUnset}
 use Rattle.fdd_nodes.specs.Trees.{apply}
 use Rattle.leaf_actions.specs.declared.view.PortView.{PortView}
 use Rattle.leaf_actions.specs.declared.view.SwitchPort.{SwitchPort}
@@ -20,7 +20,7 @@ use Rattle.leaf_actions.specs.Views.{port_in}
 -- the copy sets the port alone, and fields that the cell x fixes
 abbrev pub Stays : Packet → List Lit → Type 0
 Stays x [] = Unit {0}
-Stays x (l ∷ c) = ((lit_field l ≡ Pt) ⊎ ¬ IsOpen x (lit_field l)) × Stays x c
+Stays x (l ∷ c) = ((lit_field l ≡ Pt) ⊎ ¬ IsUnset x (lit_field l)) × Stays x c
 
 -- so do all copies, and they leave at the port n
 abbrev pub AllStay : PortView → Packet → ℕ → List (List Lit) → Type 0

@@ -30,7 +30,7 @@ fn changes(cell: &Cell, copy: &Assignments, f: Field) -> bool
 fn fixes(cell: &Cell, later: &Cell, f: Field) -> bool
     ensures { result ≡ fixes cell.now later.now f }
 {
-    cell.is_open(f) && !later.is_open(f)
+    cell.is_unset(f) && !later.is_unset(f)
 }
 
 // How many header fields are open in a cell and set by a copy.

@@ -24,11 +24,14 @@ use crate::view::PortView;
 use fdd_nodes::{Cell, Leaf};
 use nk_values::{Action, Actions, Field, IN_PORT, List, Packet, PortKind};
 use std::alloc::{AllocError, Global};
+use std::fmt;
+use thiserror::Error;
 
 /// Why no list of actions makes all copies: no action gives a field back its original number. The copies `a` and `b`,
 /// in the order of listing, each set a header field which the other leaves and the path does not fix. The first such
 /// field of each is told.
-#[derive(Drop)]
+#[derive(Drop, Error)]
+#[error("no order of the copies makes both")]
 pub struct ActionsFault {
     pub a: Route,
     pub b: Route,
@@ -36,11 +39,19 @@ pub struct ActionsFault {
     pub field_b: Field,
 }
 
-/// Memory ran out, or no list of actions makes all the copies.
-#[derive(Drop)]
+impl fmt::Debug for ActionsFault {
+    fn fmt<W: fmt::Write>(&self, f: &mut fmt::Formatter<W>) -> fmt::Result {
+        f.write_str("ActionsFault")
+    }
+}
+
+/// No list of actions makes all the copies, or memory ran out.
+#[derive(Debug, Drop, Error)]
 pub enum ActionsError {
-    Memory,
+    #[error("{0}")]
     Fault(ActionsFault),
+    #[error("out of memory")]
+    Memory,
 }
 
 impl From<AllocError> for ActionsError {

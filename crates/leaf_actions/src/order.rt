@@ -95,5 +95,5 @@ fn keeps_fields(known: &Cell, next: &Cell, fields: &[Field]) -> bool
 fn loses(known: &Cell, next: &Cell, f: Field) -> bool
     ensures { result ≡ loses known.now next.now f }
 {
-    !known.is_open(f) && next.is_open(f)
+    !known.is_unset(f) && next.is_unset(f)
 }

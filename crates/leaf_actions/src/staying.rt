@@ -46,7 +46,7 @@ fn stays(cell: &Cell, lits: &[Lit]) -> bool
     ensures { IsTrue result ↔ Stays cell.now lits.now }
 {
     for l in lits {
-        if l.field() != Field::Pt && cell.is_open(l.field()) {
+        if l.field() != Field::Pt && cell.is_unset(l.field()) {
             return false;
         }
     }

@@ -9,9 +9,9 @@ use Rattle.nk_values.specs.Lits.{lit_field, lit_value}
 use Rattle.nk_values.specs.declared.lit.Lit.{Lit}
 use Rattle.fdd_nodes.specs.Trees.{Tree, Leaf, Node}
 use Rattle.leaf_actions.specs.declared.view.PortView.{PortView}
-use Rattle.table_emitter.specs.declared.kinds.Kinds.{Kinds}
+use Rattle.table_emitter.specs.declared.kinds.FrameKinds.{FrameKinds}
 use Rattle.table_emitter.specs.Emission.{CanBeMade}
-use Rattle.table_emitter.specs.Kinds.{is_ip, is_port, is_type, is_protocol, true_bars, after_true, after_false, bars_ports, is_void}
+use Rattle.table_emitter.specs.FrameKinds.{is_ip, is_port, is_type, is_protocol, true_bars, after_true, after_false, bars_ports, is_void}
 use Rattle.table_emitter.specs.Passed.{past_ports, past_barred}
 use Rattle.table_emitter.proofs.Depths.{tests_in}
 use Rattle.table_emitter.proofs.Walking.{IsWalked, walk_over}
@@ -35,7 +35,7 @@ unbarred false false b e = refl
 unbarred false true b e = absurd (cc)
 
 -- a test of a port that does not hold says nothing of frames
-same_kinds : (k : Kinds) (l : Lit) → is_port (lit_field l) ≡ true → after_false k l ≡ k
+same_kinds : (k : FrameKinds) (l : Lit) → is_port (lit_field l) ≡ true → after_false k l ≡ k
 same_kinds k l p =
     let f = port_facts (lit_field l) p in
     λ i. record {
@@ -61,11 +61,11 @@ void_ports true false false true true true false true d e p q h = refl
 void_ports false false true true true true false true d e p q h = refl
 void_ports false false false true true true false true d e p q h = refl
 
-void_port : (k : Kinds) (l : Lit) → is_port (lit_field l) ≡ true → bars_ports k ≡ true → is_void (after_true k l) ≡ true
+void_port : (k : FrameKinds) (l : Lit) → is_port (lit_field l) ≡ true → bars_ports k ≡ true → is_void (after_true k l) ≡ true
 void_port k l p h =
     void_ports k.ip k.no_ip k.ports k.no_tcp k.no_udp (is_ip (lit_field l)) (true_bars is_type 2048 l) (is_port (lit_field l)) (true_bars is_protocol 6 l) (true_bars is_protocol 17 l) (port_facts (lit_field l) p).0 p h
 
-walked_past : (v : PortView) (top : ℕ) (x : Packet) (j k : Kinds) (d a : Tree) (old new : List Row) → bars_ports k ≡ true → IsWalked v top x j k d a old new → IsWalked v top x j k d (past_ports a) old new
+walked_past : (v : PortView) (top : ℕ) (x : Packet) (j k : FrameKinds) (d a : Tree) (old new : List Row) → bars_ports k ≡ true → IsWalked v top x j k d a old new → IsWalked v top x j k d (past_ports a) old new
 walked_past v top x j k d (Leaf cs) old new b h = h
 walked_past v top x j k d (Node l t e) old new b h = split (is_port (lit_field l)) refl (walked_past v top x j k d e old new b)
   where
@@ -90,12 +90,12 @@ fewer_past (Node l t e) = split (is_port (lit_field l)) (fewer_past e)
     split false r = omega arith
 
 -- what the walk keeps, where barred tests are passed over
-pub record IsPast (v : PortView) (top : ℕ) (x : Packet) (j k : Kinds) (d a u : Tree) (old new : List Row) : Type 0 where
+pub record IsPast (v : PortView) (top : ℕ) (x : Packet) (j k : FrameKinds) (d a u : Tree) (old new : List Row) : Type 0 where
   pub walked : IsWalked v top x j k d u old new
   pub made : CanBeMade u
   pub fewer : tests_in u ≤ tests_in a
 
-pub passed : (v : PortView) (top : ℕ) (x : Packet) (j k : Kinds) (d a u : Tree) (old new : List Row) → u ≡ past_barred k a → IsWalked v top x j k d a old new → CanBeMade a → IsPast v top x j k d a u old new
+pub passed : (v : PortView) (top : ℕ) (x : Packet) (j k : FrameKinds) (d a u : Tree) (old new : List Row) → u ≡ past_barred k a → IsWalked v top x j k d a old new → CanBeMade a → IsPast v top x j k d a u old new
 passed v top x j k d a u old new e h m = subst (λ (y : Tree). IsPast v top x j k d a y old new) (sym e) (split (bars_ports k) refl)
   where
     split : (b : Bool) → bars_ports k ≡ b → IsPast v top x j k d a (if b then past_ports a else a) old new

@@ -3,15 +3,15 @@
 //! Layer: rows and packets; private. Called by `lists`.
 ghost use Rattle.std.specs.Prelude.{◌≡◌};
 ghost use Rattle.fdd_nodes.specs.Trees.{tree};
-ghost use Rattle.table_emitter.specs.Kinds.{is_port};
+ghost use Rattle.table_emitter.specs.FrameKinds.{is_port};
 ghost use Rattle.table_emitter.specs.Passed.{past_barred};
 
-use crate::kinds::Kinds;
+use crate::kinds::FrameKinds;
 use fdd_nodes::Node;
 use nk_values::Field;
 
 // The part without the tests of transport ports that stand first, if no packet passes them.
-pub(crate) fn past_barred(part: &Node, kinds: Kinds) -> &Node
+pub(crate) fn past_barred(part: &Node, kinds: FrameKinds) -> &Node
     ensures { tree result.now ≡ past_barred kinds (tree part.now) }
 {
     if !kinds.bars_ports() {

@@ -8,9 +8,9 @@ use Rattle.nk_values.specs.Members.{IsIn}
 use Rattle.nk_values.proofs.MemberLaws.{in-either}
 use Rattle.fdd_nodes.specs.Paths.{Way, with_true, with_false}
 use Rattle.fdd_nodes.specs.Paths.{cell_on}
-use Rattle.table_emitter.specs.declared.kinds.Kinds.{Kinds}
-use Rattle.table_emitter.specs.Entries.{Entry, entry_of, entries}
-use Rattle.table_emitter.specs.Kinds.{kinds_of}
+use Rattle.table_emitter.specs.declared.kinds.FrameKinds.{FrameKinds}
+use Rattle.table_emitter.specs.Entries.{PathRow, path_row, path_rows}
+use Rattle.table_emitter.specs.FrameKinds.{kinds_of}
 use Rattle.fdd_nodes.specs.Roots.{part_with}
 use Rattle.table_emitter.specs.Parts.{part_at}
 use Rattle.table_emitter.specs.Patterns.{cells_of}
@@ -62,7 +62,7 @@ few_paths f s t o h = few_from f s s (step * place f + 1) t (raised f s t o h) (
 
 -- rows
 
-few_cells : (k : Kinds) (x : Packet) → length (cells_of k x) ≤ 2
+few_cells : (k : FrameKinds) (x : Packet) → length (cells_of k x) ≤ 2
 few_cells k x = split k.ip k.no_ip k.ports k.no_tcp k.no_udp
   where
     split : (a b c d e : Bool) → length (cells_of (record { ip = a; ports = c; no_ip = b; no_tcp = d; no_udp = e }) x) ≤ 2
@@ -75,26 +75,26 @@ few_cells k x = split k.ip k.no_ip k.ports k.no_tcp k.no_udp
     split true false true false false = omega arith
 
 -- at most two a path
-pub few_entries : (w : Way) (t : Tree) → length (entries w t) ≤ 2 * path_count t
+pub few_entries : (w : Way) (t : Tree) → length (path_rows w t) ≤ 2 * path_count t
 few_entries w (Leaf cs) =
-    let e = length-map (cells_of (kinds_of w) (cell_on w)) (entry_of w cs) in
+    let e = length-map (cells_of (kinds_of w) (cell_on w)) (path_row w cs) in
     let few = few_cells (kinds_of w) (cell_on w) in
     omega (arith, e, few)
 few_entries w (Node l t e) =
     let a = few_entries (with_true w l) t in
     let b = few_entries (with_false w l) e in
-    let c = length-append (entries (with_true w l) t) (entries (with_false w l) e) in
+    let c = length-append (path_rows (with_true w l) t) (path_rows (with_false w l) e) in
     omega (arith, a, b, c)
 
 -- each row has the copies of a leaf
-copies_of : (P : List (List Lit) → Type 0) (w : Way) (cs : List (List Lit)) (ys : List Packet) (e : Entry) → P cs → IsIn (map (entry_of w cs) ys) e → P e.copies
+copies_of : (P : List (List Lit) → Type 0) (w : Way) (cs : List (List Lit)) (ys : List Packet) (e : PathRow) → P cs → IsIn (map (path_row w cs) ys) e → P e.copies
 copies_of P w cs [] e h k = absurd k
-copies_of P w cs (y ∷ ys) e h (inl i) = subst (λ (z : Entry). P z.copies) i h
+copies_of P w cs (y ∷ ys) e h (inl i) = subst (λ (z : PathRow). P z.copies) i h
 copies_of P w cs (y ∷ ys) e h (inr k) = copies_of P w cs ys e h k
 
-pub entry_leaf : (P : List (List Lit) → Type 0) (w : Way) (t : Tree) (e : Entry) → AtLeaves P t → IsIn (entries w t) e → P e.copies
+pub entry_leaf : (P : List (List Lit) → Type 0) (w : Way) (t : Tree) (e : PathRow) → AtLeaves P t → IsIn (path_rows w t) e → P e.copies
 entry_leaf P w (Leaf cs) e h k = copies_of P w cs (cells_of (kinds_of w) (cell_on w)) e h k
-entry_leaf P w (Node l t u) e h k = elim (in-either (entries (with_true w l) t) (entries (with_false w l) u) e k) [
+entry_leaf P w (Node l t u) e h k = elim (in-either (path_rows (with_true w l) t) (path_rows (with_false w l) u) e k) [
   | inl i ↦ entry_leaf P (with_true w l) t e h.0 i
   | inr i ↦ entry_leaf P (with_false w l) u e h.1 i
 ]

@@ -30,7 +30,7 @@ use Rattle.leaf_actions.specs.Routes.{routes_of, IsListing}
 use Rattle.leaf_actions.proofs.Routed.{listed_known}
 use Rattle.table_emitter.specs.declared.fault.EmitError.TheVariants as emit
 use Rattle.table_emitter.specs.Emission.{view_of, entries_at, row_count, IsEmitFault}
-use Rattle.table_emitter.specs.Entries.{Entry}
+use Rattle.table_emitter.specs.Entries.{PathRow}
 use Rattle.table_emitter.specs.Faults.{IsBarred, IsLong, IsFaultAt, IsFirstFault}
 use Rattle.table_emitter.specs.Parts.{part_at}
 use Rattle.nk_values.specs.Fitting.{actions_len}
@@ -100,7 +100,7 @@ not_long o w v cs b r x h =
     let long = h.long in
     omega (arith, small, same, all, routes, copies, long, b)
 
-no_fault_at : (o : ℕ) (v : PortView) (n : ℕ) (e : Entry) (f : EmitFault) → o ≤ 3000 → n < 16000 → AreCopies e.copies → Exits o e.copies → ¬ IsFaultAt v n e f
+no_fault_at : (o : ℕ) (v : PortView) (n : ℕ) (e : PathRow) (f : EmitFault) → o ≤ 3000 → n < 16000 → AreCopies e.copies → Exits o e.copies → ¬ IsFaultAt v n e f
 no_fault_at o v n e (fault.Unordered sw pt a b) bo bn r x h = not_barred o e.way v e.copies a b x h.1
 no_fault_at o v n e (fault.TooManyActions sw pt) bo bn r x h = not_long o e.way v e.copies bo r x h.1
 no_fault_at o v n e (fault.TooManyRows sw pt) bo bn r x h = let k : 16000 ≤ n = h.2 in omega (arith, bn, k)
@@ -109,7 +109,7 @@ no_fault_at o v n e (fault.TooManySwitchRows sw) bo bn r x h = h
 no_first : (o : ℕ) (v : PortView) (d : Tree) (site : DeclaredSwitch) (n : ℕ) (f : EmitFault) → o ≤ 3000 → length (entries_at d site n) ≤ 16000 → AreRising d → AtLeaves (Exits o) d → ¬ IsFirstFault v 0 (entries_at d site n) f
 no_first o v d site n f bo few r x h =
     let part = part_at site.sw n d in
-    let among : IsIn (entries_at d site n) h.entry = subst (λ (es : List Entry). IsIn es h.entry) (sym h.all) (in-right h.before (h.entry ∷ h.behind) h.entry (inl refl)) in
+    let among : IsIn (entries_at d site n) h.entry = subst (λ (es : List PathRow). IsIn es h.entry) (sym h.all) (in-right h.before (h.entry ∷ h.behind) h.entry (inl refl)) in
     let total = ap length h.all in
     let both = length-append h.before (h.entry ∷ h.behind) in
     no_fault_at o v (0 + length h.before) h.entry f bo (omega (arith, few, total, both))

@@ -16,7 +16,7 @@ use Rattle.nk_values.specs.Members.{IsIn}
 use Rattle.nk_values.specs.Packets.{get}
 use Rattle.nk_values.specs.Ranges.{place}
 use Rattle.nk_values.proofs.PacketLaws.{get-with_other}
-use Rattle.fdd_nodes.specs.Cells.{free}
+use Rattle.fdd_nodes.specs.Cells.{unset}
 use Rattle.fdd_nodes.specs.Trees.{apply}
 use Rattle.leaf_actions.specs.declared.made.ActionsFault.{ActionsFault}
 use Rattle.leaf_actions.specs.declared.route.Route.{Route}
@@ -54,7 +54,7 @@ never true = refl
 never false = refl
 
 unchanged : (x : Packet) (c : List Lit) (f : Field) → get (apply c x) f ≡ get x f → changes x c f ≡ false
-unchanged x c f e = ap (λ (n : ℕ). (get x f == free) && not (n == free)) e ∙ never (get x f == free)
+unchanged x c f e = ap (λ (n : ℕ). (get x f == unset) && not (n == unset)) e ∙ never (get x f == unset)
 
 none_found : (p : Field → Bool) (fs : List Field) → ((f : Field) → IsIn fs f → p f ≡ false) → first_of_fields p fs ≡ None
 none_found p [] h = refl

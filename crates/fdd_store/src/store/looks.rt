@@ -7,7 +7,7 @@ ghost use Rattle.fdd_nodes.specs.Roots.{IsLeaf};
 ghost use Rattle.fdd_nodes.specs.Trees as trees;
 ghost use Rattle.fdd_store.specs.Digests.{IsDigest, SetsField, behind};
 ghost use Rattle.fdd_store.specs.Looks.{Looks};
-ghost use Rattle.fdd_store.specs.Made.{IsMade};
+ghost use Rattle.fdd_store.specs.Canonical.{IsCanonical};
 ghost use Rattle.fdd_store.specs.Stores.{Has, IsBelow, IsRight, Gives, shape_tree, tree_at, trees as all_trees};
 
 use super::{Look, Store};
@@ -29,7 +29,7 @@ impl Store {
     /// The root of a diagram.
     pub fn look(&self, a: Id) -> Look
         requires { Has self.now a }
-        ensures made { IsMade (tree_at self.now a) }
+        ensures made { IsCanonical (tree_at self.now a) }
         ensures look { Looks self.now (tree_at self.now a) result }
     {
         match self.shapes.get_index(a.place()) {
@@ -60,7 +60,7 @@ impl Store {
     pub(super) fn digest(&self, a: Id) -> &Digest
         requires { Has self.now a }
         ensures digest { IsDigest self.now a (tree_at self.now a) result.now }
-        ensures made { IsMade (tree_at self.now a) }
+        ensures made { IsCanonical (tree_at self.now a) }
     {
         match self.digests.get(a.place()) {
             None => unreachable!(),
@@ -100,8 +100,8 @@ impl Store {
         requires has_b { Has self.now b }
         ensures ids { IsTrue result ↔ (a ≡ b) }
         ensures same { IsTrue result ↔ (tree_at self.now a ≡ tree_at self.now b) }
-        ensures made { IsMade (tree_at self.now a) }
-        ensures made_too { IsMade (tree_at self.now b) }
+        ensures made { IsCanonical (tree_at self.now a) }
+        ensures made_too { IsCanonical (tree_at self.now b) }
     {
         let _shapes = &self.shapes;
         a.place() == b.place()

@@ -6,7 +6,7 @@ ghost use Rattle.nk_values.specs.declared.lit.Lit.{Lit};
 ghost use Rattle.nk_values.specs.Ranges.{place};
 ghost use Rattle.fdd_nodes.specs.Trees as trees;
 ghost use Rattle.fdd_store.specs.Digests.{IsDigest, behind};
-ghost use Rattle.fdd_store.specs.Made.{IsMade};
+ghost use Rattle.fdd_store.specs.Canonical.{IsCanonical};
 ghost use Rattle.fdd_store.specs.Stores.{Has, IsBelow, Grows, Gives, shape_tree, tree_at, trees as all_trees};
 
 use super::Store;
@@ -24,7 +24,7 @@ impl Store {
     // Puts a node or a leaf, with what is told of it.
     fn put(&mut self, shape: Shape, digest: Digest) -> Result<Id, AllocError>
         requires below { IsBelow (length self.old.shapes) shape }
-        requires made { IsMade (shape_tree (all_trees self.old.shapes) shape) }
+        requires made { IsCanonical (shape_tree (all_trees self.old.shapes) shape) }
         requires right { IsDigest self.old (length self.old.shapes) (shape_tree (all_trees self.old.shapes) shape)
             digest }
         ensures grows { Grows self.old self.new }
@@ -75,7 +75,7 @@ impl Store {
     pub(crate) fn put_fork(&mut self, l: Lit, t: Id, e: Id) -> Result<Id, AllocError>
         requires has_then { Has self.old t }
         requires has_else { Has self.old e }
-        requires made { IsMade (trees.Node l (tree_at self.old t) (tree_at self.old e)) }
+        requires made { IsCanonical (trees.Node l (tree_at self.old t) (tree_at self.old e)) }
         ensures grows { Grows self.old self.new }
         ensures place { IfOk result
             (λ i. Gives self.new i (λ x. x ≡ trees.Node l (tree_at self.old t) (tree_at self.old e))) }

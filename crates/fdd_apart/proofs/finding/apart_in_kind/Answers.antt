@@ -33,6 +33,6 @@ returns-clause-told c =
     let first = gives_grown _ _ _ _ c.in_ok-y.ensures.grows c.in_ok-x.ensures.only in
     let second = subst (λ (t : Tree). Restricts c.args.frame t (tree_at c.restriction-2.new.store c.in_ok-y.y))
     (tree_grown _ _ _ c.in_ok-x.ensures.grows c.requires.has_b) c.in_ok-y.ensures.only.is in
-    let cell = subst (λ (q : Packet). CellApart q (tree_at c.restriction-2.new.store c.in_ok-x.x) (tree_at c.restriction-2.new.store c.in_ok-y.y) c.in_ok-cell.cell) c.open.ensures c.in_ok-cell.ensures.apart in
+    let cell = subst (λ (q : Packet). CellApart q (tree_at c.restriction-2.new.store c.in_ok-x.x) (tree_at c.restriction-2.new.store c.in_ok-y.y) c.in_ok-cell.cell) c.whole.ensures c.in_ok-cell.ensures.apart in
     told_apart c.args.frame c.args.names.now _ _ _ _ _ _ c.output_apart.result c.requires.named_a c.requires.named_b first.is second cell c.packet_of-packet.ensures
     (told_as _ _ _ _ _ c.output_apart.result (tree_grown _ _ _ all c.requires.has_a) (tree_grown _ _ _ all c.requires.has_b) c.output_apart.ensures)

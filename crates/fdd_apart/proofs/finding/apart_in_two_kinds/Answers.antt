@@ -12,8 +12,8 @@ apart_in_kind-requires-2 c = asked_grown _ _ _ _ _ c.in_ok-found.ensures.grows c
 
 pub returns-clause-told : goal.returns-clause-told
 returns-clause-told c =
-    let a = tree_at c.args.store.now c.args.a in
-    let b = tree_at c.args.store.now c.args.b in
+    let a = tree_at c.args.store.now c.args.compared.now.a in
+    let b = tree_at c.args.store.now c.args.compared.now.b in
     let one = subst (λ (o : Option Apart). MatchOption o (AreAlikeOf c.args.first a b) (IsApart a b)) c.in_default.is c.in_ok-found.ensures.told in
     if_ok c.apart_in_kind-2.result _ _ c.apart_in_kind-2.ensures.told
     (λ o h. both_kinds c.args.first c.args.second a b _ _ o (tree_grown _ _ _ c.in_ok-found.ensures.grows c.requires.has_a) (tree_grown _ _ _ c.in_ok-found.ensures.grows c.requires.has_b) one h)

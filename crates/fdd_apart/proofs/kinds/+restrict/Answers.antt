@@ -31,15 +31,15 @@ restrict-returns-clause-known t c =
 pub restrict_anew-restrict-requires : goal.restrict_anew-restrict-requires
 restrict_anew-restrict-requires t c =
     let f = c.in-Fork.ensures.look in (
-      (let w = fall_then _ c.in-Fork.l _ _ _ _ f c.in-Fork.ensures.made in omega (arith, w)),
-      (f.has_then, (few_then c.in-Fork.l _ _ _ f.is c.requires.few, c.requires.known)),
+      (let w = fall_then _ c.in-Fork.test _ _ _ _ f c.in-Fork.ensures.made in omega (arith, w)),
+      (f.has_then, (few_then c.in-Fork.test _ _ _ f.is c.requires.few, c.requires.known)),
     )
 
 pub restrict_anew-restrict-requires-in-No : goal.restrict_anew-restrict-requires-in-No
 restrict_anew-restrict-requires-in-No t c =
     let f = c.in-Fork.ensures.look in (
-      (let w = fall_else _ c.in-Fork.l _ _ _ _ f c.in-Fork.ensures.made in omega (arith, w)),
-      (f.has_else, (few_else c.in-Fork.l _ _ _ f.is c.requires.few, c.requires.known)),
+      (let w = fall_else _ c.in-Fork.test _ _ _ _ f c.in-Fork.ensures.made in omega (arith, w)),
+      (f.has_else, (few_else c.in-Fork.test _ _ _ f.is c.requires.few, c.requires.known)),
     )
 
 pub restrict_anew-returns-in-Leaf-clause-known : goal.restrict_anew-returns-in-Leaf-clause-known
@@ -47,35 +47,35 @@ restrict_anew-returns-in-Leaf-clause-known t c = any_ok _ _ (restrictions_grown 
 
 pub restrict_anew-returns-in-Yes-clause-only : goal.restrict_anew-returns-in-Yes-clause-only
 restrict_anew-returns-in-Yes-clause-only t c =
-    let holds = subst (λ (q : Packet). Holds q c.in-Fork.l) c.cell.ensures c.in-Yes.ensures in
-    if_ok c.restrict.result _ _ c.restrict.ensures.only (λ r g. gives_as _ r _ _ (λ x w. restricts_then c.args.frame c.in-Fork.l _ _ _ x c.in-Fork.ensures.look.is holds w) g)
+    let holds = subst (λ (q : Packet). Holds q c.in-Fork.test) c.cell.ensures c.in-Yes.ensures in
+    if_ok c.restrict.result _ _ c.restrict.ensures.only (λ r g. gives_as _ r _ _ (λ x w. restricts_then c.args.frame c.in-Fork.test _ _ _ x c.in-Fork.ensures.look.is holds w) g)
 
 pub restrict_anew-returns-in-No-clause-only : goal.restrict_anew-returns-in-No-clause-only
 restrict_anew-returns-in-No-clause-only t c =
-    let bars = subst (λ (q : Packet). Bars q c.in-Fork.l) c.cell.ensures c.in-No.ensures in
-    if_ok c.restrict-in-No.result _ _ c.restrict-in-No.ensures.only (λ r g. gives_as _ r _ _ (λ x w. restricts_barred c.args.frame c.in-Fork.l _ _ _ x c.in-Fork.ensures.look.is bars w) g)
+    let bars = subst (λ (q : Packet). Bars q c.in-Fork.test) c.cell.ensures c.in-No.ensures in
+    if_ok c.restrict-in-No.result _ _ c.restrict-in-No.ensures.only (λ r g. gives_as _ r _ _ (λ x w. restricts_barred c.args.frame c.in-Fork.test _ _ _ x c.in-Fork.ensures.look.is bars w) g)
 
 pub restrict_test-restrict-requires : goal.restrict_test-restrict-requires
 restrict_test-restrict-requires t c =
     let f = c.requires.fork in (
-      (let w = fall_else _ c.args.l _ _ _ _ f c.requires.made in omega (arith, w)),
-      (f.has_else, (few_else c.args.l _ _ _ f.is c.requires.few, c.requires.known)),
+      (let w = fall_else _ c.args.fork.test _ _ _ _ f c.requires.made in omega (arith, w)),
+      (f.has_else, (few_else c.args.fork.test _ _ _ f.is c.requires.few, c.requires.known)),
     )
 
 pub restrict_test-returns-then-not-leaves-clause-only : goal.restrict_test-returns-then-not-leaves-clause-only
 restrict_test-returns-then-not-leaves-clause-only t c =
     let out : ¬ Leaves c.args.frame c.field.result c.value.result = λ w. false≢true (sym c.if-not-leaves.true ∙ c.leaves.ensures.1 w) in
-    let excluded = subst (λ (f : Field). ¬ Leaves c.args.frame f (lit_value c.args.l)) c.field.ensures
+    let excluded = subst (λ (f : Field). ¬ Leaves c.args.frame f (lit_value c.args.fork.test)) c.field.ensures
     (subst (λ (n : ℕ). ¬ Leaves c.args.frame c.field.result n) c.value.ensures out) in
-    gives_as _ _ _ _ (λ x w. restricts_excluded c.args.frame c.args.l _ _ _ x c.requires.fork.is excluded w) c.in_ok-no.ensures.only
+    gives_as _ _ _ _ (λ x w. restricts_excluded c.args.frame c.args.fork.test _ _ _ x c.requires.fork.is excluded w) c.in_ok-no.ensures.only
 
 pub restrict_test-restrict-requires-2 : goal.restrict_test-restrict-requires-2
 restrict_test-restrict-requires-2 t c =
     let f = c.requires.fork in
     let g = c.in_ok-no.ensures.grows in
     let same = tree_grown _ _ _ g f.has_then in (
-      (let w = fall_then _ c.args.l _ _ _ _ f c.requires.made in let e = ap level same in omega (arith, w, e)),
-      (has_grown _ _ _ g f.has_then, (subst IsFew (sym same) (few_then c.args.l _ _ _ f.is c.requires.few), c.in_ok-no.ensures.known)),
+      (let w = fall_then _ c.args.fork.test _ _ _ _ f c.requires.made in let e = ap level same in omega (arith, w, e)),
+      (has_grown _ _ _ g f.has_then, (subst IsFew (sym same) (few_then c.args.fork.test _ _ _ f.is c.requires.few), c.in_ok-no.ensures.known)),
     )
 
 pub restrict_test-returns-in_err-yes-clause-grows : goal.restrict_test-returns-in_err-yes-clause-grows
@@ -87,7 +87,7 @@ restrict_test-choice-requires-clause-few t c =
     let f = c.requires.fork in
     let yes = subst (λ (x : Tree). Restricts k x (tree_at c.restrict-2.new.store c.in_ok-yes.yes)) (tree_grown _ _ _ c.in_ok-no.ensures.grows f.has_then) c.in_ok-yes.ensures.only.is in
     let no = gives_grown _ _ _ _ c.in_ok-yes.ensures.grows c.in_ok-no.ensures.only in
-    few_choice k c.args.l _ _ _ _ _ f.is yes no.is c.requires.few
+    few_choice k c.args.fork.test _ _ _ _ _ f.is yes no.is c.requires.few
 
 pub restrict_test-returns-clause-known : goal.restrict_test-returns-clause-known
 restrict_test-returns-clause-known t c = any_ok _ _ (restrictions_grown c.args.frame _ _ _ c.choice.ensures.grows c.in_ok-yes.ensures.known)
@@ -98,6 +98,6 @@ restrict_test-returns-clause-only t c =
     let f = c.requires.fork in
     let yes = subst (λ (x : Tree). Restricts k x (tree_at c.restrict-2.new.store c.in_ok-yes.yes)) (tree_grown _ _ _ c.in_ok-no.ensures.grows f.has_then) c.in_ok-yes.ensures.only.is in
     let no = gives_grown _ _ _ _ c.in_ok-yes.ensures.grows c.in_ok-no.ensures.only in
-    let left = subst (λ (g : Field). Leaves k g (lit_value c.args.l)) c.field.ensures
+    let left = subst (λ (g : Field). Leaves k g (lit_value c.args.fork.test)) c.field.ensures
     (subst (λ (n : ℕ). Leaves k c.field.result n) c.value.ensures (c.leaves.ensures.0 c.if-not-leaves.false)) in
-    if_ok c.choice.result _ _ c.choice.ensures.place (λ r g. gives_as _ r _ _ (λ z w. restricts_test k c.args.l _ _ _ _ _ z f.is c.requires.untold left yes no.is w) g)
+    if_ok c.choice.result _ _ c.choice.ensures.place (λ r g. gives_as _ r _ _ (λ z w. restricts_test k c.args.fork.test _ _ _ _ _ z f.is c.requires.untold left yes no.is w) g)

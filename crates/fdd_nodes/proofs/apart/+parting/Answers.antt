@@ -12,7 +12,7 @@ cases (Some x) P P' Q Q' h f g = g x h
 
 pub parting-requires : goal.parting-requires
 parting-requires t c =
-    (omega (arith, sizes_fall _ _ _ _ _ _ c.in-Some.ensures.one c.then_of.ensures.within c.then_of-in-Open.ensures.within c.then_of.ensures.smaller c.then_of-in-Open.ensures.smaller), tt)
+    (omega (arith, sizes_fall _ _ _ _ _ _ c.in-Some.ensures.one c.then_of.ensures.within c.then_of-in-Unset.ensures.within c.then_of.ensures.smaller c.then_of-in-Unset.ensures.smaller), tt)
 
 pub parting-requires-in-None : goal.parting-requires-in-None
 parting-requires-in-None t c =
@@ -31,19 +31,19 @@ returns-in-Some-parting t c =
     let first = c.in-Some.ensures in
     parts_then c.args.cell.now c.in-Some.l _ _ _ _ _ _ _
     (splits_of _ _ _ _ first.from_a c.then_of.ensures.part refl)
-    (splits_of _ _ _ _ first.from_b c.then_of-in-Open.ensures.part refl)
-    first c.in-Open.ensures
-    (subst (λ (x : Packet). Parts x (tree c.then_of.result.now) (tree c.then_of-in-Open.result.now) c.in-Some-parting.inner) c.with.ensures c.in-Some-parting.ensures)
+    (splits_of _ _ _ _ first.from_b c.then_of-in-Unset.ensures.part refl)
+    first c.in-Unset.ensures
+    (subst (λ (x : Packet). Parts x (tree c.then_of.result.now) (tree c.then_of-in-Unset.result.now) c.in-Some-parting.inner) c.with.ensures c.in-Some-parting.ensures)
 
 pub returns-in-None : goal.returns-in-None
 returns-in-None t c =
     let first = c.in-Some.ensures in
     let sa = splits_of _ _ _ _ first.from_a c.then_of.ensures.part c.else_of.ensures.part in
-    let sb = splits_of _ _ _ _ first.from_b c.then_of-in-Open.ensures.part c.else_of-in-None.ensures.part in
-    let inner = subst (λ (x : Packet). Alike x (tree c.then_of.result.now) (tree c.then_of-in-Open.result.now)) c.with.ensures c.in-None.ensures in
+    let sb = splits_of _ _ _ _ first.from_b c.then_of-in-Unset.ensures.part c.else_of-in-None.ensures.part in
+    let inner = subst (λ (x : Packet). Alike x (tree c.then_of.result.now) (tree c.then_of-in-Unset.result.now)) c.with.ensures c.in-None.ensures in
     cases c.parting-in-None.result _ _ _ _ c.parting-in-None.ensures
     (λ h. alike_split _ _ _ _ _ _ _ _ sa sb inner h)
-    (λ q h. parts_else _ _ _ _ _ _ _ _ q sa sb first c.in-Open.ensures h)
+    (λ q h. parts_else _ _ _ _ _ _ _ _ q sa sb first c.in-Unset.ensures h)
 
 pub returns-in-Yes : goal.returns-in-Yes
 returns-in-Yes t c =

@@ -15,14 +15,14 @@ use Rattle.fdd_split.proofs.splits.+split.Goals as goal
 pub divide-split_by-requires-then-precedes : goal.divide-split_by-requires-then-precedes
 divide-split_by-requires-then-precedes t c = (
   omega arith,
-  (c.requires.has, (c.requires.kept, (c.look.ensures.made, (c.requires.unbarred, (c.requires.threat, (c.requires.first, later_root c.args.l c.in-Fork.m _ _ _ c.look.ensures.made c.in-Fork.ensures.look.is (c.if-precedes.ensures.0 refl))))))),
+  (c.requires.has, (c.requires.kept, (c.look.ensures.made, (c.requires.unbarred, (c.requires.threat, (c.requires.first, later_root c.args.l c.in-Fork.test _ _ _ c.look.ensures.made c.in-Fork.ensures.look.is (c.if-precedes.ensures.0 refl))))))),
 )
 
 pub divide-split_branches-requires : goal.divide-split_branches-requires
 divide-split_branches-requires t c =
-    let o : rank c.in-Fork.m ≤ rank c.args.l = let n = (λ (z : rank c.args.l < rank c.in-Fork.m). false≢true (c.if-precedes.ensures.1 z)) in omega (arith, n) in (
+    let o : rank c.in-Fork.test ≤ rank c.args.l = let n = (λ (z : rank c.args.l < rank c.in-Fork.test). false≢true (c.if-precedes.ensures.1 z)) in omega (arith, n) in (
       omega arith,
-      (c.requires.has, (c.requires.kept, (c.look.ensures.made, (c.in-Fork.ensures.look, (c.requires.unbarred, first_before _ _ c.args.l c.in-Fork.m c.requires.first o))))),
+      (c.requires.has, (c.requires.kept, (c.look.ensures.made, (c.in-Fork.ensures.look, (c.requires.unbarred, first_before _ _ c.args.l c.in-Fork.test c.requires.first o))))),
     )
 
 pub split_below-returns-clause-kept : goal.split_below-returns-clause-kept
@@ -32,14 +32,14 @@ split_below-returns-clause-kept t c = c.in_ok-keep_part.ensures c.divide.new.sto
 pub split_branches-split_below-requires : goal.split_branches-split_below-requires
 split_branches-split_below-requires t c =
     let y = narrows_as _ _ _ _ _ c.deref.ensures.value c.in_ok-yes_bars.ensures in
-    let s = then_step c.args.bars.now c.args.store.now c.args.a c.args.m _ _ c.requires.forked c.requires.made c.requires.unbarred _ y in
+    let s = then_step c.args.bars.now c.args.store.now c.args.a c.args.fork.test _ _ c.requires.forked c.requires.made c.requires.unbarred _ y in
     (let w = s.0 in omega (arith, w), (s.1.0, (c.requires.kept, s.1.1)))
 
 pub split_branches-split_below-requires-2 : goal.split_branches-split_below-requires-2
 split_branches-split_below-requires-2 t c =
     let y = narrows_as _ _ _ _ _ c.deref.ensures.value c.in_ok-yes_bars.ensures in
     let n = narrows_as _ _ _ _ _ c.deref-2.ensures.value c.in_ok-no_bars.ensures in
-    let s = else_step c.args.bars.now c.args.store.now c.args.a c.args.m _ _ c.requires.forked c.requires.made c.requires.unbarred _ y _ n c.split_below.new.store c.in_ok-yes.ensures.grows in
+    let s = else_step c.args.bars.now c.args.store.now c.args.a c.args.fork.test _ _ c.requires.forked c.requires.made c.requires.unbarred _ y _ n c.split_below.new.store c.in_ok-yes.ensures.grows in
     (let w = s.0 in omega (arith, w), (s.1.0, (c.in_ok-yes.ensures.kept, s.1.1)))
 
 pub split_branches-returns-in_err-no-clause-grows : goal.split_branches-returns-in_err-no-clause-grows
@@ -53,7 +53,7 @@ split_branches-returns-clause-divided t c =
     let y = narrows_as _ _ _ _ _ c.deref.ensures.value c.in_ok-yes_bars.ensures in
     let n = narrows_as _ _ _ _ _ c.deref-2.ensures.value c.in_ok-no_bars.ensures in
     subst (λ (z : nodes.Node). Divides c.args.bars.now (tree_at c.args.store.now c.args.a) (tree z)) (sym c.in_ok-made.ensures.ok)
-    (branches_done c.args.bars.now c.args.store.now c.args.a c.args.m _ _ c.requires.forked c.requires.made c.requires.unbarred _ y _ n c.split_below.new.store c.in_ok-yes.ensures.grows c.requires.first _ _ c.in_ok-yes.ensures.divided c.in_ok-no.ensures.divided)
+    (branches_done c.args.bars.now c.args.store.now c.args.a c.args.fork.test _ _ c.requires.forked c.requires.made c.requires.unbarred _ y _ n c.split_below.new.store c.in_ok-yes.ensures.grows c.requires.first _ _ c.in_ok-yes.ensures.divided c.in_ok-no.ensures.divided)
 
 pub split_by-split_below-requires : goal.split_by-split_below-requires
 split_by-split_below-requires t c =

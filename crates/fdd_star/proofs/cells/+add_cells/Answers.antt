@@ -4,7 +4,7 @@ use Rattle.fdd_star.specs.Cells.{Leads}
 use Rattle.fdd_store.proofs.ForkLaws.{fall_then, fall_else}
 use Rattle.fdd_star.proofs.LeadLaws.{gone_as, gone_both, gone_by, gone_done, gone_leaf, gone_there, leads_both, leads_else, leads_then}
 use Rattle.fdd_star.proofs.cells.+add_cells.Goals as goal
-use Rattle.fdd_star.proofs.cells.+add_cells.Goals.{in-Leaf+in_ok-add_copies-in-Leaf, in-Fork+in-Yes+in_ok-add_cells-in-Yes, in-Fork+in-No+in_ok-add_cells-in-No, in-Fork+in-Open+in_ok-add_cells-in-Open+in_ok-add_cells-in-Open-2}
+use Rattle.fdd_star.proofs.cells.+add_cells.Goals.{in-Leaf+in_ok-add_copies-in-Leaf, in-Fork+in-Yes+in_ok-add_cells-in-Yes, in-Fork+in-No+in_ok-add_cells-in-No, in-Fork+in-Unset+in_ok-add_cells-in-Unset+in_ok-add_cells-in-Unset-2}
 
 pub returns-then-contains : goal.returns-then-contains
 returns-then-contains t c = gone_there c.args.store.now _ _ _ c.args.a (sym c.contains.ensures ∙ c.if-contains.true) c.requires.done
@@ -15,11 +15,11 @@ add_cells-requires t c = (let w = fall_then _ c.in-Fork.l _ _ _ _ c.in-Fork.ensu
 pub add_cells-requires-in-No : goal.add_cells-requires-in-No
 add_cells-requires-in-No t c = (let w = fall_else _ c.in-Fork.l _ _ _ _ c.in-Fork.ensures.look c.in-Fork.ensures.made in omega (arith, w), (c.in-Fork.ensures.look.has_else, c.requires.done))
 
-pub add_cells-requires-in-Open : goal.add_cells-requires-in-Open
-add_cells-requires-in-Open t c = (let w = fall_then _ c.in-Fork.l _ _ _ _ c.in-Fork.ensures.look c.in-Fork.ensures.made in omega (arith, w), (c.in-Fork.ensures.look.has_then, c.requires.done))
+pub add_cells-requires-in-Unset : goal.add_cells-requires-in-Unset
+add_cells-requires-in-Unset t c = (let w = fall_then _ c.in-Fork.l _ _ _ _ c.in-Fork.ensures.look c.in-Fork.ensures.made in omega (arith, w), (c.in-Fork.ensures.look.has_then, c.requires.done))
 
-pub add_cells-requires-in-Open-2 : goal.add_cells-requires-in-Open-2
-add_cells-requires-in-Open-2 t c = (let w = fall_else _ c.in-Fork.l _ _ _ _ c.in-Fork.ensures.look c.in-Fork.ensures.made in omega (arith, w), (c.in-Fork.ensures.look.has_else, c.in_ok-add_cells-in-Open.ensures.done))
+pub add_cells-requires-in-Unset-2 : goal.add_cells-requires-in-Unset-2
+add_cells-requires-in-Unset-2 t c = (let w = fall_else _ c.in-Fork.l _ _ _ _ c.in-Fork.ensures.look c.in-Fork.ensures.made in omega (arith, w), (c.in-Fork.ensures.look.has_else, c.in_ok-add_cells-in-Unset.ensures.done))
 
 pub returns : goal.returns
 returns t c = gone_done _ _ _ c.args.a _ _ _ c.in_ok-insert.ensures.keys (elim c.match-look.branch [
@@ -31,7 +31,7 @@ returns t c = gone_done _ _ _ c.args.a _ _ _ c.in_ok-insert.ensures.keys (elim c
   | in-Fork+in-No+in_ok-add_cells-in-No w ↦
       gone_as _ _ _ _ _ _ _ _ (ap (λ v. v.keys) w.cells-is) (ap (λ v. v.keys) w.done-is)
       (gone_by _ _ _ _ _ _ _ (λ g. subst (λ (x : Tree). Leads x c.args.here.now w.add_cells-in-No.new.cells.keys) (sym w.in-Fork.ensures.look.is) (leads_else _ _ _ _ _ w.in-No.ensures g)) w.in_ok-add_cells-in-No.ensures)
-  | in-Fork+in-Open+in_ok-add_cells-in-Open+in_ok-add_cells-in-Open-2 w ↦
+  | in-Fork+in-Unset+in_ok-add_cells-in-Unset+in_ok-add_cells-in-Unset-2 w ↦
       gone_as _ _ _ _ _ _ _ _ (ap (λ v. v.keys) w.cells-is) (ap (λ v. v.keys) w.done-is)
-      (gone_both _ _ _ _ _ _ _ _ _ _ (λ g h. subst (λ (x : Tree). Leads x c.args.here.now w.add_cells-in-Open-2.new.cells.keys) (sym w.in-Fork.ensures.look.is) (leads_both _ _ _ _ _ g h)) w.in_ok-add_cells-in-Open.ensures w.in_ok-add_cells-in-Open-2.ensures)
+      (gone_both _ _ _ _ _ _ _ _ _ _ (λ g h. subst (λ (x : Tree). Leads x c.args.here.now w.add_cells-in-Unset-2.new.cells.keys) (sym w.in-Fork.ensures.look.is) (leads_both _ _ _ _ _ g h)) w.in_ok-add_cells-in-Unset.ensures w.in_ok-add_cells-in-Unset-2.ensures)
 ])

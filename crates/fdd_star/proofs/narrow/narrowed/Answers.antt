@@ -8,7 +8,7 @@ use Rattle.fdd_star.proofs.StarLaws.{few_within}
 use Rattle.fdd_star.proofs.narrow.narrowed.Goals as goal
 
 pub returns-then-many-lt2-clause-body : goal.returns-then-many-lt2-clause-body
-returns-then-many-lt2-clause-body c = at_itself _ _ (λ p. IsNarrowed p c.args.cell.now) _ (λ p. narrowed_none p _) c.in_ok-many.ensures c.requires.has
+returns-then-many-lt2-clause-body c = at_itself _ _ (λ p. IsNarrowed p c.args.scope.now.cell.now) _ (λ p. narrowed_none p _) c.in_ok-many.ensures c.requires.has
 
 pub on_reached-requires : goal.on_reached-requires
 on_reached-requires c = record { has = has_grown _ _ _ c.in_ok-many.ensures c.requires.has; few = stays IsFew _ _ _ c.in_ok-many.ensures c.requires.has c.requires.few }
@@ -24,13 +24,13 @@ returns-in_err-parts-clause-grows c = grows_on _ _ _ (grows_on _ _ _ c.in_ok-man
 
 pub returns-then-branch-many : goal.returns-then-branch-many
 returns-then-branch-many c =
-    let body = stays (IsNarrowed (tree_at c.parts.new.store c.args.p) c.args.cell.now) _ _ _ c.in_ok-parts.ensures c.in_ok-body.ensures.body.has c.in_ok-body.ensures.body.is in
+    let body = stays (IsNarrowed (tree_at c.parts.new.store c.args.scope.now.body) c.args.scope.now.cell.now) _ _ _ c.in_ok-parts.ensures c.in_ok-body.ensures.body.has c.in_ok-body.ensures.body.is in
     record {
       grows = grows_on _ _ _ (grows_on _ _ _ c.in_ok-many.ensures c.in_ok-body.ensures.grows) c.in_ok-parts.ensures;
-      body = record { has = has_grown _ _ _ c.in_ok-parts.ensures c.in_ok-body.ensures.body.has; is = stayed (λ x. IsNarrowed x c.args.cell.now (tree_at c.parts-2.new.store c.in_ok-body.body)) _ _ _ c.in_ok-many.ensures c.requires.has body };
+      body = record { has = has_grown _ _ _ c.in_ok-parts.ensures c.in_ok-body.ensures.body.has; is = stayed (λ x. IsNarrowed x c.args.scope.now.cell.now (tree_at c.parts-2.new.store c.in_ok-body.body)) _ _ _ c.in_ok-many.ensures c.requires.has body };
     }
 
 pub returns-else-branch-many : goal.returns-else-branch-many
 returns-else-branch-many c =
     let g = grows_on _ _ _ (grows_on _ _ _ c.in_ok-many.ensures c.in_ok-body.ensures.grows) c.in_ok-parts.ensures in
-    record { grows = g; body = at_itself _ _ (λ p. IsNarrowed p c.args.cell.now) _ (λ p. narrowed_none p _) g c.requires.has }
+    record { grows = g; body = at_itself _ _ (λ p. IsNarrowed p c.args.scope.now.cell.now) _ (λ p. narrowed_none p _) g c.requires.has }

@@ -15,7 +15,7 @@ pub unnamed-other-requires : goal.unnamed-other-requires
 unnamed-other-requires c = subst AreFewNames (sym c.as_slice.ensures.keys) (few_names _ _ c.requires.few c.in_ok-names.ensures.named)
 
 pub part_in-requires-clause-valid : goal.part_in-requires-clause-valid
-part_in-requires-clause-valid c = subst IsValid (sym c.open-cell.ensures) open_valid
+part_in-requires-clause-valid c = subst IsValid (sym c.whole-cell.ensures) open_valid
 
 pub part_in-requires-clause-few : goal.part_in-requires-clause-few
 part_in-requires-clause-few c = few_none _ _ c.in_ok-none.ensures c.requires.few
@@ -33,10 +33,10 @@ pub returns-clause-grows : goal.returns-clause-grows
 returns-clause-grows c = c.part_in.ensures.grows
 
 pub part_in-requires-clause-found : goal.part_in-requires-clause-found
-part_in-requires-clause-found c = c.new-found.ensures _
+part_in-requires-clause-found c = c.new-progress.ensures.found _
 
 pub returns-clause-star : goal.returns-clause-star
-returns-clause-star c = match_on c.part_in.result _ _ _ _ (λ r g. gives_as _ r _ _ (λ x w. star_of _ _ _ _ x c.in_ok-none.ensures c.open-cell.ensures c.new-missed.ensures.empty w) g.star) (λ e h. told_of _ _ _ e h) c.part_in.ensures.part
+returns-clause-star c = match_on c.part_in.result _ _ _ _ (λ r g. gives_as _ r _ _ (λ x w. star_of _ _ _ _ x c.in_ok-none.ensures c.whole-cell.ensures c.new-progress.ensures.missed w) g.star) (λ e h. told_of _ _ _ e h) c.part_in.ensures.part
 
 pub returns-clause-never_deep : goal.returns-clause-never_deep
 returns-clause-never_deep c = shallow_by c.part_in.result _ _ _ (returns-clause-star c)

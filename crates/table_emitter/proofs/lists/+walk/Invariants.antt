@@ -13,7 +13,7 @@ decreases-loop-node l = tests_in (tree l.node)
 
 abbrev pub invariant-loop-node : goal.invariant-loop-node
 invariant-loop-node l = record {
-  walked : IsWalked l.view l.top l.cell l.initial.known l.known (tree l.part) (tree l.node) l.initial.rows.items l.rows.items;
+  walked : IsWalked l.listing.view.now l.listing.top l.cell l.initial.known l.known (tree l.part) (tree l.node) l.initial.rows.items l.rows.items;
   made : CanBeMade (tree l.node);
   smaller : tests_in (tree l.node) ≤ tests_in (tree l.part);
 }

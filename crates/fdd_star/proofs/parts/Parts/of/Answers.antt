@@ -33,16 +33,16 @@ returns-clause-found c = record { visits = visits_grown _ _ _ (grows_on _ _ _ c.
 
 pub returns-clause-parts : goal.returns-clause-parts
 returns-clause-parts c =
-    let p = tree_at c.args.store.now c.args.p in
-    let cell = c.args.cell.now in
+    let p = tree_at c.args.store.now c.args.scope.now.body in
+    let cell = c.args.scope.now.cell.now in
     let reach = c.in_ok-copies.ensures.reach in
     let left = c.in_ok-left.ensures in
     let leaf = star_as _ p cell _ _ _ (λ m i _. left.has m i) (star_leaf _ _ _ _ _ reach c.in_ok-leaf.ensures) in
-    let all = gives_as _ _ _ _ (λ x e. subst (StarBut c.args.first.now p cell c.left_of.new.missed.keys) (sym e) leaf) c.in_ok-all.ensures.place in
+    let all = gives_as _ _ _ _ (λ x e. subst (StarBut c.args.scope.now.first.now p cell c.left_of.new.missed.keys) (sym e) leaf) c.in_ok-all.ensures.place in
     record {
       all = gives_grown _ _ _ _ c.in_ok-body.ensures.grows all;
       missed = left.joined;
-      asked = λ m k. (reach.is_open m (left.only m k), reach.tests m (left.only m k));
+      asked = λ m k. (reach.is_unset m (left.only m k), reach.tests m (left.only m k));
       body = record { has = c.in_ok-body.ensures.body.has; is = stayed (λ x. IsNarrowed x cell (tree_at c.narrowed.new.store c.in_ok-body.body)) _ _ _ c.in_ok-all.ensures.grows c.requires.has c.in_ok-body.ensures.body.is };
       shared = shared_none _ _ _ _ _ (record { field = Sw; parts = c.new.result }) c.new.ensures.empty;
     }

@@ -1,5 +1,5 @@
 use Rattle.history_meaning.proofs.MoreTurns.{den-more}
-use Rattle.history_meaning.proofs.laws.more_turns_more_histories.Goals as goal
+use Rattle.history_meaning.proofs.laws.more_iterations_more_histories.Goals as goal
 
 pub returns : goal.returns
 returns c = den-more

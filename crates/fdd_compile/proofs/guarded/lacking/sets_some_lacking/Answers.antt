@@ -8,7 +8,7 @@ use Rattle.fdd_differ.specs.Frames.{Lacks}
 use Rattle.fdd_store.specs.Digests.{SetsField}
 use Rattle.fdd_store.specs.Stores.{tree_at}
 use Rattle.fdd_split.proofs.FieldLaws.{every_field, fields, next_taken}
-use Rattle.fdd_compile.proofs.guarded.sets_some_lacking.Goals as goal
+use Rattle.fdd_compile.proofs.guarded.lacking.sets_some_lacking.Goals as goal
 
 pub loop-field-preserved : goal.loop-field-preserved
 loop-field-preserved c = λ f i l s. elim (in-either _ _ f (subst (λ (fs : List Field). IsIn fs f) (next_taken fields _ _ c.loop-field-test.true (search rules)) i)) [
