@@ -81,7 +81,7 @@ impl Flights {
         ensures { option_map (λ f. f.now) result ≡ slice_get self.now place }
     {
         let mark = self.marks.get(place)?;
-        Some(self.queues[mark.place].copy(mark.number))
+        Some(self.queues[mark.place].flight(mark.number))
     }
 
     /// All of them, in order.

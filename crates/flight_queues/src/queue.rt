@@ -73,7 +73,7 @@ impl Queue {
     }
 
     /// The copy with a number.
-    pub(crate) fn copy(&self, number: u64) -> &Flight
+    pub(crate) fn flight(&self, number: u64) -> &Flight
         requires rising { AreRising self.now }
         requires held { IsIn (numbers_of self.now) number }
         ensures { found number self.now ≡ result.now ∷ [] }

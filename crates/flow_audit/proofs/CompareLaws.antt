@@ -79,7 +79,7 @@ first-other p q ps qs a b k ne =
       };
     }
 
--- ---- behind a row that both have
+-- ---- after a row that both have
 
 lift : (x : Row) (ps qs : List Row) → Within ps qs → Within (x ∷ ps) (x ∷ qs)
 lift x ps qs h s (inl e) = inl e

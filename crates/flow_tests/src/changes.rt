@@ -22,29 +22,26 @@ fn to_five() -> Pattern {
     }
 }
 
-// Does this to a table, with one output, or none for 0.
-fn change(
-    alloc: Global,
-    table: &mut Table,
+// A flow mod with one output, or none for 0.
+fn flow_mod(
     command: FlowCommand,
     pattern: Pattern,
     priority: u16,
     out: u16,
     out_port: u16,
-) -> Result<(), ChangeError> {
+) -> FlowMod {
     let actions = if out > 0 {
         Actions::one(Action::Output(out))
     } else {
         Actions::none()
     };
-    let change = FlowMod {
+    FlowMod {
         command,
         pattern,
         priority,
         out_port,
         actions,
-    };
-    table.change(alloc, &change)
+    }
 }
 
 // The output of the row of this priority: 0 if it has none, and nothing if there is no such row.
@@ -71,17 +68,10 @@ fn both_after(
     out_port: u16,
 ) -> Result<(Option<u16>, Option<u16>), ChangeError> {
     let mut table = Table::new(alloc, 2);
-    change(alloc, &mut table, FlowCommand::Add, at(), 5, 2, ANY_PORT)?;
-    change(
-        alloc,
-        &mut table,
-        FlowCommand::Add,
-        to_five(),
-        6,
-        3,
-        ANY_PORT,
-    )?;
-    change(alloc, &mut table, command, pattern, priority, out, out_port)?;
+    let add = FlowCommand::Add;
+    table.change(alloc, &flow_mod(add, at(), 5, 2, ANY_PORT))?;
+    table.change(alloc, &flow_mod(add, to_five(), 6, 3, ANY_PORT))?;
+    table.change(alloc, &flow_mod(command, pattern, priority, out, out_port))?;
     Ok((output(&table, 5), output(&table, 6)))
 }
 
@@ -139,16 +129,9 @@ fn removes_by_out_port(rt: HostRuntime) {
 // Two modifications of an empty table for one row: the output of the first, and what came of the second.
 fn modified_nothing(alloc: Global) -> Result<(Option<u16>, Result<(), ChangeError>), ChangeError> {
     let mut table = Table::new(alloc, 1);
-    change(alloc, &mut table, FlowCommand::Modify, at(), 5, 2, ANY_PORT)?;
-    let second = change(
-        alloc,
-        &mut table,
-        FlowCommand::ModifyStrict,
-        to_five(),
-        6,
-        3,
-        ANY_PORT,
-    );
+    let (modify, strict) = (FlowCommand::Modify, FlowCommand::ModifyStrict);
+    table.change(alloc, &flow_mod(modify, at(), 5, 2, ANY_PORT))?;
+    let second = table.change(alloc, &flow_mod(strict, to_five(), 6, 3, ANY_PORT));
     Ok((output(&table, 5), second))
 }
 

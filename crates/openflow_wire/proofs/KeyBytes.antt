@@ -181,7 +181,7 @@ bytes-numbers a b fa fb =
     (part 2 (number_or_zero p.tp_src) (number_or_zero q.tp_src) (from14 p) (from14 q) (small p.tp_src 65536 (lit< tt) fa.tp_src) (small q.tp_src 65536 (lit< tt) fb.tp_src)
     (part 2 (number_or_zero p.tp_dst) (number_or_zero q.tp_dst) [] [] (small p.tp_dst 65536 (lit< tt) fa.tp_dst) (small q.tp_dst 65536 (lit< tt) fb.tp_dst) refl)))))))))))))))
 
--- what stands behind lists of one length
+-- what stands after lists of one length
 tails : (xs ys t u : List ℕ) → length xs ≡ length ys → cmp (xs ++ t) (ys ++ u) ≡ ordering_then (cmp xs ys) (cmp t u)
 tails [] [] t u e = refl
 tails [] (y ∷ ys) t u e = absurd (omega arith)

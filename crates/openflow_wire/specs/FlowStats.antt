@@ -12,7 +12,7 @@ use Rattle.openflow_wire.specs.ActionLists.{AreActions}
 abbrev pub IsOfFlows : List ℕ → Type 0
 IsOfFlows body = number_at 2 0 body ≡ 1
 
--- what stands behind the head of a request; flags and pad are free
+-- what stands after the head of a request; flags and pad may be anything
 pub record IsFlowsRequest (body : List ℕ) (pattern : Pattern) (table out_port : ℕ) : Type 0 where
   pub size : length body ≡ 48
   pub form_is : IsOfFlows body
@@ -48,12 +48,12 @@ pub record IsEntry (bytes : List ℕ) (e : FlowStats) : Type 0 where
   pub counted : IsCounted bytes e
   pub actions_are : AreActions (drop 88 (take (entry_len e) bytes)) e.row.actions
 
--- the bytes are these entries, one behind the other
+-- the bytes are these entries, one after the other
 abbrev pub AreEntries : List ℕ → List FlowStats → Type 0
 AreEntries bytes [] = length bytes ≡ 0
 AreEntries bytes (e ∷ more) = IsEntry bytes e × AreEntries (drop (entry_len e) bytes) more
 
--- what stands behind the head of a reply; all flags but the lowest, which says that more replies come, are free
+-- what stands after the head of a reply; all flags but the lowest, which says that more replies come, may be anything
 pub record IsFlowsReply (body : List ℕ) (more : Bool) (entries : List FlowStats) : Type 0 where
   pub long : 4 ≤ length body
   pub form_is : IsOfFlows body

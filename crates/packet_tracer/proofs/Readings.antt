@@ -5,7 +5,7 @@ use Rattle.std.specs.Option.{IsSomeAnd}
 use Rattle.nk_values.specs.declared.packet.Packet.{Packet}
 use Rattle.nk_values.specs.declared.rows.PortRows.{PortRows}
 use Rattle.policy_rows.specs.Means.{standing, port_place, rows_at}
-use Rattle.packet_tracer.specs.Turns.{IsPortAt}
+use Rattle.packet_tracer.specs.Advances.{IsPortAt}
 use Rattle.packet_tracer.proofs.Parts.{own_rows}
 
 pub read_within : {X : Type 0} (xs : List X) (k : ℕ) (P : X → Type 0) → IsSomeAnd (slice_get xs k) P → k < length xs

@@ -15,7 +15,7 @@ use Rattle.topology_model.specs.Layouts.{Layout, wiring}
 use Rattle.topology_model.specs.Wired.{IsSound}
 use Rattle.packet_tracer.specs.declared.flight.Flight.{Flight}
 use Rattle.policy_rows.specs.Means.{RowsMean, standing, rows_at}
-use Rattle.packet_tracer.specs.Turns.{sent_on, ends_at, flights_at, flights_after, ends_after, entered}
+use Rattle.packet_tracer.specs.Advances.{sent_on, ends_at, flights_at, flights_after, ends_after, entered}
 use Rattle.packet_tracer.specs.Walks.{IsWalk}
 use Rattle.packet_tracer.specs.Laws.{ComesApart}
 use Rattle.packet_tracer.proofs.Parting.{hops-part}
@@ -36,8 +36,8 @@ module _ (rows : Rows) (p : Term) (t : Layout) (sound : IsSound t) (mean : RowsM
     finished : EachOnce (ends_after rows.ports t f k)
     landed : (g : Flight) (e : Trail) → IsIn (flights_after rows.ports t f k) g → IsIn (ends_after rows.ports t f k) e → ¬ (IsPast g.history e)
 
-  one-turn : (f : Flight) (k : ℕ) → IsPlaced t rows.stamp f → Parted f k → Parted f (suc k)
-  one-turn f k placed h = let now = flights_after rows.ports t f k in record {
+  one-hop : (f : Flight) (k : ℕ) → IsPlaced t rows.stamp f → Parted f k → Parted f (suc k)
+  one-hop f k placed h = let now = flights_after rows.ports t f k in record {
     flights = pairs-flat_map (flights_at rows.ports t) (λ g z. HaveParted g.history z.history) (λ g z. HaveParted g.history z.history) now h.flights (λ g m. (made g m).flights)
         (λ g z a b m n d i j. parted-on g.history z.history a.history b.history d ((made g m).went_on a i) ((made z n).went_on b j));
     finished = pairs-append (λ a b. a ≢ b) (ends_after rows.ports t f k) (flat_map (ends_at rows.ports t) now) h.finished
@@ -67,16 +67,16 @@ module _ (rows : Rows) (p : Term) (t : Layout) (sound : IsSound t) (mean : RowsM
       made : (g : Flight) → IsIn (flights_after rows.ports t f k) g → ComesApart t g (sent_on rows.ports g)
       made g m = placed-parts g (after-in rows p t sound mean f k g placed m).0
 
-  all-turns : (f : Flight) (k : ℕ) → IsPlaced t rows.stamp f → Parted f k
-  all-turns f zero placed = record { flights = ((λ g m. absurd m), tt); finished = tt; landed = λ g e m n. absurd n }
-  all-turns f (suc k) placed = one-turn f k placed (all-turns f k placed)
+  all-hops : (f : Flight) (k : ℕ) → IsPlaced t rows.stamp f → Parted f k
+  all-hops f zero placed = record { flights = ((λ g m. absurd m), tt); finished = tt; landed = λ g e m n. absurd n }
+  all-hops f (suc k) placed = one-hop f k placed (all-hops f k placed)
 
   -- the whole way
   pub walked : (pk : Packet) (tag : Option ℕ) (hops : ℕ) → tag ≡ None → IsWellShaped pk → IsIn (wiring t).edges (standing pk) →
       IsWalk (wiring t) p pk tag hops (ends_after rows.ports t (entered pk tag) hops) (map (λ f. f.history) (flights_after rows.ports t (entered pk tag) hops))
   walked pk tag hops none shaped edge =
       let placed : IsPlaced t rows.stamp (entered pk tag) = entered-placed t rows.stamp (entered pk tag) shaped edge none in
-      let all = all-turns (entered pk tag) hops placed in
+      let all = all-hops (entered pk tag) hops placed in
       record {
         done = λ h. (
           (λ m.

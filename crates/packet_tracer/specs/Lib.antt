@@ -1,6 +1,6 @@
 pub mod Hops
 pub mod Laws
 pub mod Orders
-pub mod Turns
+pub mod Advances
 pub mod Walks
 pub mod Ways

@@ -5,7 +5,7 @@ ghost use Rattle.std.specs.Prelude.{◌≡◌, false, IfOk, option_map};
 ghost use Rattle.nk_values.specs.Patterns.{Incoming, hits};
 ghost use Rattle.nk_values.specs.Tables.{first};
 ghost use Rattle.packet_tracer.specs.Orders.{IsStart};
-ghost use Rattle.packet_tracer.specs.Turns.{sent_by};
+ghost use Rattle.packet_tracer.specs.Advances.{sent_by};
 
 use flow_index::{act, hits};
 use nk_values::{Header, Pattern, Row, Sent, Tag};

@@ -9,6 +9,10 @@ pub record Planning : Type 0 where
   pub next : ℕ
   pub live : List Bool
 
+-- what clauses see of a planner's fields
+abbrev pub planning_of : ℕ → ℕ → ℕ → List Bool → Planning
+planning_of low high next live = record { low = low; high = high; next = next; live = live }
+
 pub record IsPlanning (p : Planning) : Type 0 where
   pub some : 1 ≤ p.low
   pub two : p.low < p.high
@@ -28,19 +32,19 @@ abbrev pub AllLive : Planning → Type 0
 AllLive p = (stamp : ℕ) → p.low ≤ stamp → stamp ≤ p.high → IsLive p stamp
 
 -- the stamp so many places on, going round
-abbrev pub turned : Planning → ℕ → ℕ
-turned p k = if nat_le (p.next + k) p.high then p.next + k else p.next + k - (p.high + 1 - p.low)
+abbrev pub rotated : Planning → ℕ → ℕ
+rotated p k = if nat_le (p.next + k) p.high then p.next + k else p.next + k - (p.high + 1 - p.low)
 
 -- the first stamp, from the next one on and going round, that is not live
 pub record IsFirstFree (p : Planning) (stamp : ℕ) : Type 0 where
   pub low : p.low ≤ stamp
   pub high : stamp ≤ p.high
-  pub turns : ℕ
-  pub here : stamp ≡ turned p turns
+  pub steps : ℕ
+  pub here : stamp ≡ rotated p steps
   pub free : ¬ (IsLive p stamp)
-  pub before : (k : ℕ) → k < turns → IsLive p (turned p k)
+  pub before : (k : ℕ) → k < steps → IsLive p (rotated p k)
 
--- once a stamp was given: it is live, and the search goes on behind it
+-- once a stamp was given: it is live, and the search goes on after it
 abbrev pub given : Planning → ℕ → Planning
 given p stamp = record p { next = if stamp == p.high then p.low else stamp + 1; live = slice_set p.live stamp true }
 

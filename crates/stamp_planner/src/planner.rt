@@ -2,7 +2,7 @@
 //!
 //! Layer: updates; public. Called by flow_tests.
 ghost use Rattle.std.specs.Prelude.{◌≡◌, ◌≤◌, ◌<◌, ◌↔◌, IsErr, IfOk, MatchOption, OnErr, ◌+◌, ◌-◌};
-ghost use Rattle.stamp_planner.specs.Stamps.{Planning, IsLive, AllLive, IsFirstFree, turned, none_live, given};
+ghost use Rattle.stamp_planner.specs.Stamps.{Planning, IsLive, AllLive, IsFirstFree, rotated, none_live, given};
 ghost use Rattle.stamp_planner.specs.Stamps.{released};
 
 use nk_values::GREATEST_VLAN_ID;
@@ -28,13 +28,13 @@ pub struct Planner {
 }
 
 impl Model for Planner {
-    ghost use Rattle.stamp_planner.specs.Stamps.{Planning, IsPlanning};
+    ghost use Rattle.stamp_planner.specs.Stamps.{Planning, IsPlanning, planning_of};
 
     ghost Value = { Planning };
 
-    ghost view = { λ p. record { low = p.low; high = p.high; next = p.next; live = p.live } };
+    ghost view = { λ p. planning_of p.low p.high p.next p.live };
 
-    ghost invariant = { λ p. IsPlanning (record { low = p.low; high = p.high; next = p.next; live = p.live }) };
+    ghost invariant = { λ p. IsPlanning (planning_of p.low p.high p.next p.live) };
 }
 
 impl Planner {
@@ -87,8 +87,8 @@ impl Planner {
     fn first_free(&self) -> Option<u16>
         ensures { MatchOption result (AllLive self.now) (IsFirstFree self.now) }
     {
-        for turns in 0..self.high - self.low + 1 {
-            let stamp = self.turned(turns);
+        for steps in 0..self.high - self.low + 1 {
+            let stamp = self.rotated(steps);
             if !self.live[usize::from(stamp)] {
                 return Some(stamp);
             }
@@ -97,16 +97,16 @@ impl Planner {
     }
 
     // The stamp a number of places on, going round.
-    fn turned(&self, turns: u16) -> u16
-        requires { turns < self.now.high + 1 - self.now.low }
-        ensures value { result ≡ turned self.now turns }
+    fn rotated(&self, steps: u16) -> u16
+        requires { steps < self.now.high + 1 - self.now.low }
+        ensures value { result ≡ rotated self.now steps }
         ensures low { self.now.low ≤ result }
         ensures high { result ≤ self.now.high }
     {
-        if turns <= self.high - self.next {
-            self.next + turns
+        if steps <= self.high - self.next {
+            self.next + steps
         } else {
-            self.low + (turns - (self.high - self.next) - 1)
+            self.low + (steps - (self.high - self.next) - 1)
         }
     }
 }

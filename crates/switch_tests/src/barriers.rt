@@ -4,7 +4,7 @@
 use crate::messages::waiting;
 use openflow_wire::Message;
 use std::test::Fail;
-use switch_model::{NotReady, NotTaken, TakeError};
+use switch_model::{NotReady, NotTaken, TakeError, TakeFault};
 
 #[test]
 fn answers_once_both_are_applied(rt: HostRuntime) -> Result<(), Fail> {
@@ -30,11 +30,25 @@ fn takes_nothing_before(rt: HostRuntime) -> Result<(), Fail> {
         matches!(
             answer,
             Err(NotTaken {
-                error: TakeError::Waiting,
+                error: TakeError::Fault(TakeFault::Waiting),
                 message: Message::FeaturesRequest { xid: 4 }
             })
         )
     );
     assert_eq!(rt; (switch.pending(), switch.awaits()), (2, true));
+    Ok(())
+}
+
+#[test]
+fn says_why(rt: HostRuntime) -> Result<(), Fail> {
+    let alloc = rt.alloc();
+    let mut switch = waiting(alloc, 2)?;
+    match switch.take(alloc, Message::FeaturesRequest { xid: 4 }) {
+        Err(not_taken) => {
+            let shown = format!(in alloc; "{not_taken}")?;
+            assert_eq!(rt; shown.as_str(), "a barrier is awaited");
+        }
+        Ok(_) => assert!(rt; false, "it is taken"),
+    }
     Ok(())
 }

@@ -4,7 +4,7 @@
 use crate::messages::{is_written, waiting};
 use std::alloc::{AllocError, Global};
 use std::test::Fail;
-use switch_model::{ApplyError, Switch};
+use switch_model::{ApplyError, ApplyFault, Switch};
 
 // The error about the addition with the number 1: its first 64 bytes, which end with the priority.
 const FULL: [u8; 76] = [
@@ -36,7 +36,10 @@ fn applies_the_second_first(rt: HostRuntime) -> Result<(), Fail> {
     let mut switch = waiting(alloc, 1)?;
     assert!(rt; matches!(switch.apply(alloc, 1), Ok(None)));
     assert_eq!(rt; priority(&switch), Some(6));
-    assert_eq!(rt; switch.apply(alloc, 1).err(), Some(ApplyError::NotPending));
+    assert_eq!(rt;
+        switch.apply(alloc, 1).err(),
+        Some(ApplyError::Fault(ApplyFault::NotPending))
+    );
     assert_eq!(rt; finds_it_full(alloc, &mut switch, 0).ok(), Some(true));
     assert_eq!(rt; priority(&switch), Some(6));
     assert_eq!(rt; (switch.pending(), switch.awaits()), (0, true));

@@ -8,7 +8,7 @@ ghost use Rattle.flow_table.specs.Changed.{Removes};
 ghost use Rattle.openflow_wire.specs.Writing.{Fits};
 ghost use Rattle.switch_model.specs.Switches.{Outcome};
 
-use super::{ApplyError, Switch};
+use super::{ApplyError, ApplyFault, Switch};
 use crate::pending::Pending;
 use crate::refusing::table_full;
 use flow_index::{ChangeError, ChangeFault, Table};
@@ -25,11 +25,12 @@ impl Switch {
         ensures fits { IfOk result (λ answer. IfSome answer Fits) }
         // A deletion takes no memory.
         ensures deletion { IsDeletion self.old.pending place → IsOk result }
-        ensures not_pending { (result ≡ Err ApplyError.NotPending) ↔ (length self.old.pending ≤ place) }
+        ensures not_pending { (result ≡ Err (ApplyError.Fault ApplyFault.NotPending))
+            ↔ (length self.old.pending ≤ place) }
         ensures err { OnErr result (self.new ≡ self.old) }
     {
         if place >= self.pending.len() {
-            return Err(ApplyError::NotPending);
+            return Err(ApplyError::Fault(ApplyFault::NotPending));
         }
         match self.change(alloc, place) {
             Ok(()) => Ok(None),

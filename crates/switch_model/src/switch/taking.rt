@@ -6,7 +6,7 @@ ghost use Rattle.openflow_wire.specs.Writing.{Fits};
 ghost use Rattle.openflow_wire.specs.declared.message.Message.TheVariants as to;
 ghost use Rattle.switch_model.specs.Switches.{bad_type, features};
 
-use super::{NotTaken, Switch, TakeError};
+use super::{NotTaken, Switch, TakeError, TakeFault};
 use crate::pending::Pending;
 use crate::refusing::bad_type;
 use nk_values::FlowMod;
@@ -33,13 +33,13 @@ impl Switch {
         ensures answer { IfOk result (λ answer. answer ≡ answer_of self.old.sw message) }
         ensures fits { IfOk result (λ answer. IfSome answer Fits) }
 
-        ensures waiting { IfErr result (λ e. (e.error ≡ TakeError.Waiting) ↔ IsSome self.old.awaited) }
+        ensures waiting { IfErr result (λ e. (e.error ≡ TakeError.Fault TakeFault.Waiting) ↔ IsSome self.old.awaited) }
         ensures memory { IfErr result (λ e. e.error ≡ TakeError.Memory → NeedsMemory message) }
         ensures back { IfErr result (λ e. e.message ≡ message) }
         ensures err { OnErr result (self.new ≡ self.old) }
     {
         if self.awaited.is_some() {
-            let error = TakeError::Waiting;
+            let error = TakeError::Fault(TakeFault::Waiting);
             return Err(NotTaken { error, message });
         }
         match message {

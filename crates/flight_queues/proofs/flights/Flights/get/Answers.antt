@@ -28,8 +28,8 @@ index-requires c =
     let at : slice_get marks c.args.place ≡ Some mark = read marks c.args.place mark (omega (arith, within, c.self.inside.marks.ok.0)) c.in_ok-mark.ensures.lookup in
     omega (arith, marked-within c.self.inside.queues.items marks c.self.inside.next c.self.invariant.marked mark (at-in marks c.args.place mark at), c.self.inside.queues.ok.0)
 
-pub copy-requires-clause-rising : goal.copy-requires-clause-rising
-copy-requires-clause-rising c =
+pub flight-requires-clause-rising : goal.flight-requires-clause-rising
+flight-requires-clause-rising c =
     let queues = c.self.inside.queues.items in
     let marks = c.self.inside.marks.items in
     let mark = c.in_ok-mark.mark.now in
@@ -38,8 +38,8 @@ copy-requires-clause-rising c =
     let there = marked-within queues marks c.self.inside.next c.self.invariant.marked mark (at-in marks c.args.place mark at) in
     subst AreRising (sym (read-list queues mark.place c.index.result.now there c.index.ensures)) (rising queues marks c.self.inside.next c.self.invariant.marked mark.place)
 
-pub copy-requires-clause-held : goal.copy-requires-clause-held
-copy-requires-clause-held c =
+pub flight-requires-clause-held : goal.flight-requires-clause-held
+flight-requires-clause-held c =
     let queues = c.self.inside.queues.items in
     let marks = c.self.inside.marks.items in
     let mark = c.in_ok-mark.mark.now in
@@ -56,6 +56,6 @@ returns c =
     let within = c.in_ok-mark.ensures.variant.0 refl in
     let at : slice_get marks c.args.place ≡ Some mark = read marks c.args.place mark (omega (arith, within, c.self.inside.marks.ok.0)) c.in_ok-mark.ensures.lookup in
     let there = marked-within queues marks c.self.inside.next c.self.invariant.marked mark (at-in marks c.args.place mark at) in
-    sym (single-get (marked queues) marks c.args.place mark c.copy.result.now (singles queues marks c.self.inside.next c.self.invariant.marked) at
-    (ap (found mark.number) (sym (read-list queues mark.place c.index.result.now there c.index.ensures)) ∙ c.copy.ensures))
+    sym (single-get (marked queues) marks c.args.place mark c.flight.result.now (singles queues marks c.self.inside.next c.self.invariant.marked) at
+    (ap (found mark.number) (sym (read-list queues mark.place c.index.result.now there c.index.ensures)) ∙ c.flight.ensures))
     ∙ ap (λ (fs : List Flight). slice_get fs c.args.place) c.self.view_is

@@ -3,7 +3,7 @@ use Rattle.flow_index.proofs.Lists.{read-of, at-within, some-is}
 use Rattle.flight_queues.specs.declared.numbered.Numbered.{Numbered}
 use Rattle.flight_queues.specs.Merged.{found}
 use Rattle.flight_queues.proofs.Finding.{found-at}
-use Rattle.flight_queues.proofs.queue.Queue.copy.Goals as goal
+use Rattle.flight_queues.proofs.queue.Queue.flight.Goals as goal
 
 pub returns : goal.returns
 returns c =
