@@ -26,7 +26,7 @@ use Rattle.table_audit.proofs.Parts.{writable-rows}
 use Rattle.table_audit.proofs.Draining.{planned-is, plan-distinct}
 
 -- each row of a table can be written
-pub rows-writable : (w : WorldValue) → IsKept w → (place : ℕ) (e : WiredSwitch) → slice_get w.fleet.ends place ≡ Some e → (r : Row) → IsIn e.switch.table.rows r → IsWritable r
+pub rows-writable : (w : WorldValue) → IsKept w → (place : ℕ) (e : WiredSwitch) → slice_get w.fleet.wired place ≡ Some e → (r : Row) → IsIn e.switch.table.rows r → IsWritable r
 unfolding IsKept
 rows-writable w k place e here r m =
     let l = line-at w k place e here in
@@ -45,19 +45,19 @@ pub record Stands (w : WorldValue) (place : ℕ) (lent : SwitchValue) : Type 0 w
   pub site : DeclaredSwitch
   pub named : slice_get w.topology.switches place ≡ Some site
   pub end_ : WiredSwitch
-  pub here : slice_get w.fleet.ends place ≡ Some end_
+  pub here : slice_get w.fleet.wired place ≡ Some end_
   pub number : end_.switch.sw ≡ site.sw
   pub is : lent ≡ end_.switch
 
 held : {X : Type 0} (P : X → Type 0) (o : Option X) (x : X) → o ≡ Some x → IsSomeAnd o P → P x
 held {X} P o x e h = subst (λ (p : Option X). IsSomeAnd p P) e h
 
-pub stands : (w : WorldValue) → IsKept w → (place : ℕ) → place < length w.topology.switches → (lent : SwitchValue) → IsSomeAnd (slice_get w.fleet.ends place) (λ e. lent ≡ e.switch) → Stands w place lent
+pub stands : (w : WorldValue) → IsKept w → (place : ℕ) → place < length w.topology.switches → (lent : SwitchValue) → IsSomeAnd (slice_get w.fleet.wired place) (λ e. lent ≡ e.switch) → Stands w place lent
 unfolding IsKept
 stands w k place within lent h =
     let s = get-some place w.topology.switches within in
-    let e = get-map (λ (x : WiredSwitch). x.switch.sw) place w.fleet.ends s.0.sw (ap (λ (ns : List ℕ). slice_get ns place) k.places ∙ get-mapped (λ (x : DeclaredSwitch). x.sw) place w.topology.switches s.0 s.1) in
-    record { site = s.0; named = s.1; end_ = e.0; here = e.1; number = e.2; is = held (λ x. lent ≡ x.switch) (slice_get w.fleet.ends place) e.0 e.1 h }
+    let e = get-map (λ (x : WiredSwitch). x.switch.sw) place w.fleet.wired s.0.sw (ap (λ (ns : List ℕ). slice_get ns place) k.places ∙ get-mapped (λ (x : DeclaredSwitch). x.sw) place w.topology.switches s.0 s.1) in
+    record { site = s.0; named = s.1; end_ = e.0; here = e.1; number = e.2; is = held (λ x. lent ≡ x.switch) (slice_get w.fleet.wired place) e.0 e.1 h }
 
 pub lent-writable : (w : WorldValue) → IsKept w → (place : ℕ) (lent : SwitchValue) → Stands w place lent → (r : Row) → IsIn lent.table.rows r → IsWritable r
 lent-writable w k place lent s r m = rows-writable w k place s.end_ s.here r (subst (λ (x : SwitchValue). IsIn x.table.rows r) s.is m)
@@ -78,6 +78,6 @@ audit-at w place lent s sw plan told reported (Ok v) number is report same h = r
 }
 audit-at w place lent s sw plan told reported (Err e) number is report same h = tt
 
-pub as-many : (w : WorldValue) → IsKept w → length w.fleet.ends ≡ length w.topology.switches
+pub as-many : (w : WorldValue) → IsKept w → length w.fleet.wired ≡ length w.topology.switches
 unfolding IsKept
-as-many w k = sym (length-map w.fleet.ends (λ (e : WiredSwitch). e.switch.sw)) ∙ ap (λ (ns : List ℕ). length ns) k.places ∙ length-map w.topology.switches (λ (s : DeclaredSwitch). s.sw)
+as-many w k = sym (length-map w.fleet.wired (λ (e : WiredSwitch). e.switch.sw)) ∙ ap (λ (ns : List ℕ). length ns) k.places ∙ length-map w.topology.switches (λ (s : DeclaredSwitch). s.sw)

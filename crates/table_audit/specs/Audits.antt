@@ -12,6 +12,6 @@ pub record IsAuditAt (w : WorldValue) (place : ℕ) (v : Verdict) : Type 0 where
   pub site : DeclaredSwitch
   pub named : slice_get w.topology.switches place ≡ Some site
   pub end_ : WiredSwitch
-  pub here : slice_get w.fleet.ends place ≡ Some end_
+  pub here : slice_get w.fleet.wired place ≡ Some end_
   pub verdict : IsVerdict (planned w.fleet.control.versions w.fleet.control.swept w.fleet.control.phase site.sw)
       end_.switch.table.rows v

@@ -26,7 +26,7 @@ pub record HasBatch (c : Control) (s : Peer) (e : WiredSwitch) : Type 0 where
 -- As long as updates go on, such a switch has just the rows that the phase gives it.
 abbrev pub TablesFollow : Type 0
 TablesFollow = (w : WorldValue) (place : ℕ) (s : Peer) (e : WiredSwitch) → IsKept w → w.fleet.control.halt ≡ None →
-    slice_get w.fleet.control.peers place ≡ Some s → slice_get w.fleet.ends place ≡ Some e →
+    slice_get w.fleet.control.peers place ≡ Some s → slice_get w.fleet.wired place ≡ Some e →
     HasBatch w.fleet.control s e →
     SameMembers (planned w.fleet.control.versions w.fleet.control.swept w.fleet.control.phase e.switch.sw)
     e.switch.table.rows

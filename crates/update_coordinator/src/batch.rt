@@ -14,7 +14,7 @@ use crate::phase::Phase;
 use nk_values::{ANY_PORT, Actions, FlowCommand, FlowMod, Pattern, Row, Rows};
 use session_core::Move;
 use std::alloc::{AllocError, Global};
-use update_plan::{Cursor, Share, Span, mod_of, read_next};
+use update_plan::{Cursor, Share, Span, SwitchSpan, mod_of, read_next};
 
 /// The next flow mod of a batch, which is not made yet, and the cursor after it.
 #[derive(Clone, Copy)]
@@ -54,16 +54,15 @@ impl<'a> Draft<'a> {
 pub(crate) fn read_in(
     versions: &[Rows],
     phase: Phase,
-    sw: u16,
+    switch: SwitchSpan,
     next: usize,
     cursor: Cursor,
-    span: Span,
 ) -> Option<Read<'_>>
-    requires { AreBetween versions.now sw span }
-    ensures none { IfNone result (left_in versions.now phase sw next cursor ≡ []) }
+    requires { AreBetween versions.now switch.sw switch.span }
+    ensures none { IfNone result (left_in versions.now phase switch.sw next cursor ≡ []) }
     ensures some { IfSome result
-        (λ x. left_in versions.now phase sw next cursor ≡ drafted x.draft ∷ left_in versions.now phase sw (next + 1)
-        x.cursor) }
+        (λ x. left_in versions.now phase switch.sw next cursor ≡ drafted x.draft ∷ left_in versions.now phase switch.sw
+        (next + 1) x.cursor) }
 {
     match phase {
         Phase::Opening => wiping(next, cursor),
@@ -73,32 +72,26 @@ pub(crate) fn read_in(
         | Phase::Drain(_)
         | Phase::Clean(_)
         | Phase::Tidy(_)
-        | Phase::Sweep(_, _) => read_row(versions, phase, sw, cursor, span),
+        | Phase::Sweep(_, _) => read_row(versions, phase, switch, cursor),
     }
 }
 
 // Reads the next flow mod of a batch of rows.
-fn read_row(
-    versions: &[Rows],
-    phase: Phase,
-    sw: u16,
-    cursor: Cursor,
-    span: Span,
-) -> Option<Read<'_>>
-    requires { AreBetween versions.now sw span }
+fn read_row(versions: &[Rows], phase: Phase, switch: SwitchSpan, cursor: Cursor) -> Option<Read<'_>>
+    requires { AreBetween versions.now switch.sw switch.span }
     ensures none { IfNone result
-        (left_by cursor (share_in phase) (coming_in versions.now phase) (going_in versions.now phase) sw ≡ []) }
+        (left_by cursor (share_in phase) (coming_in versions.now phase) (going_in versions.now phase) switch.sw ≡ []) }
     ensures some { IfSome result
-        (λ x. left_by cursor (share_in phase) (coming_in versions.now phase) (going_in versions.now phase) sw ≡ drafted
-        x.draft ∷ left_by x.cursor (share_in phase) (coming_in versions.now phase) (going_in versions.now phase) sw) }
+        (λ x. left_by cursor (share_in phase) (coming_in versions.now phase) (going_in versions.now phase)
+        switch.sw ≡ drafted x.draft ∷ left_by x.cursor (share_in phase) (coming_in versions.now phase)
+        (going_in versions.now phase) switch.sw) }
 {
     let read = read_next(
         cursor,
         share_in(phase),
         coming_in(versions, phase),
         going_in(versions, phase),
-        sw,
-        span,
+        switch,
     )?;
     Some(Read {
         draft: Draft::Row {

@@ -1,18 +1,19 @@
 //! The coordinator, and the phases that it goes through.
 //!
 //! Layer: updates; public. Called by many modules here, and by many crates.
-ghost use Rattle.std.specs.Prelude.{IsTrue, ◌↔◌, IfOk, ◌≡◌, None, OnOk, OnErr, length, option_map};
+ghost use Rattle.std.specs.Prelude.{IfOk, ◌≡◌, length, option_map};
 
 use crate::cause::Cause;
 use crate::peer::Peer;
 use crate::phase::{Admission, Phase};
-use crate::refusal::Refusal;
 use crate::starting::{cursors_of, peers_of, rounds_of, spans_of, stamps_of};
 use barrier_tracker::Tracker;
 use nk_values::Rows;
 use std::alloc::{AllocError, Global};
 use std::marker::Model;
 use update_plan::{Cursor, Span};
+
+mod beginning;
 
 /// Takes switches from one policy to the next, phase by phase (SIGCOMM 2012, section 5.1). It keeps the rows of all
 /// policies, and reads each flow mod off them when it is sent. Clauses see the phase, why it is halted, the rows of
@@ -58,55 +59,27 @@ impl Drop for Coordinator {
 }
 
 impl Model for Coordinator {
-    ghost use Rattle.update_coordinator.specs.Controls.{Control};
+    ghost use Rattle.update_coordinator.specs.Controls.{Control, control_of};
     ghost use Rattle.update_coordinator.specs.Kept.{IsControl, AreNoted};
     ghost use Rattle.update_coordinator.specs.Reading.{AreRead};
 
     ghost Value = { Control };
 
-    ghost view = { λ c. record {
-      phase = c.phase;
-      halt = c.halt;
-      versions = c.versions.items;
-      peers = c.peers.items;
-      replies =
-          c.replies;
-      rejoins = c.rejoins;
-      overlap = c.overlap;
-      swept = c.swept;
-    } };
+    ghost view = { λ c. control_of c.phase c.halt c.versions.items c.peers.items c.replies c.rejoins c.overlap
+        c.swept };
 
     ghost invariant = { λ c. IsControl
-        (record {
-          phase = c.phase;
-          halt = c.halt;
-          versions = c.versions.items;
-          peers = c.peers.items;
-          replies =
-              c.replies;
-          rejoins = c.rejoins;
-          overlap = c.overlap;
-          swept = c.swept;
-        }) ×
+        (control_of c.phase c.halt c.versions.items c.peers.items c.replies c.rejoins c.overlap
+        c.swept) ×
         AreNoted c.versions.items c.rounds.items c.stamps.items ×
-        AreRead (record {
-          phase = c.phase;
-          halt = c.halt;
-          versions = c.versions.items;
-          peers = c.peers.items;
-          replies =
-              c.replies;
-          rejoins = c.rejoins;
-          overlap = c.overlap;
-          swept = c.swept;
-        }) c.spans.items c.cursors.items };
+        AreRead (control_of c.phase c.halt c.versions.items c.peers.items c.replies c.rejoins c.overlap
+        c.swept) c.spans.items c.cursors.items };
 }
 
 impl Coordinator {
     ghost use Rattle.std.specs.List.{AllByRecursion};
     ghost use Rattle.std.specs.Prelude.{◌≤◌};
     ghost use Rattle.policy_rows.specs.Limits.{AreWithinLimits, AreWritable};
-    ghost use Rattle.update_coordinator.specs.Calls.{begun, begin_refusal, refusal_of};
     ghost use Rattle.update_coordinator.specs.Phases.{entry};
     ghost use Rattle.update_coordinator.specs.Starts.{initial_control};
 
@@ -175,40 +148,5 @@ impl Coordinator {
         ensures { result ≡ entry self.now.phase }
     {
         self.phase.entry()
-    }
-
-    /// Whether the next update can begin.
-    pub fn may_begin(&self) -> bool
-        ensures { IsTrue result ↔ (begin_refusal self.now ≡ None) }
-    {
-        if self.halt.is_some() {
-            return false;
-        }
-        match self.phase {
-            Phase::Idle(policy) => policy < self.versions.len() && self.has_stamp(policy),
-            _ => false,
-        }
-    }
-
-    /// Begins the next update.
-    pub fn begin(&mut self) -> Result<(), Refusal>
-        ensures refused { refusal_of result ≡ begin_refusal self.old }
-        ensures ok { OnOk result (self.new ≡ begun self.old) }
-        ensures err { OnErr result (self.new ≡ self.old) }
-    {
-        if self.halt.is_some() {
-            return Err(Refusal::Halted);
-        }
-        let Phase::Idle(policy) = self.phase else {
-            return Err(Refusal::NotIdle);
-        };
-        if policy >= self.versions.len() {
-            return Err(Refusal::NothingLeft);
-        }
-        if !self.has_stamp(policy) {
-            return Err(Refusal::NoStamp);
-        }
-        self.enter(Phase::Install(policy + 1));
-        Ok(())
     }
 }

@@ -64,8 +64,8 @@ impl Coordinator {
         self.peers[place].is_away()
     }
 
-    /// Takes the news that the session with the switch at a place is lost. If no more may be lost, the updates stand
-    /// still.
+    /// Takes the news that the session with the switch at a place is lost. If no more may be lost, the updates
+    /// are halted.
     pub fn lost(&mut self, place: usize) -> Result<(), Refusal>
         requires { place < length self.old.peers }
         ensures ok { OnOk result (IsLost place self.old self.new) }
@@ -119,7 +119,7 @@ impl Coordinator {
         Ok(())
     }
 
-    /// Stands still from now on.
+    /// Halts the updates.
     pub fn stop(&mut self, cause: Cause) -> Result<(), Refusal>
         ensures ok { OnOk result ((self.old.halt ≡ None) × (self.new ≡ halted cause self.old)) }
         ensures refused { IfErr result (λ r. (r ≡ Refusal.Halted) × (self.old.halt ≢ None)) }
@@ -166,7 +166,7 @@ impl Coordinator {
         }
     }
 
-    // Stands still.
+    // Halts the updates, which may be halted already.
     pub(crate) fn stand(&mut self, cause: Cause)
         ensures { self.new ≡ halted cause self.old }
     {

@@ -9,7 +9,7 @@ use crate::peers::{self, fence, greet};
 use nk_values::FlowMod;
 use openflow_wire::Message;
 use std::alloc::AllocError;
-use update_plan::Cursor;
+use update_plan::{Cursor, SwitchSpan};
 
 impl Coordinator {
     ghost use Rattle.std.specs.Prelude.{false, true};
@@ -84,13 +84,16 @@ impl Coordinator {
         ensures some { IfSome result (λ x. IsAtChange place (drafted x.draft) x.cursor self.now) }
     {
         let peer = &self.peers[place];
+        let switch = SwitchSpan {
+            sw: peer.sw(),
+            span: self.spans[place],
+        };
         read_in(
             &self.versions,
             self.phase,
-            peer.sw(),
+            switch,
             peer.next(),
             self.cursors[place],
-            self.spans[place],
         )
     }
 

@@ -13,7 +13,7 @@ use Rattle.update_coordinator.specs.Controls.{Greet}
 use Rattle.update_coordinator.specs.Hearing.{is_due}
 use Rattle.update_laws.specs.Lines.{Changing}
 use Rattle.update_laws.specs.Updates.{Setting, Phase, Base, batch, adds, works}
-use Rattle.update_laws.specs.Wired.{Wire, IsFree, IsGone, numbered, lost_wire, returned_wire}
+use Rattle.update_laws.specs.Wired.{Wire, AwaitsNone, IsGone, numbered, lost_wire, returned_wire}
 use Rattle.update_laws.specs.Stages.{Stage, Away, Meeting, Asking, Telling, Sending, Waiting, Answered, Resting, IsAt, is_away, state_of, job, later, IsTodo, Left, IsTable, IsLine}
 use Rattle.update_laws.proofs.Batches.{changing-same, changing-again}
 use Rattle.update_laws.proofs.Wiring.{empty-left, empty-right}
@@ -27,7 +27,7 @@ due-unowed true replies.Nothing = refl
 due-unowed true (replies.Reply x) = refl
 due-unowed true replies.Heard = refl
 
-free-unowed : (a : Awaited) → IsFree (unowed a)
+free-unowed : (a : Awaited) → AwaitsNone (unowed a)
 free-unowed replies.Nothing = inl refl
 free-unowed (replies.Reply x) = inl refl
 free-unowed replies.Heard = inr refl

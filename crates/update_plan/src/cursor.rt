@@ -39,6 +39,13 @@ pub struct Span {
     pub end: usize,
 }
 
+/// A switch, and between which places its ports stand.
+#[derive(Clone, Copy, Debug, PartialEq, Eq)]
+pub struct SwitchSpan {
+    pub sw: u16,
+    pub span: Span,
+}
+
 impl Span {
     ghost use Rattle.update_plan.specs.Reading.{IsSpan, joined};
 

@@ -12,7 +12,7 @@ mod reading;
 mod switch_plan;
 
 pub use batch::{Batch, Batches};
-pub use cursor::{Cursor, RowIndex, Share, Span};
+pub use cursor::{Cursor, RowIndex, Share, Span, SwitchSpan};
 pub use places::internal;
 pub use planning::{mod_of, plan, plan_at, plan_for, round_count};
 pub use reading::{Read, read_next};

@@ -5,7 +5,7 @@ ghost use Rattle.std.specs.Prelude.{◌≡◌, ◌<◌, ◌+◌, ◌^◌, [], If
 ghost use Rattle.update_plan.specs.Batches.{ingress, internal};
 ghost use Rattle.update_plan.specs.Reading.{share_at, from_place, IsSpan};
 
-use crate::cursor::{RowIndex, Share, Span};
+use crate::cursor::{RowIndex, Share, SwitchSpan};
 use crate::planning::{at_once, by_rounds, row_in};
 use nk_values::{Band, PortKind, Row, Rows};
 
@@ -15,19 +15,18 @@ pub(crate) fn place_from(
     share: Share,
     adds: bool,
     rows: &Rows,
-    sw: u16,
-    span: Span,
+    switch: SwitchSpan,
 ) -> Option<RowIndex>
-    requires { IsSpan span sw rows.now.ports }
-    ensures none { IfNone result (from_place share adds rows.now.band sw rows.now.ports at ≡ []) }
+    requires { IsSpan switch.span switch.sw rows.now.ports }
+    ensures none { IfNone result (from_place share adds rows.now.band switch.sw rows.now.ports at ≡ []) }
     ensures some { IfSome result
-        (λ x. (from_place share adds rows.now.band sw rows.now.ports x ≡ from_place share adds rows.now.band sw
-        rows.now.ports at) × (x.row < length
-        (share_at share adds rows.now.band sw (slice_get rows.now.ports x.port)))) }
+        (λ x. (from_place share adds rows.now.band switch.sw rows.now.ports x ≡ from_place share adds rows.now.band
+        switch.sw rows.now.ports at) × (x.row < length
+        (share_at share adds rows.now.band switch.sw (slice_get rows.now.ports x.port)))) }
 {
     let mut row = at.row;
-    for port in at.port..span.end {
-        if row_at(RowIndex { port, row }, share, adds, rows, sw).is_some() {
+    for port in at.port..switch.span.end {
+        if row_at(RowIndex { port, row }, share, adds, rows, switch.sw).is_some() {
             return Some(RowIndex { port, row });
         }
         row = 0;

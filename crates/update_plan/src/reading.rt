@@ -5,7 +5,7 @@ ghost use Rattle.std.specs.Prelude.{◌≡◌, [], ◌∷◌, true, false, IfNon
 ghost use Rattle.openflow_wire.specs.RowChanges.{mod_of};
 ghost use Rattle.update_plan.specs.Reading.{ports_of, side, side_from, left_by, IsSpan};
 
-use crate::cursor::{Cursor, RowIndex, Share, Span};
+use crate::cursor::{Cursor, RowIndex, Share, SwitchSpan};
 use crate::places::{place_from, row_at};
 use nk_values::{Row, Rows};
 
@@ -31,22 +31,21 @@ pub fn read_next<'a>(
     share: Share,
     new: Option<&'a Rows>,
     old: Option<&'a Rows>,
-    sw: u16,
-    span: Span,
+    switch: SwitchSpan,
 ) -> Option<Read<'a>>
-    requires new { IsSpan span sw (ports_of (option_map (λ r. r.now) new)) }
-    requires old { IsSpan span sw (ports_of (option_map (λ r. r.now) old)) }
+    requires new { IsSpan switch.span switch.sw (ports_of (option_map (λ r. r.now) new)) }
+    requires old { IsSpan switch.span switch.sw (ports_of (option_map (λ r. r.now) old)) }
     ensures none { IfNone result
-        (left_by cursor share (option_map (λ r. r.now) new.entry) (option_map (λ r. r.now) old.entry) sw ≡ []) }
+        (left_by cursor share (option_map (λ r. r.now) new.entry) (option_map (λ r. r.now) old.entry) switch.sw ≡ []) }
     ensures some { IfSome result
-        (λ x. left_by cursor share (option_map (λ r. r.now) new.entry) (option_map (λ r. r.now) old.entry) sw ≡ mod_of
-        x.adds x.row.now ∷ left_by x.cursor share (option_map (λ r. r.now) new.entry)
-        (option_map (λ r. r.now) old.entry) sw) }
+        (λ x. left_by cursor share (option_map (λ r. r.now) new.entry) (option_map (λ r. r.now) old.entry)
+        switch.sw ≡ mod_of x.adds x.row.now ∷ left_by x.cursor share (option_map (λ r. r.now) new.entry)
+        (option_map (λ r. r.now) old.entry) switch.sw) }
 {
     if cursor.goes {
-        return read_going(cursor.at, share, old, sw, span);
+        return read_going(cursor.at, share, old, switch);
     }
-    if let Some(read) = read_side(cursor.at, share, true, new, sw, span) {
+    if let Some(read) = read_side(cursor.at, share, true, new, switch) {
         return Some(Read {
             adds: true,
             row: read.row,
@@ -56,29 +55,24 @@ pub fn read_next<'a>(
             },
         });
     }
-    read_first_going(share, old, sw, span)
+    read_first_going(share, old, switch)
 }
 
 // Reads the row of the first flow mod of what goes.
 #[tactic(auto, using(crate::proofs::Cursors::goes_first))]
-fn read_first_going<'a>(
-    share: Share,
-    old: Option<&'a Rows>,
-    sw: u16,
-    span: Span,
-) -> Option<Read<'a>>
-    requires { IsSpan span sw (ports_of (option_map (λ r. r.now) old)) }
-    ensures none { IfNone result (side share false (option_map (λ r. r.now) old.entry) sw ≡ []) }
+fn read_first_going<'a>(share: Share, old: Option<&'a Rows>, switch: SwitchSpan) -> Option<Read<'a>>
+    requires { IsSpan switch.span switch.sw (ports_of (option_map (λ r. r.now) old)) }
+    ensures none { IfNone result (side share false (option_map (λ r. r.now) old.entry) switch.sw ≡ []) }
     ensures some { IfSome result
         (λ x. (x.adds ≡ false) × (x.cursor.goes ≡ true) ×
-        (side share false (option_map (λ r. r.now) old.entry) sw ≡ mod_of false x.row.now ∷ side_from share false
-        (option_map (λ r. r.now) old.entry) sw x.cursor.at)) }
+        (side share false (option_map (λ r. r.now) old.entry) switch.sw ≡ mod_of false x.row.now ∷ side_from share false
+        (option_map (λ r. r.now) old.entry) switch.sw x.cursor.at)) }
 {
     let at = RowIndex {
-        port: span.first,
+        port: switch.span.first,
         row: 0,
     };
-    read_going(at, share, old, sw, span)
+    read_going(at, share, old, switch)
 }
 
 // Reads the row of the next flow mod of what goes.
@@ -86,17 +80,16 @@ fn read_going<'a>(
     at: RowIndex,
     share: Share,
     old: Option<&'a Rows>,
-    sw: u16,
-    span: Span,
+    switch: SwitchSpan,
 ) -> Option<Read<'a>>
-    requires { IsSpan span sw (ports_of (option_map (λ r. r.now) old)) }
-    ensures none { IfNone result (side_from share false (option_map (λ r. r.now) old.entry) sw at ≡ []) }
+    requires { IsSpan switch.span switch.sw (ports_of (option_map (λ r. r.now) old)) }
+    ensures none { IfNone result (side_from share false (option_map (λ r. r.now) old.entry) switch.sw at ≡ []) }
     ensures some { IfSome result
         (λ x. (x.adds ≡ false) × (x.cursor.goes ≡ true) ×
-        (side_from share false (option_map (λ r. r.now) old.entry) sw at ≡ mod_of false x.row.now ∷ side_from share
-        false (option_map (λ r. r.now) old.entry) sw x.cursor.at)) }
+        (side_from share false (option_map (λ r. r.now) old.entry) switch.sw at ≡ mod_of false x.row.now ∷ side_from
+        share false (option_map (λ r. r.now) old.entry) switch.sw x.cursor.at)) }
 {
-    let read = read_side(at, share, false, old, sw, span)?;
+    let read = read_side(at, share, false, old, switch)?;
     Some(Read {
         adds: false,
         row: read.row,
@@ -113,22 +106,21 @@ fn read_side<'a>(
     share: Share,
     adds: bool,
     rows: Option<&'a Rows>,
-    sw: u16,
-    span: Span,
+    switch: SwitchSpan,
 ) -> Option<SideRead<'a>>
-    requires { IsSpan span sw (ports_of (option_map (λ r. r.now) rows)) }
-    ensures none { IfNone result (side_from share adds (option_map (λ r. r.now) rows.entry) sw at ≡ []) }
+    requires { IsSpan switch.span switch.sw (ports_of (option_map (λ r. r.now) rows)) }
+    ensures none { IfNone result (side_from share adds (option_map (λ r. r.now) rows.entry) switch.sw at ≡ []) }
     ensures some { IfSome result
-        (λ x. side_from share adds (option_map (λ r. r.now) rows.entry) sw at ≡ mod_of adds x.row.now ∷ side_from share
-        adds (option_map (λ r. r.now) rows.entry) sw x.at) }
+        (λ x. side_from share adds (option_map (λ r. r.now) rows.entry) switch.sw at ≡ mod_of adds x.row.now ∷ side_from
+        share adds (option_map (λ r. r.now) rows.entry) switch.sw x.at) }
 {
     let Some(rows) = rows else {
         return None;
     };
-    let Some(found) = place_from(at, share, adds, rows, sw, span) else {
+    let Some(found) = place_from(at, share, adds, rows, switch) else {
         return None;
     };
-    let Some(row) = row_at(found, share, adds, rows, sw) else {
+    let Some(row) = row_at(found, share, adds, rows, switch.sw) else {
         return None;
     };
     Some(SideRead {

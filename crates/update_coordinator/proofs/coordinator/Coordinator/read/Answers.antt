@@ -14,11 +14,11 @@ returns-clause-none c =
     let old = c.self.inside in
     let c0 : Control = (record { phase = old.phase; halt = old.halt; versions = old.versions.items; peers = old.peers.items; replies = old.replies; rejoins = old.rejoins; overlap = old.overlap; swept = old.swept }) in
     let s = c.index-peer.result.now in
-    let x = c.index.result.now in
+    let x = c.index-2.result.now in
     let within : c.args.place < length old.peers.items = subst (λ (v : Control). c.args.place < length v.peers) (sym c.self.view_is) c.requires.within in
     let here : slice_get old.peers.items c.args.place ≡ Some s = slice_get-get_or old.peers.items c.args.place s within ∙ ap (λ (z : Peer). Some z) (sym c.index-peer.ensures) in
     let cursor : c.args.place < length old.cursors.items = omega (arith, within, c.self.invariant.2.count) in
-    let there : slice_get old.cursors.items c.args.place ≡ Some x = slice_get-get_or old.cursors.items c.args.place x cursor ∙ ap (λ (z : Cursor). Some z) (sym c.index.ensures) in
+    let there : slice_get old.cursors.items c.args.place ≡ Some x = slice_get-get_or old.cursors.items c.args.place x cursor ∙ ap (λ (z : Cursor). Some z) (sym c.index-2.ensures) in
     let at : IfNone c.read_in.result (left_in old.versions.items old.phase s.sw s.next x ≡ []) =
     subst (λ (vs : List Rows). IfNone c.read_in.result (left_in vs old.phase s.sw s.next x ≡ [])) c.deref.ensures.value
     (subst (λ (n : ℕ). IfNone c.read_in.result (left_in c.deref.result.now old.phase n s.next x ≡ [])) c.sw.ensures
@@ -30,11 +30,11 @@ returns-clause-some c =
     let old = c.self.inside in
     let c0 : Control = (record { phase = old.phase; halt = old.halt; versions = old.versions.items; peers = old.peers.items; replies = old.replies; rejoins = old.rejoins; overlap = old.overlap; swept = old.swept }) in
     let s = c.index-peer.result.now in
-    let x = c.index.result.now in
+    let x = c.index-2.result.now in
     let within : c.args.place < length old.peers.items = subst (λ (v : Control). c.args.place < length v.peers) (sym c.self.view_is) c.requires.within in
     let here : slice_get old.peers.items c.args.place ≡ Some s = slice_get-get_or old.peers.items c.args.place s within ∙ ap (λ (z : Peer). Some z) (sym c.index-peer.ensures) in
     let cursor : c.args.place < length old.cursors.items = omega (arith, within, c.self.invariant.2.count) in
-    let there : slice_get old.cursors.items c.args.place ≡ Some x = slice_get-get_or old.cursors.items c.args.place x cursor ∙ ap (λ (z : Cursor). Some z) (sym c.index.ensures) in
+    let there : slice_get old.cursors.items c.args.place ≡ Some x = slice_get-get_or old.cursors.items c.args.place x cursor ∙ ap (λ (z : Cursor). Some z) (sym c.index-2.ensures) in
     let at : IfSome c.read_in.result (λ y. left_in old.versions.items old.phase s.sw s.next x ≡ drafted y.draft ∷ left_in old.versions.items old.phase s.sw (s.next + 1) y.cursor) =
     subst (λ (vs : List Rows). IfSome c.read_in.result (λ y. left_in vs old.phase s.sw s.next x ≡ drafted y.draft ∷ left_in vs old.phase s.sw (s.next + 1) y.cursor)) c.deref.ensures.value
     (subst (λ (n : ℕ). IfSome c.read_in.result (λ y. left_in c.deref.result.now old.phase n s.next x ≡ drafted y.draft ∷ left_in c.deref.result.now old.phase n (s.next + 1) y.cursor)) c.sw.ensures
