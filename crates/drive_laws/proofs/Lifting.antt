@@ -32,19 +32,19 @@ some-halt : {X : Type 0} (o : Option X) (x : X) → o ≡ Some x → o ≢ None
 some-halt o x e = λ n. cc
 
 -- the switch of a session has a place
-within : SwitchesFollow → (w : WorldValue) (s : ℕ) (peer : Peer) → IsKept w → slice_get w.fleet.control.peers s ≡ Some peer → s < length w.fleet.ends
-within f w s peer k here = omega (arith, (f w k).ends, get-within s w.fleet.control.peers peer here)
+within : SwitchesFollow → (w : WorldValue) (s : ℕ) (peer : Peer) → IsKept w → slice_get w.fleet.control.peers s ≡ Some peer → s < length w.fleet.wired
+within f w s peer k here = omega (arith, (f w k).wired, get-within s w.fleet.control.peers peer here)
 
 sends-up : SwitchesFollow → (w : WorldValue) (s : ℕ) (m : Message) (d : Control) → IsKept w → IsSent s w.fleet.control d m → Lifts w (event.Controller (of_controller.Send s)) d
 sends-up f w s m d k h =
-    let old : WiredSwitch = get_or w.fleet.ends s (new_end 0 0) in
-    let here : slice_get w.fleet.ends s ≡ Some old = slice_get-get_or w.fleet.ends s (new_end 0 0) (within f w s h.peer k h.here) in
+    let old : WiredSwitch = get_or w.fleet.wired s (new_end 0 0) in
+    let here : slice_get w.fleet.wired s ≡ Some old = slice_get-get_or w.fleet.wired s (new_end 0 0) (within f w s h.peer k h.here) in
     let now : WiredSwitch = record old { there = old.there ++ m ∷ [] } in (
       record { running = h.running; peer = h.peer; here = h.here; some = not-none h.order h.rest (unsent_at w.fleet.control h.peer) h.front },
       (
-        record w { fleet = record { control = d; ends = slice_set w.fleet.ends s now } },
+        record w { fleet = record { control = d; wired = slice_set w.fleet.wired s now } },
         record {
-          fleet = record { control = d; ends = slice_set w.fleet.ends s now };
+          fleet = record { control = d; wired = slice_set w.fleet.wired s now };
           step = record { message = m; control = d; sent = h; old = old; here = here; now = refl };
           now = refl;
         },
@@ -54,8 +54,8 @@ sends-up f w s m d k h =
 
 begun-up : (w : WorldValue) (d : Control) → begin_refusal w.fleet.control ≡ None → d ≡ begun w.fleet.control → Step w (event.Controller of_controller.Begin) (record w { fleet = record w.fleet { control = d } })
 begun-up w d a b = record {
-  fleet = record { control = d; ends = w.fleet.ends };
-  step = record { asked = a; now = λ i. record { control = b i; ends = w.fleet.ends } };
+  fleet = record { control = d; wired = w.fleet.wired };
+  step = record { asked = a; now = λ i. record { control = b i; wired = w.fleet.wired } };
   now = refl;
 }
 
@@ -63,8 +63,8 @@ drained-up : (stamp : ℕ) (w : WorldValue) (d : Control) → NoneCarries stamp 
 drained-up stamp w d none a b = record {
   none = none;
   step = record {
-    fleet = record { control = d; ends = w.fleet.ends };
-    step = record { asked = a; now = λ i. record { control = b i; ends = w.fleet.ends } };
+    fleet = record { control = d; wired = w.fleet.wired };
+    step = record { asked = a; now = λ i. record { control = b i; wired = w.fleet.wired } };
     now = refl;
   };
 }
@@ -78,9 +78,9 @@ lifts f w (Heard s x) d e k l h m =
     subst (λ (y : Event). Lifts w y d) (sym m.1) (
       (record { running = h.1.running; peer = h.1.peer; here = h.1.here; there = h.1.there }, record { end_ = at.end_; here = at.here; is = not-none x at.is.0 at.end_.back at.is.1 }),
       (
-        record w { fleet = record { control = d; ends = slice_set w.fleet.ends s now } },
+        record w { fleet = record { control = d; wired = slice_set w.fleet.wired s now } },
         record {
-          fleet = record { control = d; ends = slice_set w.fleet.ends s now };
+          fleet = record { control = d; wired = slice_set w.fleet.wired s now };
           step = record { old = at.end_; here = at.here; message = x; rest = at.is.0; front = at.is.1; move = h.0; control = d; heard = h.1; now = refl };
           now = refl;
         },
@@ -94,7 +94,7 @@ lifts f w (Lost s) d e k l h m = subst (λ (y : Event). Lifts w y d) (sym m) (
   (
     record w { fleet = record w.fleet { control = d } },
     record {
-      fleet = record { control = d; ends = w.fleet.ends };
+      fleet = record { control = d; wired = w.fleet.wired };
       step = inr (record { control = d; lost = h; stops = some-halt _ _ (ap (λ (x : Control). x.halt) (lost-stops w.fleet.control d s l.none_left h)); now = refl });
       now = refl;
     },

@@ -48,14 +48,14 @@ shown w (event.Controller of_controller.Begin) v l h s = record {
   drives = one w.fleet.control v.fleet.control v.fleet.control Begin (s.step.asked, control-of w v s.fleet s.now ∙ ap (λ (f : Fleet). f.control) s.step.now) refl;
 }
 shown w (event.Controller (of_controller.Send p)) v l h s =
-    let ends : v.fleet.ends ≡ slice_set w.fleet.ends p (record s.step.old { there = s.step.old.there ++ s.step.message ∷ [] }) = ap (λ (x : WorldValue). x.fleet.ends) s.now ∙ ap (λ (f : Fleet). f.ends) s.step.now in
+    let ends : v.fleet.wired ≡ slice_set w.fleet.wired p (record s.step.old { there = s.step.old.there ++ s.step.message ∷ [] }) = ap (λ (x : WorldValue). x.fleet.wired) s.now ∙ ap (λ (f : Fleet). f.wired) s.step.now in
     record {
       events = Send p s.step.message ∷ [];
       shown = (
         s.step.message,
         record {
           end_ = record s.step.old { there = s.step.old.there ++ s.step.message ∷ [] };
-          here = ap (λ (es : List WiredSwitch). slice_get es p) ends ∙ get_set w.fleet.ends p _ (get-within p w.fleet.ends s.step.old s.step.here);
+          here = ap (λ (es : List WiredSwitch). slice_get es p) ends ∙ get_set w.fleet.wired p _ (get-within p w.fleet.wired s.step.old s.step.here);
           is = (s.step.old.there, refl);
         },
         refl,

@@ -3,7 +3,7 @@
 //! Layer: switches outside; public. Called by `crew`.
 ghost use Rattle.drive_workers.specs.Faults.{AskCause};
 
-use crate::fault::DriveFault;
+use crate::fault::{DriveError, DriveFault};
 use board_readers::{BoardName, Pen};
 use drive_journal::{CallerTask, DriveDesk, DriveName};
 use outside_net::{Link, Receipt, ReportFailed, Reporter};
@@ -12,12 +12,12 @@ use std::sync::Wait;
 use std::time::Clock;
 
 /// Begins updates, and takes the reports of drains, until the drive is closed or over. Where the drive stands is posted
-/// at each turn. It answers a fault if the reporter failed, or out of memory.
+/// at each pass. It answers a fault if the reporter failed, or out of memory.
 pub fn steer<R: Wait + Clock + Drop, L: DriveName, E: Link, Q: Reporter, J: BoardName>(
     desk: &DriveDesk<R, L, E, Q::Receipt>,
     reporter: &mut Q,
     pen: &mut Pen<J, R>,
-) -> Result<(), DriveFault>
+) -> Result<(), DriveError>
     ensures { AskCause (Q.faults reporter.old) (Q.faults reporter.new) result }
 {
     for _ in desk.runtime().forever() {
@@ -27,7 +27,7 @@ pub fn steer<R: Wait + Clock + Drop, L: DriveName, E: Link, Q: Reporter, J: Boar
             Ok(CallerTask::Stop) => return Ok(()),
             Ok(CallerTask::Step) | Ok(CallerTask::Nothing) => {}
             Ok(CallerTask::Wait(stamp)) => ask(desk, reporter, stamp)?,
-            Err(AllocError) => return Err(DriveFault::Memory),
+            Err(AllocError) => return Err(DriveError::Memory),
         }
     }
     unreachable!()
@@ -52,18 +52,18 @@ fn ask<R: Wait + Clock + Drop, L: DriveName, E: Link, Q: Reporter>(
     desk: &DriveDesk<R, L, E, Q::Receipt>,
     reporter: &mut Q,
     stamp: u16,
-) -> Result<(), DriveFault>
+) -> Result<(), DriveError>
     ensures cause { AskCause (Q.faults reporter.old) (Q.faults reporter.new) result }
 {
     match reporter.wait(stamp) {
-        Ok(Some(receipt)) => match desk.drained(receipt) {
-            Ok(()) => Ok(()),
-            Err(AllocError) => Err(DriveFault::Memory),
-        },
+        Ok(Some(receipt)) => {
+            desk.drained(receipt)?;
+            Ok(())
+        }
         Ok(None) => {
             desk.pause();
             Ok(())
         }
-        Err(ReportFailed) => Err(DriveFault::Report),
+        Err(ReportFailed) => Err(DriveError::Fault(DriveFault::Report)),
     }
 }

@@ -7,69 +7,62 @@ ghost use Rattle.drive_workers.specs.Ends.{AreEnds, IsEndOf};
 ghost use Rattle.drive_workers.specs.Faults.{RunCause, StartsAs};
 
 use crate::caller::steer;
-use crate::fault::DriveFault;
+use crate::fault::{DriveError, DriveFault};
+use crate::lookout::OpenBoard;
 use crate::worker::DriveWorker;
-use board_readers::{BoardName, Ending, Pen};
+use board_readers::{BoardName, Pen};
 use drive_journal::{Drive, DriveDesk, DriveName, Steered};
-use outside_net::{Job, Link, Receipt, Reporter, Spawner, StartFault};
+use outside_net::{Job, Link, Net, Receipt, Reporter, Spawner, StartError, StartFault};
 use std::alloc::Global;
 use std::sync::{Arc, Wait};
 use std::time::Clock;
-use worker_desk::Gate;
+use worker_desk::{Gate, Host};
 
 /// Drives switches from a start until it is over: a worker in a thread of its own for each, which talks over its end,
-/// and the caller, who begins the updates and takes the reports of drains. The pen posts where the drive stands, and
-/// readers of its board are told when it is over.
+/// and the caller, who begins the updates and takes the reports of drains. The board's pen posts where the drive
+/// stands, and its readers are told when it is over.
 pub fn drive_fleet<
-    R: Wait + Clock + Clone + Drop + Send + 'static,
     L: DriveName + Send + Sync + 'static,
-    E: Link + Send + 'static,
-    Q: Reporter,
-    G: Gate + Send + Sync + 'static,
-    T: Spawner,
     J: BoardName,
+    R: Wait + Clock + Clone + Drop + Send + 'static,
+    N: Net,
+    T: Spawner,
+    G: Gate + Send + Sync + 'static,
+    Q: Reporter,
 >(
-    rt: &R,
     alloc: Global,
-    held: Steered<L, E, Q::Receipt>,
-    ends: Vec<E>,
+    held: Steered<L, N::End, Q::Receipt>,
+    ends: Vec<N::End>,
+    board: &mut OpenBoard<Pen<J, R>, R>,
+    host: &mut Host<R, N, T, G>,
     reporter: &mut Q,
-    threads: &mut T,
-    gate: Arc<G>,
-    pen: &mut Pen<J, R>,
-    ending: &Ending<R>,
-) -> Result<Steered<L, E, Q::Receipt>, DriveFault>
+) -> Result<Steered<L, N::End, Q::Receipt>, DriveError>
 where
+    N::End: 'static,
     Q::Receipt: Send + 'static,
     requires count { vec_len ends ≡ length L.start.peers }
-    requires ends { AreEnds E.named E.received ends.items }
+    requires ends { AreEnds N.End.named N.End.received ends.items }
     ensures over { IfOk result (λ h. IsOver h.control) }
-    ensures cause { RunCause (T.faults threads.old) (T.faults threads.new) (Q.faults reporter.old)
+    ensures cause { RunCause (T.faults host.old.threads) (T.faults host.new.threads) (Q.faults reporter.old)
         (Q.faults reporter.new) result }
+    ensures net { host.new.net ≡ host.old.net }
 {
-    let Ok(drive) = Drive::new(alloc, held) else {
-        return Err(DriveFault::Memory);
-    };
-    let Ok(own) = rt.clone() else {
-        return Err(DriveFault::Memory);
-    };
-    let Ok(desk) = DriveDesk::new(own, alloc, drive) else {
-        return Err(DriveFault::Memory);
-    };
+    let drive = Drive::new(alloc, held)?;
+    let desk = DriveDesk::new(host.rt.clone()?, alloc, drive)?;
     let crew = Crew {
         desk: &desk,
-        gate: &gate,
+        gate: &host.gate,
     };
-    let done = crew.go(ends, reporter, threads, pen);
+    let done = crew.go(ends, reporter, &mut host.threads, &mut board.pen);
     if done.is_err() {
         desk.close_all();
     }
-    ending.tell();
-    threads.finish();
+    board.ending.tell();
+    host.threads.finish();
     done?;
     match desk.finish() {
         Some(held) => Ok(held),
-        None => Err(DriveFault::Memory),
+        None => Err(DriveError::Memory),
     }
 }
 
@@ -95,7 +88,7 @@ impl<
         reporter: &mut P,
         threads: &mut T,
         pen: &mut Pen<J, R>,
-    ) -> Result<(), DriveFault>
+    ) -> Result<(), DriveError>
         requires count { vec_len ends ≡ length L.start.peers }
         requires ends { AreEnds E.named E.received ends.items }
         ensures { RunCause (T.faults threads.old) (T.faults threads.new) (P.faults reporter.old)
@@ -106,7 +99,7 @@ impl<
     }
 
     // Starts all workers. An end that was not handed out is dropped.
-    fn start_all<T: Spawner>(&self, ends: Vec<E>, threads: &mut T) -> Result<(), DriveFault>
+    fn start_all<T: Spawner>(&self, ends: Vec<E>, threads: &mut T) -> Result<(), DriveError>
         requires count { vec_len ends ≡ length L.start.peers }
         requires ends { AreEnds E.named E.received ends.items }
         ensures { StartsAs (T.faults threads.old) (T.faults threads.new) result }
@@ -120,28 +113,26 @@ impl<
     }
 
     // The worker of the switch at a place.
-    fn worker(&self, place: usize, end: E) -> Result<DriveWorker<R, L, E, Q, G>, DriveFault>
+    fn worker(&self, place: usize, end: E) -> Result<DriveWorker<R, L, E, Q, G>, DriveError>
         requires place { place < length L.start.peers }
         requires end { IsEndOf E.named E.received place end }
-        ensures memory { IfErr result (λ f. f ≡ DriveFault.Memory) }
+        ensures memory { IfErr result (λ f. f ≡ DriveError.Memory) }
     {
-        let Ok(desk) = self.desk.again() else {
-            return Err(DriveFault::Memory);
-        };
-        let Ok(gate) = Arc::try_clone(self.gate) else {
-            return Err(DriveFault::Memory);
-        };
+        let desk = self.desk.again()?;
+        let gate = Arc::try_clone(self.gate)?;
         Ok(DriveWorker::new(desk, place, end, gate))
     }
 }
 
 // Starts a job.
-pub(crate) fn start_one<T: Spawner, J: Job>(threads: &mut T, job: J) -> Result<(), DriveFault>
+pub(crate) fn start_one<T: Spawner, J: Job>(threads: &mut T, job: J) -> Result<(), DriveError>
     ensures { StartsAs (T.faults threads.old) (T.faults threads.new) result }
 {
     match threads.start(job) {
         Ok(()) => Ok(()),
-        Err(StartFault::NoThread) => Err(DriveFault::NoThread),
-        Err(StartFault::Memory) => Err(DriveFault::Memory),
+        Err(StartError::Fault(StartFault::NoThread)) => Err(DriveError::Fault(
+            DriveFault::NoThread,
+        )),
+        Err(StartError::Memory) => Err(DriveError::Memory),
     }
 }

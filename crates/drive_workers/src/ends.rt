@@ -5,7 +5,7 @@ ghost use Rattle.std.specs.Prelude.{◌≡◌, ◌+◌, vec_len, IfOk, min};
 ghost use Rattle.outside_net.specs.Causes.{NetCause};
 ghost use Rattle.drive_workers.specs.Ends.{AreEnds};
 
-use outside_net::{Net, NetFault};
+use outside_net::{Net, NetError};
 use std::alloc::Global;
 
 /// The port of a place: as many ports after the first one, and 65,535 if there is no such port. A net cannot open a
@@ -24,7 +24,7 @@ pub fn meet_ends<N: Net>(
     net: &mut N,
     first: u16,
     count: u32,
-) -> Result<Vec<N::End>, NetFault>
+) -> Result<Vec<N::End>, NetError>
     ensures ends { IfOk result (λ es. AreEnds N.End.named N.End.received es.items) }
     ensures count { IfOk result (λ es. vec_len es ≡ count) }
     ensures broken { N.broken net.new ≡ N.broken net.old }
@@ -34,7 +34,7 @@ pub fn meet_ends<N: Net>(
     for place in 0..count {
         let end = net.meet(port_at(first, place), place)?;
         let Ok(()) = ends.push(end) else {
-            return Err(NetFault::Memory);
+            return Err(NetError::Memory);
         };
     }
     Ok(ends)

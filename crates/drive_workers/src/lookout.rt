@@ -1,28 +1,35 @@
 //! The board of a drive, and who reads it.
 //!
-//! Layer: switches outside; private. Called by `closed`.
+//! Layer: switches outside; public. Called by `closed` and `crew`.
 ghost use Rattle.std.specs.Prelude.{◌≡◌};
 ghost use Rattle.drive_workers.specs.Faults.{StartsAs};
 
 use crate::crew::start_one;
-use crate::fault::DriveFault;
+use crate::fault::DriveError;
 use board_readers::{Board, BoardName, Ending, Eye, Onlooker, Pen, Progress};
 use outside_net::Spawner;
 use std::alloc::{AllocError, Global};
 use std::sync::{Arc, Wait};
 use std::time::Clock;
 
-// The pen of a board, an eye of it, and the ending by which its reader pauses.
+/// A board that is read: what posts on it, and the ending by which its reader pauses.
+#[derive(Drop)]
+pub struct OpenBoard<P, R> {
+    pub pen: P,
+    pub ending: Ending<R>,
+}
+
+// A board that is open, and an eye of it.
 pub(crate) fn open_board<R: Wait + Clock + Clone + Drop, L: BoardName>(
     rt: &R,
     alloc: Global,
     board: Board,
-) -> Result<(Pen<L, R>, Vec<Eye<L>>, Ending<R>), AllocError>
+) -> Result<(OpenBoard<Pen<L, R>, R>, Vec<Eye<L>>), AllocError>
     requires board { board ≡ L.book }
 {
     let (pen, eyes) = board.named::<L, R>(alloc, rt.clone()?, 1)?;
     let ending = Ending::new(rt.clone()?, alloc)?;
-    Ok((pen, eyes, ending))
+    Ok((OpenBoard { pen, ending }, eyes))
 }
 
 // Starts a reader for an onlooker that wants to be told.
@@ -37,7 +44,7 @@ pub(crate) fn start_progress<
     last: usize,
     onlooker: &Arc<G>,
     threads: &mut T,
-) -> Result<(), DriveFault>
+) -> Result<(), DriveError>
     ensures { StartsAs (T.faults threads.old) (T.faults threads.new) result }
 {
     let mut eyes = eyes;
@@ -47,8 +54,7 @@ pub(crate) fn start_progress<
     if !onlooker.looks_on() {
         return Ok(());
     }
-    let (Ok(ending), Ok(onlooker)) = (ending.again(), Arc::try_clone(onlooker)) else {
-        return Err(DriveFault::Memory);
-    };
+    let ending = ending.again()?;
+    let onlooker = Arc::try_clone(onlooker)?;
     start_one(threads, Progress::new(ending, eye, last, onlooker))
 }

@@ -12,7 +12,7 @@ use status_board::{Board, BoardName, Eye, Note, Pen, Post};
 use std::alloc::{AllocError, Global};
 use std::sync::{Arc, Wait};
 use std::time::Clock;
-use world_journal::RunFault;
+use world_journal::{RunError, RunFault};
 
 /// What readers of a run's board are to know, and to do.
 #[derive(Clone, Copy, Debug, PartialEq, Eq)]
@@ -51,10 +51,11 @@ pub(crate) fn start_readers<
     lookout: Lookout,
     onlooker: &Arc<G>,
     threads: &mut T,
-) -> Result<Option<SightDesk<R, L>>, RunFault>
+) -> Result<Option<SightDesk<R, L>>, RunError>
     ensures later { T.faults threads.old ≤ T.faults threads.new }
-    ensures no_thread { result ≡ Err RunFault.NoThread → Rose (T.faults threads.old) (T.faults threads.new) }
-    ensures no_net { result ≢ Err RunFault.NetFault }
+    ensures no_thread { result ≡ Err (RunError.Fault RunFault.NoThread) →
+        Rose (T.faults threads.old) (T.faults threads.new) }
+    ensures no_net { result ≢ Err (RunError.Fault RunFault.NetFault) }
 {
     let mut eyes = eyes;
     if onlooker.looks_on() {
@@ -79,17 +80,17 @@ fn start_progress<
     last: usize,
     onlooker: &Arc<G>,
     threads: &mut T,
-) -> Result<(), RunFault>
+) -> Result<(), RunError>
     ensures later { T.faults threads.old ≤ T.faults threads.new }
-    ensures no_thread { result ≡ Err RunFault.NoThread → Rose (T.faults threads.old) (T.faults threads.new) }
-    ensures no_net { result ≢ Err RunFault.NetFault }
+    ensures no_thread { result ≡ Err (RunError.Fault RunFault.NoThread) →
+        Rose (T.faults threads.old) (T.faults threads.new) }
+    ensures no_net { result ≢ Err (RunError.Fault RunFault.NetFault) }
 {
     let Some(eye) = eye else {
         return Ok(());
     };
-    let (Ok(ending), Ok(onlooker)) = (ending.again(), Arc::try_clone(onlooker)) else {
-        return Err(RunFault::Memory);
-    };
+    let ending = ending.again()?;
+    let onlooker = Arc::try_clone(onlooker)?;
     start_one(threads, Progress::new(ending, eye, last, onlooker))
 }
 
@@ -104,17 +105,16 @@ fn start_watcher<
     eye: Option<Eye<L>>,
     last: usize,
     threads: &mut T,
-) -> Result<Option<SightDesk<R, L>>, RunFault>
+) -> Result<Option<SightDesk<R, L>>, RunError>
     ensures later { T.faults threads.old ≤ T.faults threads.new }
-    ensures no_thread { result ≡ Err RunFault.NoThread → Rose (T.faults threads.old) (T.faults threads.new) }
-    ensures no_net { result ≢ Err RunFault.NetFault }
+    ensures no_thread { result ≡ Err (RunError.Fault RunFault.NoThread) →
+        Rose (T.faults threads.old) (T.faults threads.new) }
+    ensures no_net { result ≢ Err (RunError.Fault RunFault.NetFault) }
 {
     let Some(eye) = eye else {
         return Ok(None);
     };
-    let Ok((desk, own)) = desks(alloc, ending) else {
-        return Err(RunFault::Memory);
-    };
+    let (desk, own) = desks(alloc, ending)?;
     start_one(threads, Watcher::new(own, eye, last))?;
     Ok(Some(desk))
 }

@@ -9,7 +9,7 @@ use std::alloc::{AllocError, Global};
 use std::sync::{Arc, Wait};
 use std::thread::Threads;
 use std::time::Clock;
-use worker_desk::OpenGate;
+use worker_desk::{Host, OpenGate};
 
 /// The words of a command.
 pub fn words(alloc: Global, command: &str) -> Result<Vec<String>, AllocError> {
@@ -26,38 +26,26 @@ pub fn drive_words(alloc: Global, first: u16) -> Result<Vec<String>, AllocError>
     Ok(words)
 }
 
-/// A call with a document, over this net.
+/// A call with a document, over this net, which is gone after it.
 pub fn call<
     R: Wait + Clock + Threads + AllocGlobal + Copy + Clone + Drop + Send + Sync + 'static,
-    N: Net,
+    N: Net + Drop,
     Q: Reporter,
->(
-    rt: R,
-    words: &[String],
-    document: &str,
-    net: &mut N,
-    reporter: &mut Q,
-) -> Result<Outcome, AllocError>
+>(rt: R, words: &[String], document: &str, net: N, reporter: &mut Q) -> Result<Outcome, AllocError>
 where
     N::End: 'static,
     Q::Receipt: Send + 'static,
 {
     let alloc = rt.alloc();
     let bytes = document.as_bytes().to_vec(alloc)?;
-    let gate = Arc::new(alloc, OpenGate)?;
-    let mut threads = ThreadSpawner::new(alloc, rt);
     let mut source = MemorySource::new(bytes, usize::MAX, Vec::new(alloc));
     let mut sink = MemorySink::new(alloc, usize::MAX, Vec::new(alloc));
-    let status = nkctl(
-        &rt,
-        alloc,
-        words,
-        &mut source,
-        &mut sink,
+    let mut host = Host {
+        rt,
         net,
-        &mut threads,
-        gate,
-        reporter,
-    );
+        threads: ThreadSpawner::new(alloc, rt),
+        gate: Arc::new(alloc, OpenGate)?,
+    };
+    let status = nkctl(alloc, words, &mut source, &mut sink, &mut host, reporter);
     outcome_of(alloc, status, &sink)
 }

@@ -25,7 +25,6 @@ pub fn run_over_tcp<
         + 'static,
 >(rt: R, command: &str, document: &str) -> Result<Outcome, AllocError> {
     let words = words(rt.alloc(), command)?;
-    let mut net = TcpNet::new(rt);
     let mut reporter = LineReporter::new(rt);
-    call(rt, &words, document, &mut net, &mut reporter)
+    call(rt, &words, document, TcpNet::new(rt), &mut reporter)
 }

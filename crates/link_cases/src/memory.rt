@@ -23,9 +23,8 @@ pub fn drive_in_memory<
     let failing = [case.failing].to_vec(alloc)?;
     let mut reporter = MemoryReporter::new(case.after, failing);
     let words = drive_words(alloc, first)?;
-    let outcome = call(rt, &words, &case.document, &mut net, &mut reporter)?;
     // A switch works until its link is closed: ends that nobody met are closed with their net.
-    drop(net);
+    let outcome = call(rt, &words, &case.document, net, &mut reporter)?;
     fakes.finish();
     Ok(outcome)
 }

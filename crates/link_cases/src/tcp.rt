@@ -35,7 +35,7 @@ pub fn drive_over_tcp<
         + 'static,
 >(rt: R, case: &Case, first: u16) -> Result<Outcome, AllocError> {
     let alloc = rt.alloc();
-    let mut net = if case.absent > 0 {
+    let net = if case.absent > 0 {
         TcpNet::with_looks(rt, LOOKS)
     } else {
         TcpNet::new(rt)
@@ -44,8 +44,7 @@ pub fn drive_over_tcp<
     start_fakes(rt, alloc, case, first, &mut fakes)?;
     let mut reporter = LineReporter::new(rt);
     let words = drive_words(alloc, first)?;
-    let outcome = call(rt, &words, &case.document, &mut net, &mut reporter)?;
-    drop(net);
+    let outcome = call(rt, &words, &case.document, net, &mut reporter)?;
     drop(reporter);
     fakes.finish();
     Ok(outcome)

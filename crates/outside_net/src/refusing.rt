@@ -1,7 +1,7 @@
 //! A spawner that refuses some starts.
 //!
 //! Layer: runs; public. Called by nkctl_cases.
-use crate::spawner::{Spawner, StartFault};
+use crate::spawner::{Spawner, StartError, StartFault};
 use std::thread::JoinHandle;
 
 /// Another spawner, but for the starts that are to be refused.
@@ -54,11 +54,11 @@ impl<T: Spawner> Spawner for RefusingSpawner<T> {
     }
 
     // Refuses the listed starts, and else those that the other spawner refuses.
-    fn prepare(&mut self) -> Result<(), StartFault>
+    fn prepare(&mut self) -> Result<(), StartError>
         ensures cause { StartCause (refusing_faults self.old) (refusing_faults self.new) result }
         ensures room { OnOk result (0 < T.room (refusing_inner self.new)) }
         ensures held { T.held (refusing_inner self.new) ≡ T.held (refusing_inner self.old) }
-        ensures refuses { StartIsToFail self.old → (result ≡ Err StartFault.NoThread) ×
+        ensures refuses { StartIsToFail self.old → (result ≡ Err (StartError.Fault StartFault.NoThread)) ×
             (refusing_inner self.new ≡ refusing_inner self.old) }
         ensures passes { ¬ (StartIsToFail self.old) →
             StartCause (T.faults (refusing_inner self.old)) (T.faults (refusing_inner self.new)) result }
@@ -68,15 +68,15 @@ impl<T: Spawner> Spawner for RefusingSpawner<T> {
         self.starts = self.starts.saturating_add(1);
         if self.failing.contains(&self.starts) {
             self.count();
-            return Err(StartFault::NoThread);
+            return Err(StartError::Fault(StartFault::NoThread));
         }
         match self.inner.prepare() {
             Ok(()) => Ok(()),
-            Err(StartFault::NoThread) => {
+            Err(StartError::Fault(StartFault::NoThread)) => {
                 self.count();
-                Err(StartFault::NoThread)
+                Err(StartError::Fault(StartFault::NoThread))
             }
-            Err(StartFault::Memory) => Err(StartFault::Memory),
+            Err(StartError::Memory) => Err(StartError::Memory),
         }
     }
 

@@ -27,10 +27,10 @@ abbrev pub NoneFull : List Message → Type 0
 NoneFull ms = (m : Message) → IsIn ms m → ¬ (IsFullError m)
 
 abbrev pub NoneIsFull : List WiredSwitch → Type 0
-NoneIsFull ends = (place : ℕ) (e : WiredSwitch) → slice_get ends place ≡ Some e → NoneFull e.back
+NoneIsFull wired = (place : ℕ) (e : WiredSwitch) → slice_get wired place ≡ Some e → NoneFull e.back
 
 abbrev pub KeepsRoom : WorldValue → Type 0
-KeepsRoom w = HasSpace w → NoneIsFull w.fleet.ends
+KeepsRoom w = HasSpace w → NoneIsFull w.fleet.wired
 
 -- ---- messages
 
@@ -80,57 +80,57 @@ none-yet m k = absurd k
 -- ---- switches
 
 -- one switch has other messages on their way back
-set-back : (ends : List WiredSwitch) (place : ℕ) (old new : WiredSwitch) → slice_get ends place ≡ Some old → NoneIsFull ends → NoneFull new.back → NoneIsFull (slice_set ends place new)
-set-back ends place old new here h n j e q =
-    let put = put-set place ends old new here in
+set-back : (wired : List WiredSwitch) (place : ℕ) (old new : WiredSwitch) → slice_get wired place ≡ Some old → NoneIsFull wired → NoneFull new.back → NoneIsFull (slice_set wired place new)
+set-back wired place old new here h n j e q =
+    let put = put-set place wired old new here in
     elim (ℕ_discrete j place) [
-      | yes d ↦ subst (λ (x : WiredSwitch). NoneFull x.back) (some-is new e (sym put.at ∙ ap (λ (i : ℕ). slice_get (slice_set ends place new) i) (sym d) ∙ q)) n
+      | yes d ↦ subst (λ (x : WiredSwitch). NoneFull x.back) (some-is new e (sym put.at ∙ ap (λ (i : ℕ). slice_get (slice_set wired place new) i) (sym d) ∙ q)) n
       | no d ↦ h j e (sym (put.others j d) ∙ q)
     ]
 
 -- ---- events
 
 abbrev In_fleet : WorldValue → Fleet → Type 0
-In_fleet w f = HasSpace w → NoneIsFull f.ends
+In_fleet w f = HasSpace w → NoneIsFull f.wired
 
 in-fleet : (w v : WorldValue) (f : Fleet) → v ≡ record w { fleet = f } → In_fleet w f → KeepsRoom v
 in-fleet w v f now h = subst KeepsRoom (sym now) h
 
 -- the switches become these
-ends-are : (w v : WorldValue) (f : Fleet) (ends : List WiredSwitch) → v ≡ record w { fleet = f } → f.ends ≡ ends → (HasSpace w → NoneIsFull ends) → KeepsRoom v
-ends-are w v f ends now e h = in-fleet w v f now (λ l. subst NoneIsFull (sym e) (h l))
+ends-are : (w v : WorldValue) (f : Fleet) (wired : List WiredSwitch) → v ≡ record w { fleet = f } → f.wired ≡ wired → (HasSpace w → NoneIsFull wired) → KeepsRoom v
+ends-are w v f wired now e h = in-fleet w v f now (λ l. subst NoneIsFull (sym e) (h l))
 
 lost-room : (place : ℕ) (w v : WorldValue) → InFleet (Loses place) w v → KeepsRoom w → KeepsRoom v
 lost-room place w v s h = elim s.step [
-  | inl t ↦ ends-are w v s.fleet _ s.now (ap (λ (f : Fleet). f.ends) t.now) (λ l. set-back w.fleet.ends place t.old _ t.here (h l) none-yet)
-  | inr t ↦ ends-are w v s.fleet w.fleet.ends s.now (ap (λ (f : Fleet). f.ends) t.now) h
+  | inl t ↦ ends-are w v s.fleet _ s.now (ap (λ (f : Fleet). f.wired) t.now) (λ l. set-back w.fleet.wired place t.old _ t.here (h l) none-yet)
+  | inr t ↦ ends-are w v s.fleet w.fleet.wired s.now (ap (λ (f : Fleet). f.wired) t.now) h
 ]
 
 step-room : HasTableRoom → (w : WorldValue) (e : Event) (v : WorldValue) → IsKept w → Step w e v → KeepsRoom w → KeepsRoom v
-step-room room w (event.Controller of_controller.Begin) v k s h = ends-are w v s.fleet w.fleet.ends s.now (ap (λ (f : Fleet). f.ends) s.step.now) h
+step-room room w (event.Controller of_controller.Begin) v k s h = ends-are w v s.fleet w.fleet.wired s.now (ap (λ (f : Fleet). f.wired) s.step.now) h
 step-room room w (event.Controller (of_controller.Send p)) v k s h =
-    ends-are w v s.fleet _ s.now (ap (λ (f : Fleet). f.ends) s.step.now) (λ l. set-back w.fleet.ends p s.step.old _ s.step.here (h l) (h l p s.step.old s.step.here))
+    ends-are w v s.fleet _ s.now (ap (λ (f : Fleet). f.wired) s.step.now) (λ l. set-back w.fleet.wired p s.step.old _ s.step.here (h l) (h l p s.step.old s.step.here))
 step-room room w (event.Switch (of_switch.Take p)) v k s h =
-    ends-are w v s.fleet _ s.now (ap (λ (f : Fleet). f.ends) s.step.now)
-    (λ l. set-back w.fleet.ends p s.step.old _ s.step.here (h l)
+    ends-are w v s.fleet _ s.now (ap (λ (f : Fleet). f.wired) s.step.now)
+    (λ l. set-back w.fleet.wired p s.step.old _ s.step.here (h l)
     (none-answered (answer_of s.step.old.switch.sw s.step.message) s.step.old.back (not-full s.step.old.switch.sw s.step.message) (h l p s.step.old s.step.here)))
 step-room room w (event.Switch (of_switch.Apply p n)) v k s h =
-    ends-are w v s.fleet _ s.now (ap (λ (f : Fleet). f.ends) s.step.now)
-    (λ l. set-back w.fleet.ends p s.step.old _ s.step.here (h l)
+    ends-are w v s.fleet _ s.now (ap (λ (f : Fleet). f.wired) s.step.now)
+    (λ l. set-back w.fleet.wired p s.step.old _ s.step.here (h l)
     (none-told s.step.peer.away s.step.answer s.step.old.back (room w p n v k l s) (h l p s.step.old s.step.here)))
 step-room room w (event.Switch (of_switch.Reply p)) v k s h =
-    ends-are w v s.fleet _ s.now (ap (λ (f : Fleet). f.ends) s.step.now)
-    (λ l. set-back w.fleet.ends p s.step.old _ s.step.here (h l)
+    ends-are w v s.fleet _ s.now (ap (λ (f : Fleet). f.wired) s.step.now)
+    (λ l. set-back w.fleet.wired p s.step.old _ s.step.here (h l)
     (one-more s.step.old.back s.step.answer (h l p s.step.old s.step.here) (λ f. barrier-not-full s.step.step.xid (subst IsFullError s.step.step.reply f))))
 step-room room w (event.Controller (of_controller.Heard p)) v k s h =
-    ends-are w v s.fleet _ s.now (ap (λ (f : Fleet). f.ends) s.step.now)
-    (λ l. set-back w.fleet.ends p s.step.old _ s.step.here (h l) (λ m i. h l p s.step.old s.step.here m (subst (λ (ms : List Message). IsIn ms m) (sym s.step.front) (inr i))))
+    ends-are w v s.fleet _ s.now (ap (λ (f : Fleet). f.wired) s.step.now)
+    (λ l. set-back w.fleet.wired p s.step.old _ s.step.here (h l) (λ m i. h l p s.step.old s.step.here m (subst (λ (ms : List Message). IsIn ms m) (sym s.step.front) (inr i))))
 step-room room w (event.Packet (of_packet.Arrive pk tag)) v k s h = subst KeepsRoom (sym s.now) h
 step-room room w (event.Packet (of_packet.Hop n)) v k s h = subst KeepsRoom (sym s.now) h
-step-room room w (event.Controller (of_controller.Drained stamp)) v k s h = ends-are w v s.step.fleet w.fleet.ends s.step.now (ap (λ (f : Fleet). f.ends) s.step.step.now) h
+step-room room w (event.Controller (of_controller.Drained stamp)) v k s h = ends-are w v s.step.fleet w.fleet.wired s.step.now (ap (λ (f : Fleet). f.wired) s.step.step.now) h
 step-room room w (event.Controller (of_controller.Lost p)) v k s h = lost-room p w v s h
 step-room room w (event.Controller (of_controller.Rejoin p)) v k s h =
-    ends-are w v s.fleet _ s.now (ap (λ (f : Fleet). f.ends) s.step.now) (λ l. set-back w.fleet.ends p s.step.old _ s.step.here (h l) (one-hello 0))
+    ends-are w v s.fleet _ s.now (ap (λ (f : Fleet). f.wired) s.step.now) (λ l. set-back w.fleet.wired p s.step.old _ s.step.here (h l) (one-hello 0))
 step-room room w (event.Packet (of_packet.Stuck n)) v k s h = subst KeepsRoom (sym s.now) h
 step-room room w (event.Foreign p side got) v k s h = subst KeepsRoom (sym s.now) h
 

@@ -73,7 +73,7 @@ pub record IsLastLoss (place : ℕ) (w : WorldValue) (why : Cause) : Type 0 wher
 pub record IsFailure (place : ℕ) (w : WorldValue) (why : Cause) : Type 0 where
   pub session : HasSession place w.fleet.control
   pub end_ : WiredSwitch
-  pub here : slice_get w.fleet.ends place ≡ Some end_
+  pub here : slice_get w.fleet.wired place ≡ Some end_
   pub message : Message
   pub rest : List Message
   pub front : end_.back ≡ message ∷ rest
@@ -90,7 +90,7 @@ pub record IsUndrained (k : ℕ) (w : WorldValue) (why : Cause) : Type 0 where
 pub record IsStrange (place : ℕ) (side : Side) (got : List ℕ) (w : WorldValue) (why : Cause) : Type 0 where
   pub session : HasSession place w.fleet.control
   pub end_ : WiredSwitch
-  pub here : slice_get w.fleet.ends place ≡ Some end_
+  pub here : slice_get w.fleet.wired place ≡ Some end_
   pub other : ¬ (IsFront got (channel side end_))
   pub is : why ≡ foreign_cause side got end_
 

@@ -5,6 +5,8 @@
 
 mod desk;
 mod gate;
+mod host;
 
 pub use desk::{Desk, Given, Made, Shut, Told};
 pub use gate::{Gate, Moment, OpenGate, StepKind};
+pub use host::Host;

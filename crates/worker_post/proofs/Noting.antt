@@ -1,12 +1,12 @@
--- What was told of an end, turn by turn.
+-- What was told of an end, cycle by cycle.
 use Rattle.std.proofs.Common.{◌≡◌, ℕ, inl, inr, List, [], ◌∷◌, Option, Some, None, refl, sym, ap, subst, ◌∙◌}
 use Rattle.std.specs.Prelude.{IfSome}
 use Rattle.outside_io.specs.Causes.{Rose}
 use Rattle.worker_desk.specs.Answers.{grown}
 use Rattle.worker_desk.specs.Notices.{Notice, Lost}
 use Rattle.worker_post.specs.Noting.{NotesLoss, NotesMemory, IsNotedOf, Notes}
-use Rattle.worker_post.specs.declared.post.RoundEnd.{RoundEnd}
-use Rattle.worker_post.specs.declared.post.RoundEnd.TheVariants.{Going, Shut, New, Stop, Memory, Kept}
+use Rattle.worker_post.specs.declared.post.CycleEnd.{CycleEnd}
+use Rattle.worker_post.specs.declared.post.CycleEnd.TheVariants.{Going, Shut, New, Stop, Memory, Kept}
 
 -- a call failed, and that was told
 pub loss-noted : (named name before now : ℕ) (old new : Option (List Notice)) → named ≡ name → Rose before now → new ≡ grown old (Lost named ∷ []) → NotesLoss name before now old new
@@ -16,7 +16,7 @@ pub kept-faults : {E : Type 0} (faults : E → ℕ) (end : E) (kept : Option E) 
 kept-faults faults end None h = tt
 kept-faults faults end (Some e) h = ap faults h
 
-any-notes : {E : Type 0} (faults : E → ℕ) (kept : Option E) (name before : ℕ) (old new : Option (List Notice)) (a : RoundEnd E) → Notes ⊥ faults kept name before old new a → Notes (Unit {0}) faults kept name before old new a
+any-notes : {E : Type 0} (faults : E → ℕ) (kept : Option E) (name before : ℕ) (old new : Option (List Notice)) (a : CycleEnd E) → Notes ⊥ faults kept name before old new a → Notes (Unit {0}) faults kept name before old new a
 any-notes faults kept name before old new (Going e) h = h
 any-notes faults kept name before old new (Shut e) h = h
 any-notes faults kept name before old new (New e other) h = absurd h.0
@@ -24,12 +24,12 @@ any-notes faults kept name before old new (Stop e) h = absurd h.0
 any-notes faults kept name before old new (Memory e) h = h
 any-notes faults kept name before old new Kept h = h
 
--- a turn after a call of the desk that was told nothing
-pub turn-notes : {E : Type 0} (faults : E → ℕ) (kept : Option E) (name before : ℕ) (old old1 new : Option (List Notice)) (a : RoundEnd E) → old1 ≡ old → Notes ⊥ faults kept name before old1 new a → Notes (Unit {0}) faults kept name before old new a
-turn-notes faults kept name before old old1 new a same h = any-notes faults kept name before old new a (subst (λ (x : Option (List Notice)). Notes ⊥ faults kept name before x new a) same h)
+-- a cycle after a call of the desk that was told nothing
+pub cycle-notes : {E : Type 0} (faults : E → ℕ) (kept : Option E) (name before : ℕ) (old old1 new : Option (List Notice)) (a : CycleEnd E) → old1 ≡ old → Notes ⊥ faults kept name before old1 new a → Notes (Unit {0}) faults kept name before old new a
+cycle-notes faults kept name before old old1 new a same h = any-notes faults kept name before old new a (subst (λ (x : Option (List Notice)). Notes ⊥ faults kept name before x new a) same h)
 
--- a turn after others in which no call failed and nothing was told
-pub notes-from : {E : Type 0} (asked : Type 0) (faults : E → ℕ) (kept : Option E) (name name1 before before1 : ℕ) (old old1 new : Option (List Notice)) (a : RoundEnd E) → name1 ≡ name → before1 ≡ before → old1 ≡ old → Notes asked faults kept name1 before1 old1 new a → Notes asked faults kept name before old new a
+-- a cycle after others in which no call failed and nothing was told
+pub notes-from : {E : Type 0} (asked : Type 0) (faults : E → ℕ) (kept : Option E) (name name1 before before1 : ℕ) (old old1 new : Option (List Notice)) (a : CycleEnd E) → name1 ≡ name → before1 ≡ before → old1 ≡ old → Notes asked faults kept name1 before1 old1 new a → Notes asked faults kept name before old new a
 notes-from asked faults kept name name1 before before1 old old1 new a n b o h =
     subst (λ (x : ℕ). Notes asked faults kept x before old new a) n (subst (λ (x : ℕ). Notes asked faults kept name1 x old new a) b (subst (λ (x : Option (List Notice)). Notes asked faults kept name1 before1 x new a) o h))
 

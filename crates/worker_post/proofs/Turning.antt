@@ -1,4 +1,4 @@
--- One turn of a worker.
+-- One cycle of a worker.
 use Rattle.std.proofs.Common.{◌≡◌, ℕ, inl, List, [], ◌∷◌, ◌++◌, Option, Some, None, refl, sym, ap, subst, ◌∙◌, append-nil}
 use Rattle.std.specs.Prelude.{IfSome}
 use Rattle.std.specs.Io.KnownBytes.{Appends}
@@ -9,9 +9,9 @@ use Rattle.worker_desk.specs.Answers.{grown}
 use Rattle.worker_post.specs.Telling.{Spans}
 use Rattle.worker_post.specs.Working.{TellsStream, Continues, IsFollowing}
 use Rattle.worker_post.specs.Works.{IsWorkAt, IsEnd}
-use Rattle.worker_post.specs.Turns.{HasEnd, GoesOn, Works, EndIs, GoesOnWith, SentTurn, ToldTurn}
-use Rattle.worker_post.specs.declared.post.RoundEnd.{RoundEnd}
-use Rattle.worker_post.specs.declared.post.RoundEnd.TheVariants.{Going, Shut, New, Stop, Memory, Kept}
+use Rattle.worker_post.specs.Cycles.{HasEnd, GoesOn, Works, EndIs, GoesOnWith, SentCycle, ToldCycle}
+use Rattle.worker_post.specs.declared.post.CycleEnd.{CycleEnd}
+use Rattle.worker_post.specs.declared.post.CycleEnd.TheVariants.{Going, Shut, New, Stop, Memory, Kept}
 use Rattle.worker_post.proofs.Streaming.{grows-more, spans-more}
 use Rattle.worker_post.proofs.Sending.{at-sent, end-sent}
 
@@ -34,7 +34,7 @@ memory-tells t0 t t1 r0 r r1 held more k h g same = record {
   beginning = inl (held ++ more, spans-more h.pieces h.bytes held more h.spans);
 }
 
-pub goes-with : {E : Type 0} (received : E → Option (List ℕ)) (end : E) (held : List ℕ) (k : ℕ) (kept : Option E) (a : RoundEnd E) → HasEnd end kept a → GoesOn a (IsFollowing (received end) held k) (Unit {0}) → GoesOnWith (λ e. IsFollowing (received e) held k) a
+pub goes-with : {E : Type 0} (received : E → Option (List ℕ)) (end : E) (held : List ℕ) (k : ℕ) (kept : Option E) (a : CycleEnd E) → HasEnd end kept a → GoesOn a (IsFollowing (received end) held k) (Unit {0}) → GoesOnWith (λ e. IsFollowing (received e) held k) a
 goes-with received end held k kept (Going e) is f = subst (λ x. IsFollowing (received x) held k) (sym is) f
 goes-with received end held k kept (Shut e) is f = tt
 goes-with received end held k kept (New e new) is f = tt
@@ -42,19 +42,19 @@ goes-with received end held k kept (Stop e) is f = tt
 goes-with received end held k kept (Memory e) is f = tt
 goes-with received end held k kept Kept is f = tt
 
-pub told-turn : {E : Type 0} (received : E → Option (List ℕ)) (end : E) (kept : Option E) (t0 : Option (List (List ℕ))) (r0 : Option (List ℕ)) (told : Option (List (List ℕ))) (held : List ℕ) (k : ℕ) (a : RoundEnd E)
-    → HasEnd end kept a → GoesOn a (Continues t0 told r0 (received end) held k) (TellsStream t0 told r0 (received end)) → ToldTurn received kept t0 r0 told held k a
-told-turn received end kept t0 r0 told held k (Going e) is f = subst (λ x. Continues t0 told r0 (received x) held k) (sym is) f
-told-turn received end kept t0 r0 told held k (Shut e) is f = subst (λ x. TellsStream t0 told r0 (received x)) (sym is) f
-told-turn received end kept t0 r0 told held k (New e new) is f = subst (λ x. TellsStream t0 told r0 (received x)) (sym is) f
-told-turn received end kept t0 r0 told held k (Stop e) is f = subst (λ x. TellsStream t0 told r0 (received x)) (sym is) f
-told-turn received end kept t0 r0 told held k (Memory e) is f = subst (λ x. TellsStream t0 told r0 (received x)) (sym is) f
-told-turn received end None t0 r0 told held k Kept is f = tt
-told-turn received end (Some e) t0 r0 told held k Kept is f = subst (λ x. TellsStream t0 told r0 (received x)) (sym is) f
+pub told-cycle : {E : Type 0} (received : E → Option (List ℕ)) (end : E) (kept : Option E) (t0 : Option (List (List ℕ))) (r0 : Option (List ℕ)) (told : Option (List (List ℕ))) (held : List ℕ) (k : ℕ) (a : CycleEnd E)
+    → HasEnd end kept a → GoesOn a (Continues t0 told r0 (received end) held k) (TellsStream t0 told r0 (received end)) → ToldCycle received kept t0 r0 told held k a
+told-cycle received end kept t0 r0 told held k (Going e) is f = subst (λ x. Continues t0 told r0 (received x) held k) (sym is) f
+told-cycle received end kept t0 r0 told held k (Shut e) is f = subst (λ x. TellsStream t0 told r0 (received x)) (sym is) f
+told-cycle received end kept t0 r0 told held k (New e new) is f = subst (λ x. TellsStream t0 told r0 (received x)) (sym is) f
+told-cycle received end kept t0 r0 told held k (Stop e) is f = subst (λ x. TellsStream t0 told r0 (received x)) (sym is) f
+told-cycle received end kept t0 r0 told held k (Memory e) is f = subst (λ x. TellsStream t0 told r0 (received x)) (sym is) f
+told-cycle received end None t0 r0 told held k Kept is f = tt
+told-cycle received end (Some e) t0 r0 told held k Kept is f = subst (λ x. TellsStream t0 told r0 (received x)) (sym is) f
 
-pub sent-works : {E : Type 0} (sent received : E → Option (List ℕ)) (named : E → ℕ) (end : E) (kept : Option E) (g0 : Option (List Message)) (t0 : Option (List (List ℕ))) (s0 r0 : Option (List ℕ)) (g g1 : Option (List Message)) (t t1 : Option (List (List ℕ))) (held : List ℕ) (k : ℕ) (m : Message) (a : RoundEnd E)
+pub sent-works : {E : Type 0} (sent received : E → Option (List ℕ)) (named : E → ℕ) (end : E) (kept : Option E) (g0 : Option (List Message)) (t0 : Option (List (List ℕ))) (s0 r0 : Option (List ℕ)) (g g1 : Option (List Message)) (t t1 : Option (List (List ℕ))) (held : List ℕ) (k : ℕ) (m : Message) (a : CycleEnd E)
     → IsWorkAt g0 t0 s0 r0 g t (sent end) (received end) held k → g1 ≡ grown g (m ∷ []) → t1 ≡ t
-    → EndIs (λ e. (received e ≡ received end) × (named e ≡ named end)) kept a → SentTurn sent kept (sent end) (written m) a → Works sent received kept g0 t0 s0 r0 g1 t1 held k a
+    → EndIs (λ e. (received e ≡ received end) × (named e ≡ named end)) kept a → SentCycle sent kept (sent end) (written m) a → Works sent received kept g0 t0 s0 r0 g1 t1 held k a
 sent-works sent received named end kept g0 t0 s0 r0 g g1 t t1 held k m (Going e) h given told same went =
     subst (λ x. IsWorkAt g0 t0 s0 r0 g1 x (sent e) (received e) held k) (sym told) (subst (λ x. IsWorkAt g0 t0 s0 r0 g1 t (sent e) x held k) (sym same.0) (at-sent g0 t0 s0 r0 g g1 t (sent end) (sent e) (received end) held k m h given went))
 sent-works sent received named end kept g0 t0 s0 r0 g g1 t t1 held k m (Shut e) h given told same went =
@@ -76,9 +76,9 @@ end-told g0 t0 s0 r0 g g1 t t1 s s1 r r1 held k h given sent told = record {
   tells = told;
 }
 
-pub told-works : {E : Type 0} (sent received : E → Option (List ℕ)) (named : E → ℕ) (end : E) (kept : Option E) (g0 : Option (List Message)) (t0 : Option (List (List ℕ))) (s0 r0 : Option (List ℕ)) (g g1 : Option (List Message)) (t t1 : Option (List (List ℕ))) (held now : List ℕ) (k j : ℕ) (a : RoundEnd E)
+pub told-works : {E : Type 0} (sent received : E → Option (List ℕ)) (named : E → ℕ) (end : E) (kept : Option E) (g0 : Option (List Message)) (t0 : Option (List (List ℕ))) (s0 r0 : Option (List ℕ)) (g g1 : Option (List Message)) (t t1 : Option (List (List ℕ))) (held now : List ℕ) (k j : ℕ) (a : CycleEnd E)
     → IsWorkAt g0 t0 s0 r0 g t (sent end) (received end) held k → g1 ≡ g
-    → EndIs (λ e. (sent e ≡ sent end) × (named e ≡ named end)) kept a → ToldTurn received kept t0 r0 t1 now j a → Works sent received kept g0 t0 s0 r0 g1 t1 now j a
+    → EndIs (λ e. (sent e ≡ sent end) × (named e ≡ named end)) kept a → ToldCycle received kept t0 r0 t1 now j a → Works sent received kept g0 t0 s0 r0 g1 t1 now j a
 told-works sent received named end kept g0 t0 s0 r0 g g1 t t1 held now k j (Going e) h given same told = record {
   messages = h.messages;
   bytes = h.bytes;

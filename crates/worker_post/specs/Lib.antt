@@ -3,4 +3,4 @@ pub mod Working
 pub mod Works
 pub mod Noting
 pub mod Sessions
-pub mod Turns
+pub mod Cycles

@@ -3,8 +3,8 @@ use Rattle.std.specs.Prelude.{◌≡◌, ℕ, ◌⊎◌, List, [], ◌∷◌, Op
 use Rattle.outside_io.specs.Causes.{Rose}
 use Rattle.worker_desk.specs.Answers.{grown}
 use Rattle.worker_desk.specs.Notices.{Notice, Lost, NoMemory}
-use Rattle.worker_post.specs.declared.post.RoundEnd.{RoundEnd}
-use Rattle.worker_post.specs.declared.post.RoundEnd.TheVariants.{Going, Shut, New, Stop, Memory, Kept}
+use Rattle.worker_post.specs.declared.post.CycleEnd.{CycleEnd}
+use Rattle.worker_post.specs.declared.post.CycleEnd.TheVariants.{Going, Shut, New, Stop, Memory, Kept}
 use Rattle.worker_post.specs.declared.post.telling.TellOutcome.{TellOutcome}
 use Rattle.worker_post.specs.declared.post.telling.TellOutcome.TheVariants.{Rest, Told}
 
@@ -24,10 +24,10 @@ abbrev pub IsNotedOf : {E : Type 0} → (E → ℕ) → Option E → ℕ → ℕ
 IsNotedOf faults last name before old new = (now : ℕ) ×
     (NotesLoss name before now old new ⊎ NotesMemory name before now old new) × IfSome last (λ e. faults e ≡ now)
 
--- One turn over an end with this name, which had failed `before` times. `asked` holds if the desk may have asked the
+-- One cycle over an end with this name, which had failed `before` times. `asked` holds if the desk may have asked the
 -- worker to stop or to begin anew.
 abbrev pub Notes : {E : Type 0} → Type 0 → (E → ℕ) → Option E → ℕ → ℕ → Option (List Notice) → Option (List Notice) →
-    RoundEnd E → Type 0
+    CycleEnd E → Type 0
 Notes asked faults kept name before old new (Going e) = (faults e ≡ before) × (new ≡ old)
 Notes asked faults kept name before old new (Shut e) = NotesLoss name before (faults e) old new
 Notes asked faults kept name before old new (New e other) = asked × (faults e ≡ before) × (new ≡ old)

@@ -8,7 +8,7 @@ ghost use Rattle.outside_io.specs.Causes.{Rose};
 ghost use Rattle.worker_post.specs.Working.{IsFollowing};
 ghost use Rattle.worker_post.specs.Noting.{Notes};
 ghost use Rattle.worker_post.specs.Sessions.{IsNew};
-ghost use Rattle.worker_post.specs.Turns.{EndIs, GoesOnWith, OnNew, SentTurn, Works};
+ghost use Rattle.worker_post.specs.Cycles.{EndIs, GoesOnWith, OnNew, SentCycle, Works};
 ghost use Rattle.worker_post.specs.Works.{IsWorkAt};
 
 mod sessions;
@@ -21,9 +21,9 @@ use openflow_wire::Message;
 use std::alloc::Global;
 use worker_desk::{Desk, Gate, Given, Told};
 
-/// How a round of a worker ended.
+/// How a cycle of a worker ended.
 #[derive(Drop)]
-pub enum RoundEnd<E> {
+pub enum CycleEnd<E> {
     /// It goes on.
     Going(E),
     /// The end is not used any more; the worker waits for a new one, or to stop.
@@ -55,8 +55,8 @@ pub struct Post<'a, D: Desk, G: Gate> {
 }
 
 impl<'a, D: Desk, G: Gate> Post<'a, D, G> {
-    // One turn: what is given is sent, or the message is received that is on its way.
-    fn turn(&self, seat: &mut D::Seat, end: D::End, inbox: &mut Inbox) -> RoundEnd<D::End>
+    // One cycle: what is given is sent, or the message is received that is on its way.
+    fn cycle(&self, seat: &mut D::Seat, end: D::End, inbox: &mut Inbox) -> CycleEnd<D::End>
         requires seat { D.seated seat.old × (D.place_of (D.End.named end) ≡ D.place seat.old) }
         requires following { IsFollowing (D.End.received end) inbox.old.framer inbox.old.told }
         ensures seat { D.seated seat.new × (D.place seat.new ≡ D.place seat.old) }
@@ -75,53 +75,53 @@ impl<'a, D: Desk, G: Gate> Post<'a, D, G> {
         match self.desk.give(seat) {
             Err(_) => {
                 self.desk.close(seat);
-                RoundEnd::Memory(end)
+                CycleEnd::Memory(end)
             }
-            Ok(Given::Stop) => RoundEnd::Stop(end),
-            Ok(Given::NewEnd(new)) => RoundEnd::New { old: end, new },
+            Ok(Given::Stop) => CycleEnd::Stop(end),
+            Ok(Given::NewEnd(new)) => CycleEnd::New { old: end, new },
             Ok(Given::Nothing { made }) => {
                 self.who.after(self.gate, made);
-                RoundEnd::Going(end)
+                CycleEnd::Going(end)
             }
             Ok(Given::Out { message, made }) => {
                 self.who.after(self.gate, made);
-                self.send_turn(seat, end, &message)
+                self.send_cycle(seat, end, &message)
             }
             Ok(Given::Expect { made }) => {
                 self.who.after(self.gate, made);
                 self.who.before_tell(self.gate);
-                self.receive_turn(seat, end, inbox)
+                self.receive_cycle(seat, end, inbox)
             }
         }
     }
 
     // Sends what was given.
-    fn send_turn(&self, seat: &mut D::Seat, end: D::End, message: &Message) -> RoundEnd<D::End>
+    fn send_cycle(&self, seat: &mut D::Seat, end: D::End, message: &Message) -> CycleEnd<D::End>
         requires seat { D.seated seat.old × (D.place_of (D.End.named end) ≡ D.place seat.old) }
         requires fits { Fits message.now }
         ensures seat { D.seated seat.new × (D.place seat.new ≡ D.place seat.old) }
         ensures given { (D.given seat.new ≡ D.given seat.old) × (D.told seat.new ≡ D.told seat.old) }
         ensures received { EndIs (λ e. (D.End.received e ≡ D.End.received end) × (D.End.named e ≡ D.End.named end))
             (D.kept seat.new) result }
-        ensures sent { SentTurn D.End.sent (D.kept seat.new) (D.End.sent end) (written message.now) result }
+        ensures sent { SentCycle D.End.sent (D.kept seat.new) (D.End.sent end) (written message.now) result }
         ensures anew { OnNew (IsNew D.place_of D.End.named D.End.received (D.place seat.old)) result }
         ensures noted { Notes ⊥ D.End.faults (D.kept seat.new) (D.End.named end) (D.End.faults end)
             (D.notices seat.old) (D.notices seat.new) result }
     {
         let mut end = end;
         match send_message(self.alloc, &mut end, message) {
-            Transfer::Well => RoundEnd::Going(end),
+            Transfer::Well => CycleEnd::Going(end),
             Transfer::Failed => self.lose(seat, end),
-            Transfer::Closed => RoundEnd::Shut(end),
+            Transfer::Closed => CycleEnd::Shut(end),
             Transfer::Memory => {
                 self.desk.close(seat);
-                RoundEnd::Memory(end)
+                CycleEnd::Memory(end)
             }
         }
     }
 
     // The end failed: the worker tells it.
-    fn lose(&self, seat: &mut D::Seat, end: D::End) -> RoundEnd<D::End>
+    fn lose(&self, seat: &mut D::Seat, end: D::End) -> CycleEnd<D::End>
         requires seat { D.seated seat.old × (D.place_of (D.End.named end) ≡ D.place seat.old) }
         requires failed { 0 < D.End.faults end }
         ensures seat { D.seated seat.new × (D.place seat.new ≡ D.place seat.old) }
@@ -133,11 +133,11 @@ impl<'a, D: Desk, G: Gate> Post<'a, D, G> {
             → Notes ⊥ D.End.faults (D.kept seat.new) name before (D.notices seat.old) (D.notices seat.new) result }
     {
         match self.desk.lost(seat, end) {
-            Told::Back { end, made: _ } => RoundEnd::Shut(end),
-            Told::Kept => RoundEnd::Kept,
+            Told::Back { end, made: _ } => CycleEnd::Shut(end),
+            Told::Kept => CycleEnd::Kept,
             Told::Memory(end) => {
                 self.desk.close(seat);
-                RoundEnd::Memory(end)
+                CycleEnd::Memory(end)
             }
         }
     }

@@ -65,12 +65,12 @@ all-can : (w : WorldValue) (place k n : ℕ) → ((j : ℕ) → j < k + n → Is
 all-can w place k zero h = refl
 all-can w place k (suc n) h = inl (h k (omega arith), applies_from place (k + 1) n, refl, all-can w place (k + 1) n (λ j l. h j (omega (arith, l))))
 
-applies-can : (w : WorldValue) (place j : ℕ) (o : Option WiredSwitch) → slice_get w.fleet.ends place ≡ o → j < pending_at o → IsEnabled w (event.Switch (of_switch.Apply place j))
+applies-can : (w : WorldValue) (place j : ℕ) (o : Option WiredSwitch) → slice_get w.fleet.wired place ≡ o → j < pending_at o → IsEnabled w (event.Switch (of_switch.Apply place j))
 applies-can w place j None e l = absurd (omega (arith, l))
 applies-can w place j (Some x) e l = record { end_ = x; here = e; is = l }
 
 abbrev pub pending : WorldValue → ℕ → ℕ
-pending w place = pending_at (slice_get w.fleet.ends place)
+pending w place = pending_at (slice_get w.fleet.wired place)
 
 pub pending-can : (w : WorldValue) (place : ℕ) → AreEnabled w (applies_from place 0 (pending w place)) (applies_from place 0 (pending w place))
 pending-can w place = all-can w place 0 (pending w place) (λ j l. applies-can w place j _ refl (omega (arith, l)))

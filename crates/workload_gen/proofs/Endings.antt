@@ -75,7 +75,7 @@ tried-hops lines k (suc n) = (tt, tried-hops lines (k + 1) n)
 tried-switches : (lines : List PacketLine) (w : WorldValue) (s n : ℕ) → AreTried lines (tried_from w s n)
 tried-switches lines w s zero = tt
 tried-switches lines w s (suc n) = tried-both lines (tried_at w s) (tried_from w (s + 1) n)
-    (tt, (tt, tried-both lines (applies_from s 0 (pending_at (slice_get w.fleet.ends s))) (event.Switch (of_switch.Take s) ∷ event.Controller (of_controller.Send s) ∷ []) (tried-applies lines s 0 (pending_at (slice_get w.fleet.ends s))) (tt, (tt, tt))))
+    (tt, (tt, tried-both lines (applies_from s 0 (pending_at (slice_get w.fleet.wired s))) (event.Switch (of_switch.Take s) ∷ event.Controller (of_controller.Send s) ∷ []) (tried-applies lines s 0 (pending_at (slice_get w.fleet.wired s))) (tt, (tt, tt))))
     (tried-switches lines w (s + 1) n)
 
 tried-arrival : (lines : List PacketLine) → AreTried lines (arrival lines)
@@ -235,9 +235,9 @@ switch-in w s zero j e l m = absurd (omega (arith, l))
 switch-in w s (suc n) zero e l m = in-left (tried_at w s) (tried_from w (s + 1) n) e (subst (λ (i : ℕ). IsIn (tried_at w i) e) (omega arith) m)
 switch-in w s (suc n) (suc j) e l m = in-right (tried_at w s) (tried_from w (s + 1) n) e (switch-in w (s + 1) n j e (omega (arith, l)) (subst (λ (i : ℕ). IsIn (tried_at w i) e) (omega arith) m))
 
-module _ (lines : List PacketLine) (w : WorldValue) (long : length w.fleet.ends ≡ length w.topology.switches) (peers : length w.fleet.ends ≡ length w.fleet.control.peers) (present : ArePresent w.fleet.control.peers) (over : NoneIs w (tried lines w)) where
+module _ (lines : List PacketLine) (w : WorldValue) (long : length w.fleet.wired ≡ length w.topology.switches) (peers : length w.fleet.wired ≡ length w.fleet.control.peers) (present : ArePresent w.fleet.control.peers) (over : NoneIs w (tried lines w)) where
   -- an event of a switch
-  at-switch : (s : ℕ) (e : Event) → s < length w.fleet.ends → IsIn (tried_at w s) e → ¬ (IsEnabled w e)
+  at-switch : (s : ℕ) (e : Event) → s < length w.fleet.wired → IsIn (tried_at w s) e → ¬ (IsEnabled w e)
   at-switch s e l m = none-of w (tried lines w) e over
       (in-left (tried_from w 0 (length w.topology.switches)) (hops_from 0 (length w.flights) ++ tried_last lines w) e
       (switch-in w 0 (length w.topology.switches) s e (omega (arith, l, long)) (subst (λ (i : ℕ). IsIn (tried_at w i) e) (omega arith) m)))
@@ -246,8 +246,8 @@ module _ (lines : List PacketLine) (w : WorldValue) (long : length w.fleet.ends 
   last-of e m = none-of w (tried lines w) e over
       (in-right (tried_from w 0 (length w.topology.switches)) (hops_from 0 (length w.flights) ++ tried_last lines w) e (in-right (hops_from 0 (length w.flights)) (tried_last lines w) e m))
 
-  of-end : (s : ℕ) (Is : WiredSwitch → Type 0) → Stands s w Is → s < length w.fleet.ends
-  of-end s Is h = get-within s w.fleet.ends h.end_ h.here
+  of-end : (s : ℕ) (Is : WiredSwitch → Type 0) → Stands s w Is → s < length w.fleet.wired
+  of-end s Is h = get-within s w.fleet.wired h.end_ h.here
 
   pub still : IsStill w
   still = record {
@@ -266,15 +266,15 @@ module _ (lines : List PacketLine) (w : WorldValue) (long : length w.fleet.ends 
   }
     where
       behind : (s : ℕ) (e : Event) → IsIn (event.Switch (of_switch.Take s) ∷ event.Controller (of_controller.Send s) ∷ []) e → IsIn (tried_at w s) e
-      behind s e m = inr (inr (in-right (applies_from s 0 (pending_at (slice_get w.fleet.ends s))) (event.Switch (of_switch.Take s) ∷ event.Controller (of_controller.Send s) ∷ []) e m))
+      behind s e m = inr (inr (in-right (applies_from s 0 (pending_at (slice_get w.fleet.wired s))) (event.Switch (of_switch.Take s) ∷ event.Controller (of_controller.Send s) ∷ []) e m))
 
-      applies : (s k : ℕ) → Stands s w (λ e. k < length e.switch.pending) → IsIn (applies_from s 0 (pending_at (slice_get w.fleet.ends s)) ++ event.Switch (of_switch.Take s) ∷ event.Controller (of_controller.Send s) ∷ []) (event.Switch (of_switch.Apply s k))
+      applies : (s k : ℕ) → Stands s w (λ e. k < length e.switch.pending) → IsIn (applies_from s 0 (pending_at (slice_get w.fleet.wired s)) ++ event.Switch (of_switch.Take s) ∷ event.Controller (of_controller.Send s) ∷ []) (event.Switch (of_switch.Apply s k))
       applies s k h =
-          in-left (applies_from s 0 (pending_at (slice_get w.fleet.ends s))) (event.Switch (of_switch.Take s) ∷ event.Controller (of_controller.Send s) ∷ []) (event.Switch (of_switch.Apply s k))
+          in-left (applies_from s 0 (pending_at (slice_get w.fleet.wired s))) (event.Switch (of_switch.Take s) ∷ event.Controller (of_controller.Send s) ∷ []) (event.Switch (of_switch.Apply s k))
           (subst (λ (o : Option WiredSwitch). IsIn (applies_from s 0 (pending_at o)) (event.Switch (of_switch.Apply s k))) (sym h.here)
           (subst (λ (i : ℕ). IsIn (applies_from s 0 (length h.end_.switch.pending)) (event.Switch (of_switch.Apply s i))) (omega arith) (apply-in s 0 (length h.end_.switch.pending) k h.is)))
 
-      sends : (s : ℕ) → IsEnabled w (event.Controller (of_controller.Send s)) → s < length w.fleet.ends
+      sends : (s : ℕ) → IsEnabled w (event.Controller (of_controller.Send s)) → s < length w.fleet.wired
       sends s h = omega (arith, peers, get-within s w.fleet.control.peers h.peer h.here)
 
       reported : (stamp : ℕ) → drain_refusal w.fleet.control stamp ≡ None → IsIn (report (due w.fleet.control)) (event.Controller (of_controller.Drained stamp))
@@ -315,13 +315,13 @@ begins n versions kept pols = record {
 
 -- ---- the end
 
-as-long : (w : WorldValue) → IsKept w → length w.fleet.ends ≡ length w.topology.switches
+as-long : (w : WorldValue) → IsKept w → length w.fleet.wired ≡ length w.topology.switches
 unfolding IsKept
-as-long w k = sym (length-map w.fleet.ends (λ (e : WiredSwitch). e.switch.sw)) ∙ ap (λ (ns : List ℕ). length ns) k.places ∙ length-map w.topology.switches (λ (s : DeclaredSwitch). s.sw)
+as-long w k = sym (length-map w.fleet.wired (λ (e : WiredSwitch). e.switch.sw)) ∙ ap (λ (ns : List ℕ). length ns) k.places ∙ length-map w.topology.switches (λ (s : DeclaredSwitch). s.sw)
 
-as-many : (w : WorldValue) → IsKept w → length w.fleet.ends ≡ length w.fleet.control.peers
+as-many : (w : WorldValue) → IsKept w → length w.fleet.wired ≡ length w.fleet.control.peers
 unfolding IsKept
-as-many w k = k.fleet.ends
+as-many w k = k.fleet.wired
 
 no-flight : (s : ℕ) (w : WorldValue) (fs : List Flight) → s ≤ 32 → w.limit ≡ 64 → AreNear s fs → w.flights ≡ fs → ((k : ℕ) → ¬ (IsEnabled w (event.Packet (of_packet.Hop k)))) → fs ≡ []
 no-flight s w [] few limit near e n = refl

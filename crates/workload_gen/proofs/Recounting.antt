@@ -41,7 +41,7 @@ use Rattle.workload_gen.specs.Draws.{AreEnabled, applies_from, arrival, due, lef
 -- a switch, its channels, the coordinator's part of it and the halt are as they were
 pub record SameAt (s : ℕ) (w v : WorldValue) : Type 0 where
   pub halt : v.fleet.control.halt ≡ w.fleet.control.halt
-  pub end_ : slice_get v.fleet.ends s ≡ slice_get w.fleet.ends s
+  pub end_ : slice_get v.fleet.wired s ≡ slice_get w.fleet.wired s
   pub peer : slice_get v.fleet.control.peers s ≡ slice_get w.fleet.control.peers s
 
 turned : (s : ℕ) (w v : WorldValue) → SameAt s w v → SameAt s v w
@@ -84,7 +84,7 @@ tried-moved s w v a =
       (
         (λ h. stands-same s w v _ a h),
         (λ h. stands-same s v w _ b h),
-        moved-both w v (applies_from s 0 (pending_at (slice_get w.fleet.ends s))) (event.Switch (of_switch.Take s) ∷ event.Controller (of_controller.Send s) ∷ []) (applies-moved s 0 (pending_at (slice_get w.fleet.ends s)) w v a) (
+        moved-both w v (applies_from s 0 (pending_at (slice_get w.fleet.wired s))) (event.Switch (of_switch.Take s) ∷ event.Controller (of_controller.Send s) ∷ []) (applies-moved s 0 (pending_at (slice_get w.fleet.wired s)) w v a) (
           (λ h. stands-same s w v _ a h),
           (λ h. stands-same s v w _ b h),
           (
@@ -110,7 +110,7 @@ kept-count s n w v a c = record {
 pub same-counts : (w v : WorldValue) (counts : List ℕ) → v.topology ≡ w.topology → v.fleet ≡ w.fleet → AreCounts w counts → AreCounts v counts
 same-counts w v counts t f c = record {
   all = c.all ∙ ap (λ (x : Layout). length x.switches) (sym t);
-  each = λ k n e. kept-count k n w v (record { halt = ap (λ (x : Fleet). x.control.halt) f; end_ = ap (λ (x : Fleet). slice_get x.ends k) f; peer = ap (λ (x : Fleet). slice_get x.control.peers k) f }) (c.each k n e);
+  each = λ k n e. kept-count k n w v (record { halt = ap (λ (x : Fleet). x.control.halt) f; end_ = ap (λ (x : Fleet). slice_get x.wired k) f; peer = ap (λ (x : Fleet). slice_get x.control.peers k) f }) (c.each k n e);
 }
 
 -- all were counted anew
@@ -131,11 +131,11 @@ one-count w v p counts new t same l here others c = record {
 -- ---- events
 
 -- a switch and its channels have changed, and of the coordinator at most its part of it
-changed-end : (w v : WorldValue) (p : ℕ) (d : Control) (old new : WiredSwitch) → v.fleet ≡ record { control = d; ends = slice_set w.fleet.ends p new } → slice_get w.fleet.ends p ≡ Some old → d.halt ≡ w.fleet.control.halt →
+changed-end : (w v : WorldValue) (p : ℕ) (d : Control) (old new : WiredSwitch) → v.fleet ≡ record { control = d; wired = slice_set w.fleet.wired p new } → slice_get w.fleet.wired p ≡ Some old → d.halt ≡ w.fleet.control.halt →
     ((s : ℕ) → s ≢ p → slice_get d.peers s ≡ slice_get w.fleet.control.peers s) → (s : ℕ) → s ≢ p → SameAt s w v
 changed-end w v p d old new e here halt peers s n = record {
   halt = ap (λ (x : Fleet). x.control.halt) e ∙ halt;
-  end_ = ap (λ (x : Fleet). slice_get x.ends s) e ∙ (put-set p w.fleet.ends old new here).others s n;
+  end_ = ap (λ (x : Fleet). slice_get x.wired s) e ∙ (put-set p w.fleet.wired old new here).others s n;
   peer = ap (λ (x : Fleet). slice_get x.control.peers s) e ∙ peers s n;
 }
 
@@ -237,7 +237,7 @@ pub heard-others : (w v : WorldValue) (p : ℕ) (ph : Phase) → Step w (event.C
 heard-others w v p ph h was is batch runs =
     let t = h.step in
     let c = w.fleet.control in
-    let now : v.fleet ≡ record { control = t.control; ends = slice_set w.fleet.ends p (record t.old { back = t.rest }) } = ap (λ (x : WorldValue). x.fleet) h.now ∙ t.now in
+    let now : v.fleet ≡ record { control = t.control; wired = slice_set w.fleet.wired p (record t.old { back = t.rest }) } = ap (λ (x : WorldValue). x.fleet) h.now ∙ t.now in
     let control = ap (λ (x : Fleet). x.control) now in
     let peer = met (is_due p c) t.move (told t.message t.heard.peer) in
     let middle = record c { peers = slice_set c.peers p peer } in

@@ -167,7 +167,7 @@ false-true : {P : Type 0} → false ≡ true → P
 false-true e = absurd (cc)
 
 -- what is heard does not halt
-hears-on : (c : Setting) (place : ℕ) (f g : Fleet) → HearsAt place f g → IsFleet c f → AreMute f.ends → g.control.halt ≡ None
+hears-on : (c : Setting) (place : ℕ) (f g : Fleet) → HearsAt place f g → IsFleet c f → AreMute f.wired → g.control.halt ≡ None
 hears-on c place f g h i mute = ap (λ (z : Fleet). z.control.halt) h.now ∙ moved-halt place h.heard.peer.sw h.move _ h.control fails owed h.heard.now ∙ h.heard.running
   where
     there : Here f place
@@ -204,7 +204,7 @@ pub record IsFree (w : WorldValue) : Type 0 where
   pub room : HasSpace w
   pub running : w.fleet.control.halt ≡ None
   pub present : ArePresent w.fleet.control.peers
-  pub mute : AreMute w.fleet.ends
+  pub mute : AreMute w.fleet.wired
 
 -- all events but the loss and the return of a session, a stuck copy, and bytes that are not the front of a channel
 abbrev pub IsDrivable : Event → Type 0
@@ -214,24 +214,24 @@ IsDrivable (event.Packet (of_packet.Stuck k)) = ⊥
 IsDrivable (event.Foreign s side got) = ⊥
 IsDrivable _ = Unit {0}
 
-free-in : (Does : Fleet → Fleet → Type 0) (w v : WorldValue) (h : InFleet Does w v) → IsFree w → IsKept v → ArePresent v.fleet.control.peers → h.fleet.control.halt ≡ None → AreMute h.fleet.ends → IsFree v
+free-in : (Does : Fleet → Fleet → Type 0) (w v : WorldValue) (h : InFleet Does w v) → IsFree w → IsKept v → ArePresent v.fleet.control.peers → h.fleet.control.halt ≡ None → AreMute h.fleet.wired → IsFree v
 free-in Does w v h f k present running mute = record {
   kept = k;
   present = present;
   room = subst (λ (x : WorldValue). HasSpace x) (sym h.now) f.room;
   running = ap (λ (x : WorldValue). x.fleet.control.halt) h.now ∙ running;
-  mute = subst (λ (x : WorldValue). AreMute x.fleet.ends) (sym h.now) mute;
+  mute = subst (λ (x : WorldValue). AreMute x.fleet.wired) (sym h.now) mute;
 }
 
-full-of : (v : WorldValue) → IsKept v → (place : ℕ) (e : WiredSwitch) → slice_get v.fleet.ends place ≡ Some e → (m : Message) → IsIn e.back m → IsError m → IsFullError m
+full-of : (v : WorldValue) → IsKept v → (place : ℕ) (e : WiredSwitch) → slice_get v.fleet.wired place ≡ Some e → (m : Message) → IsIn e.back m → IsError m → IsFullError m
 unfolding IsKept
 full-of v k place e here m i r =
     let l = line-at v k place e here in
     full-error (setting v) v.fleet.control.swept v.fleet.control.phase (is_some v.fleet.control.halt) (wire_of v.fleet.control l.0 l.1 e) l.2 m i r
 
 -- a switch has taken a message
-takes-mute : (w v : WorldValue) (s : ℕ) (h : InFleet (TakesAt s) w v) → IsFree w → IsKept v → AreMute h.fleet.ends
-takes-mute w v s h f k = subst (λ (x : Fleet). AreMute x.ends) (sym t.now) (mute-put s w.fleet.ends t.old new t.here quiet f.mute)
+takes-mute : (w v : WorldValue) (s : ℕ) (h : InFleet (TakesAt s) w v) → IsFree w → IsKept v → AreMute h.fleet.wired
+takes-mute w v s h f k = subst (λ (x : Fleet). AreMute x.wired) (sym t.now) (mute-put s w.fleet.wired t.old new t.here quiet f.mute)
   where
     t : TakesAt s w.fleet h.fleet
     t = h.step
@@ -239,8 +239,8 @@ takes-mute w v s h f k = subst (λ (x : Fleet). AreMute x.ends) (sym t.now) (mut
     new : WiredSwitch
     new = record { there = t.rest; back = answered (answer_of t.old.switch.sw t.message) t.old.back; switch = taken t.message t.old.switch }
 
-    there : slice_get v.fleet.ends s ≡ Some new
-    there = ap (λ (x : WorldValue). slice_get x.fleet.ends s) h.now ∙ ap (λ (x : Fleet). slice_get x.ends s) t.now ∙ (put-set s w.fleet.ends t.old new t.here).at
+    there : slice_get v.fleet.wired s ≡ Some new
+    there = ap (λ (x : WorldValue). slice_get x.fleet.wired s) h.now ∙ ap (λ (x : Fleet). slice_get x.wired s) t.now ∙ (put-set s w.fleet.wired t.old new t.here).at
 
     full : (m : Message) → IsIn new.back m → IsError m → IsFullError m
     full = full-of v k s new there
@@ -255,18 +255,18 @@ takes-mute w v s h f k = subst (λ (x : Fleet). AreMute x.ends) (sym t.now) (mut
     quiet : (m : Message) → IsIn new.back m → ¬ (IsError m)
     quiet m i r = by_answer (answer_of t.old.switch.sw t.message) refl m i (full m i) r
 
-heard-on : (w : WorldValue) (p : ℕ) (g : Fleet) → HearsAt p w.fleet g → AreMute w.fleet.ends → IsKept w → g.control.halt ≡ None
+heard-on : (w : WorldValue) (p : ℕ) (g : Fleet) → HearsAt p w.fleet g → AreMute w.fleet.wired → IsKept w → g.control.halt ≡ None
 unfolding IsKept
 heard-on w p g h mute k = hears-on (setting w) p w.fleet g h k.fleet mute
 
 -- so an event that is drawn leaves them, where no flow mod meets a full table
 pub free-step : HasTableRoom → (w : WorldValue) (e : Event) (v : WorldValue) → IsDrivable e → Step w e v → IsFree w → IsFree v
 free-step room w (event.Controller of_controller.Begin) v d s f =
-    free-in _ w v s f (step-keeps w (event.Controller of_controller.Begin) v s f.kept) (present-step w (event.Controller of_controller.Begin) v s refl f.present) (ap (λ (x : Fleet). x.control.halt) s.step.now ∙ f.running) (subst (λ (x : Fleet). AreMute x.ends) (sym s.step.now) f.mute)
+    free-in _ w v s f (step-keeps w (event.Controller of_controller.Begin) v s f.kept) (present-step w (event.Controller of_controller.Begin) v s refl f.present) (ap (λ (x : Fleet). x.control.halt) s.step.now ∙ f.running) (subst (λ (x : Fleet). AreMute x.wired) (sym s.step.now) f.mute)
 free-step room w (event.Controller (of_controller.Send p)) v d s f =
     let t = s.step in
     free-in _ w v s f (step-keeps w (event.Controller (of_controller.Send p)) v s f.kept) (present-step w (event.Controller (of_controller.Send p)) v s refl f.present) (ap (λ (x : Fleet). x.control.halt) t.now ∙ ap (λ (x : Control). x.halt) t.sent.now ∙ f.running)
-    (subst (λ (x : Fleet). AreMute x.ends) (sym t.now) (mute-put p w.fleet.ends t.old (record t.old { there = t.old.there ++ t.message ∷ [] }) t.here (f.mute p t.old t.here) f.mute))
+    (subst (λ (x : Fleet). AreMute x.wired) (sym t.now) (mute-put p w.fleet.wired t.old (record t.old { there = t.old.there ++ t.message ∷ [] }) t.here (f.mute p t.old t.here) f.mute))
 free-step room w (event.Switch (of_switch.Take p)) v d s f =
     let k = step-keeps w (event.Switch (of_switch.Take p)) v s f.kept in
     free-in _ w v s f k (present-step w (event.Switch (of_switch.Take p)) v s refl f.present) (ap (λ (x : Fleet). x.control.halt) s.step.now ∙ f.running) (takes-mute w v p s f k)
@@ -274,12 +274,12 @@ free-step room w (event.Switch (of_switch.Apply p n)) v d s f =
     let t = s.step in
     let back : told_back t.peer.away t.answer t.old.back ≡ t.old.back = ap (λ (o : Option Message). told_back t.peer.away o t.old.back) (room w p n v f.kept f.room s) ∙ untold t.peer.away t.old.back in
     free-in _ w v s f (step-keeps w (event.Switch (of_switch.Apply p n)) v s f.kept) (present-step w (event.Switch (of_switch.Apply p n)) v s refl f.present) (ap (λ (x : Fleet). x.control.halt) t.now ∙ f.running)
-    (subst (λ (x : Fleet). AreMute x.ends) (sym t.now) (mute-put p w.fleet.ends t.old (record t.old { back = told_back t.peer.away t.answer t.old.back; switch = t.switch }) t.here
+    (subst (λ (x : Fleet). AreMute x.wired) (sym t.now) (mute-put p w.fleet.wired t.old (record t.old { back = told_back t.peer.away t.answer t.old.back; switch = t.switch }) t.here
     (λ m i. f.mute p t.old t.here m (subst (λ (ms : List Message). IsIn ms m) back i)) f.mute))
 free-step room w (event.Switch (of_switch.Reply p)) v d s f =
     let t = s.step in
     free-in _ w v s f (step-keeps w (event.Switch (of_switch.Reply p)) v s f.kept) (present-step w (event.Switch (of_switch.Reply p)) v s refl f.present) (ap (λ (x : Fleet). x.control.halt) t.now ∙ f.running)
-    (subst (λ (x : Fleet). AreMute x.ends) (sym t.now) (mute-put p w.fleet.ends t.old (record t.old { back = t.old.back ++ t.answer ∷ []; switch = t.switch }) t.here
+    (subst (λ (x : Fleet). AreMute x.wired) (sym t.now) (mute-put p w.fleet.wired t.old (record t.old { back = t.old.back ++ t.answer ∷ []; switch = t.switch }) t.here
     (λ m i r. elim (in-either t.old.back (t.answer ∷ []) m i) [
       | inl j ↦ f.mute p t.old t.here m j r
       | inr j ↦ no-error (to.BarrierReply t.step.xid) m (t.answer ∷ []) (ap (λ (y : Message). y ∷ []) t.step.reply) (λ y. y) j r
@@ -287,24 +287,24 @@ free-step room w (event.Switch (of_switch.Reply p)) v d s f =
 free-step room w (event.Controller (of_controller.Heard p)) v d s f =
     let t = s.step in
     free-in _ w v s f (step-keeps w (event.Controller (of_controller.Heard p)) v s f.kept) (present-step w (event.Controller (of_controller.Heard p)) v s refl f.present) (heard-on w p s.fleet t f.mute f.kept)
-    (subst (λ (x : Fleet). AreMute x.ends) (sym t.now) (mute-put p w.fleet.ends t.old (record t.old { back = t.rest }) t.here
+    (subst (λ (x : Fleet). AreMute x.wired) (sym t.now) (mute-put p w.fleet.wired t.old (record t.old { back = t.rest }) t.here
     (λ m i. f.mute p t.old t.here m (subst (λ (ms : List Message). IsIn ms m) (sym t.front) (inr i))) f.mute))
 free-step room w (event.Packet (of_packet.Arrive pk tag)) v d s f = record {
   kept = step-keeps w (event.Packet (of_packet.Arrive pk tag)) v s f.kept;
   present = present-step w (event.Packet (of_packet.Arrive pk tag)) v s refl f.present;
   room = subst (λ (x : WorldValue). HasSpace x) (sym s.now) f.room;
   running = ap (λ (x : WorldValue). x.fleet.control.halt) s.now ∙ f.running;
-  mute = subst (λ (x : WorldValue). AreMute x.fleet.ends) (sym s.now) f.mute;
+  mute = subst (λ (x : WorldValue). AreMute x.fleet.wired) (sym s.now) f.mute;
 }
 free-step room w (event.Packet (of_packet.Hop n)) v d s f = record {
   kept = step-keeps w (event.Packet (of_packet.Hop n)) v s f.kept;
   present = present-step w (event.Packet (of_packet.Hop n)) v s refl f.present;
   room = subst (λ (x : WorldValue). HasSpace x) (sym s.now) f.room;
   running = ap (λ (x : WorldValue). x.fleet.control.halt) s.now ∙ f.running;
-  mute = subst (λ (x : WorldValue). AreMute x.fleet.ends) (sym s.now) f.mute;
+  mute = subst (λ (x : WorldValue). AreMute x.fleet.wired) (sym s.now) f.mute;
 }
 free-step room w (event.Controller (of_controller.Drained stamp)) v d s f =
-    free-in _ w v s.step f (step-keeps w (event.Controller (of_controller.Drained stamp)) v s f.kept) (present-step w (event.Controller (of_controller.Drained stamp)) v s refl f.present) (ap (λ (x : Fleet). x.control.halt) s.step.step.now ∙ f.running) (subst (λ (x : Fleet). AreMute x.ends) (sym s.step.step.now) f.mute)
+    free-in _ w v s.step f (step-keeps w (event.Controller (of_controller.Drained stamp)) v s f.kept) (present-step w (event.Controller (of_controller.Drained stamp)) v s refl f.present) (ap (λ (x : Fleet). x.control.halt) s.step.step.now ∙ f.running) (subst (λ (x : Fleet). AreMute x.wired) (sym s.step.step.now) f.mute)
 free-step room w (event.Controller (of_controller.Lost p)) v d s f = absurd d
 free-step room w (event.Controller (of_controller.Rejoin p)) v d s f = absurd d
 free-step room w (event.Packet (of_packet.Stuck n)) v d s f = absurd d

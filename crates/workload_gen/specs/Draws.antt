@@ -33,7 +33,7 @@ pending_at (Some e) = length e.switch.pending
 -- is sent to it
 abbrev pub tried_at : WorldValue → ℕ → List Event
 tried_at w s = event.Controller (of_controller.Heard s) ∷ event.Switch (of_switch.Reply s) ∷
-    (applies_from s 0 (pending_at (slice_get w.fleet.ends s)) ++ event.Switch (of_switch.Take s) ∷ event.Controller
+    (applies_from s 0 (pending_at (slice_get w.fleet.wired s)) ++ event.Switch (of_switch.Take s) ∷ event.Controller
     (of_controller.Send s) ∷ [])
 
 -- at n switches from a place on

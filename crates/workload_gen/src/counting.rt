@@ -26,7 +26,7 @@ pub(crate) fn count_at(world: &World, place: usize) -> u64
 
 /// How many flow mods are pending at a switch.
 pub(crate) fn pending_at(world: &World, place: usize) -> u64
-    ensures { result ≡ pending_at (slice_get world.now.fleet.ends place) }
+    ensures { result ≡ pending_at (slice_get world.now.fleet.wired place) }
 {
     if place >= world.switch_count() {
         return 0;

@@ -16,7 +16,7 @@ use crate::words::next_word;
 use document_text::PacketLine;
 use rand_pcg::Lcg64Xsh32;
 use std::alloc::{AllocError, Global};
-use world_core::{Event, Events, PacketEvent, StepFault, World};
+use world_core::{Event, Events, PacketEvent, World};
 
 /// Lets these packets come in and does the updates of a world by drawn events, until none can happen, and gives the
 /// events. In each turn one word is drawn, and of the events that can happen the one with the number that the word
@@ -115,7 +115,6 @@ fn do_next(
             events.push_reserved(event);
             Ok(())
         }
-        Err(StepFault::NotEnabled) => Err(AllocError),
-        Err(StepFault::Memory) => Err(AllocError),
+        Err(_) => Err(AllocError),
     }
 }

@@ -15,7 +15,7 @@ use Rattle.update_coordinator.specs.Controls.{Control}
 use Rattle.update_coordinator.specs.Starts as starts
 use Rattle.update_laws.specs.Traffic.{Arrived}
 use Rattle.update_laws.specs.Settings.{AreVersions, setting_of}
-use Rattle.update_laws.specs.Fleets.{WiredSwitch, IsMade, IsNewEnd}
+use Rattle.update_laws.specs.Fleets.{WiredSwitch, IsNewFleet, IsNewEnd}
 use Rattle.update_laws.proofs.Beginnings.{made-start}
 use Rattle.update_laws.proofs.Landing.{start-traffic}
 use Rattle.update_laws.proofs.Parting.{start-apart}
@@ -71,20 +71,20 @@ start-kept t vs settings k v l = record {
   apart = start-apart;
 }
   where
-    made : IsMade settings.capacity settings.rejoins settings.overlap vs (numbers_of t.switches) (initial_world t vs settings).fleet
-    made = record { control = refl; count = length-map (numbers_of t.switches) (new_end settings.capacity); some = some-switch t k; ends = λ n sw e. new-end settings.capacity (numbers_of t.switches) n sw e }
+    made : IsNewFleet settings.capacity settings.rejoins settings.overlap vs (numbers_of t.switches) (initial_world t vs settings).fleet
+    made = record { control = refl; count = length-map (numbers_of t.switches) (new_end settings.capacity); some = some-switch t k; wired = λ n sw e. new-end settings.capacity (numbers_of t.switches) n sw e }
 
 -- the world that is made of its parts
 pub made-of : (t : Layout) (vs : List Version) (settings : Settings) (ps : List Pol) (d : Control) (es : List WiredSwitch) (rows : List Rows) (ns ms : List ℕ) (fs : List Flight) (as' : List Arrived) →
     ps ≡ pols_of vs → d ≡ starts.initial_control rows ns settings.rejoins settings.overlap → rows ≡ rows_of vs → ns ≡ numbers_of t.switches → es ≡ map (new_end settings.capacity) ms → ms ≡ numbers_of t.switches → fs ≡ [] → as' ≡ [] →
-    record { topology = t; versions = paired ps d.versions; limit = settings.hops; capacity = settings.capacity; overlap = settings.overlap; fleet = record { control = d; ends = es }; flights = fs; arrivals = as' } ≡ initial_world t vs settings
+    record { topology = t; versions = paired ps d.versions; limit = settings.hops; capacity = settings.capacity; overlap = settings.overlap; fleet = record { control = d; wired = es }; flights = fs; arrivals = as' } ≡ initial_world t vs settings
 made-of t vs settings ps d es rows ns ms fs as' p a b c e f g h = λ i. record {
   topology = t;
   versions = ((λ j. paired (p j) (ap (λ (x : Control). x.versions) a j)) ∙ ap (paired (pols_of vs)) b ∙ paired-parts vs) i;
   limit = settings.hops;
   capacity = settings.capacity;
   overlap = settings.overlap;
-  fleet = record { control = (a ∙ (λ j. starts.initial_control (b j) (c j) settings.rejoins settings.overlap)) i; ends = (e ∙ ap (map (new_end settings.capacity)) f) i };
+  fleet = record { control = (a ∙ (λ j. starts.initial_control (b j) (c j) settings.rejoins settings.overlap)) i; wired = (e ∙ ap (map (new_end settings.capacity)) f) i };
   flights = g i;
   arrivals = h i;
 }

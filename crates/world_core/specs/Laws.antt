@@ -134,5 +134,5 @@ SwitchesFollow = (w : WorldValue) → IsKept w → IsFleet (setting w) w.fleet
 
 -- No two rows of a table tie, whatever packet and tag come in.
 abbrev pub NoRowsTie : Type 0
-NoRowsTie = (w : WorldValue) (place : ℕ) (e : WiredSwitch) → IsKept w → slice_get w.fleet.ends place ≡ Some e →
+NoRowsTie = (w : WorldValue) (place : ℕ) (e : WiredSwitch) → IsKept w → slice_get w.fleet.wired place ≡ Some e →
     (i : Incoming) → NoTie e.switch.table.rows i

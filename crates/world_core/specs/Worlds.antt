@@ -8,6 +8,7 @@ use Rattle.topology_model.specs.Wired.{IsTopology}
 use Rattle.topology_model.specs.declared.line.DeclaredSwitch.{DeclaredSwitch}
 use Rattle.policy_rows.specs.declared.version.Version.{Version}
 use Rattle.packet_tracer.specs.declared.flight.Flight.{Flight}
+use Rattle.update_coordinator.specs.Controls.{Control}
 use Rattle.update_coordinator.specs.Starts as starts
 use Rattle.update_laws.specs.Updates.{Setting}
 use Rattle.update_laws.specs.Settings.{AreVersions, setting_of}
@@ -46,6 +47,20 @@ paired [] rows = []
 paired (p ∷ ps) [] = []
 paired (p ∷ ps) (r ∷ rs) = record { pol = p; rows = r } ∷ paired ps rs
 
+-- what clauses see of a world's fields: of each policy its rows are the coordinator's
+abbrev pub world_of : Layout → List Pol → ℕ → ℕ → Option ℕ → Control → List WiredSwitch → List Flight → List Arrived
+    → WorldValue
+world_of t policies limit capacity overlap control wired flights arrivals = record {
+  topology = t;
+  versions = paired policies control.versions;
+  limit = limit;
+  capacity = capacity;
+  overlap = overlap;
+  fleet = record { control = control; wired = wired };
+  flights = flights;
+  arrivals = arrivals;
+}
+
 -- the world before anything has happened
 abbrev pub initial_world : Layout → List Version → Settings → WorldValue
 initial_world t versions settings = record {
@@ -56,7 +71,7 @@ initial_world t versions settings = record {
   overlap = settings.overlap;
   fleet = record {
     control = starts.initial_control (rows_of versions) (numbers_of t.switches) settings.rejoins settings.overlap;
-    ends = map (new_end settings.capacity) (numbers_of t.switches);
+    wired = map (new_end settings.capacity) (numbers_of t.switches);
   };
   flights = [];
   arrivals = [];
@@ -64,7 +79,7 @@ initial_world t versions settings = record {
 
 -- no two rows of a table have one pattern and priority
 abbrev pub AreDistinct : List WiredSwitch → Type 0
-AreDistinct ends = (place : ℕ) (e : WiredSwitch) → slice_get ends place ≡ Some e → Distinct e.switch.table.rows
+AreDistinct wired = (place : ℕ) (e : WiredSwitch) → slice_get wired place ≡ Some e → Distinct e.switch.table.rows
 
 -- What every world keeps: its versions stand for their policies, and the coordinator has their rows; the switches are
 -- those of the topology, no two rows of a table have one key, each switch is where the phase has it, each packet is
@@ -73,9 +88,9 @@ pub record Keeps (w : WorldValue) : Type 0 where
   pub topology : IsTopology w.topology
   pub versions : AreVersions w.topology w.versions w.overlap
   pub limit : 1 ≤ w.limit
-  pub places : map (λ (e : WiredSwitch). e.switch.sw) w.fleet.ends ≡ numbers_of w.topology.switches
+  pub places : map (λ (e : WiredSwitch). e.switch.sw) w.fleet.wired ≡ numbers_of w.topology.switches
   pub rows : w.fleet.control.versions ≡ rows_of w.versions
-  pub distinct : AreDistinct w.fleet.ends
+  pub distinct : AreDistinct w.fleet.wired
   pub fleet : IsFleet (setting w) w.fleet
   pub traffic : IsTraffic w.topology (setting w) w.fleet.control.swept w.fleet.control.phase w.flights w.arrivals
   pub apart : AreApart w.flights w.arrivals

@@ -17,24 +17,24 @@ use Rattle.world_journal.specs.Arriving.{line_of, lines_of, is_arrival}
 
 -- ---- the number of switches
 
-same-count : (w v : WorldValue) (f : Fleet) → v ≡ record w { fleet = f } → length f.ends ≡ length w.fleet.ends → switches v ≡ switches w
+same-count : (w v : WorldValue) (f : Fleet) → v ≡ record w { fleet = f } → length f.wired ≡ length w.fleet.wired → switches v ≡ switches w
 same-count w v f now same = ap switches now ∙ same
 
 pub step-count : (w : WorldValue) (e : Event) (v : WorldValue) → Step w e v → switches v ≡ switches w
-step-count w (event.Controller of_controller.Begin) v s = same-count w v s.fleet s.now (ap (λ (f : Fleet). length f.ends) s.step.now)
-step-count w (event.Controller (of_controller.Send p)) v s = same-count w v s.fleet s.now (ap (λ (f : Fleet). length f.ends) s.step.now ∙ length-set w.fleet.ends p _)
-step-count w (event.Switch (of_switch.Take p)) v s = same-count w v s.fleet s.now (ap (λ (f : Fleet). length f.ends) s.step.now ∙ length-set w.fleet.ends p _)
-step-count w (event.Switch (of_switch.Apply p k)) v s = same-count w v s.fleet s.now (ap (λ (f : Fleet). length f.ends) s.step.now ∙ length-set w.fleet.ends p _)
-step-count w (event.Switch (of_switch.Reply p)) v s = same-count w v s.fleet s.now (ap (λ (f : Fleet). length f.ends) s.step.now ∙ length-set w.fleet.ends p _)
-step-count w (event.Controller (of_controller.Heard p)) v s = same-count w v s.fleet s.now (ap (λ (f : Fleet). length f.ends) s.step.now ∙ length-set w.fleet.ends p _)
+step-count w (event.Controller of_controller.Begin) v s = same-count w v s.fleet s.now (ap (λ (f : Fleet). length f.wired) s.step.now)
+step-count w (event.Controller (of_controller.Send p)) v s = same-count w v s.fleet s.now (ap (λ (f : Fleet). length f.wired) s.step.now ∙ length-set w.fleet.wired p _)
+step-count w (event.Switch (of_switch.Take p)) v s = same-count w v s.fleet s.now (ap (λ (f : Fleet). length f.wired) s.step.now ∙ length-set w.fleet.wired p _)
+step-count w (event.Switch (of_switch.Apply p k)) v s = same-count w v s.fleet s.now (ap (λ (f : Fleet). length f.wired) s.step.now ∙ length-set w.fleet.wired p _)
+step-count w (event.Switch (of_switch.Reply p)) v s = same-count w v s.fleet s.now (ap (λ (f : Fleet). length f.wired) s.step.now ∙ length-set w.fleet.wired p _)
+step-count w (event.Controller (of_controller.Heard p)) v s = same-count w v s.fleet s.now (ap (λ (f : Fleet). length f.wired) s.step.now ∙ length-set w.fleet.wired p _)
 step-count w (event.Packet (of_packet.Arrive pk tag)) v s = ap switches s.now
 step-count w (event.Packet (of_packet.Hop k)) v s = ap switches s.now
-step-count w (event.Controller (of_controller.Drained stamp)) v s = same-count w v s.step.fleet s.step.now (ap (λ (f : Fleet). length f.ends) s.step.step.now)
+step-count w (event.Controller (of_controller.Drained stamp)) v s = same-count w v s.step.fleet s.step.now (ap (λ (f : Fleet). length f.wired) s.step.step.now)
 step-count w (event.Controller (of_controller.Lost p)) v s = elim s.step [
-  | inl t ↦ same-count w v s.fleet s.now (ap (λ (f : Fleet). length f.ends) t.now ∙ length-set w.fleet.ends p _)
-  | inr t ↦ same-count w v s.fleet s.now (ap (λ (f : Fleet). length f.ends) t.now)
+  | inl t ↦ same-count w v s.fleet s.now (ap (λ (f : Fleet). length f.wired) t.now ∙ length-set w.fleet.wired p _)
+  | inr t ↦ same-count w v s.fleet s.now (ap (λ (f : Fleet). length f.wired) t.now)
 ]
-step-count w (event.Controller (of_controller.Rejoin p)) v s = same-count w v s.fleet s.now (ap (λ (f : Fleet). length f.ends) s.step.now ∙ length-set w.fleet.ends p _)
+step-count w (event.Controller (of_controller.Rejoin p)) v s = same-count w v s.fleet s.now (ap (λ (f : Fleet). length f.wired) s.step.now ∙ length-set w.fleet.wired p _)
 step-count w (event.Packet (of_packet.Stuck k)) v s = ap switches s.now
 step-count w (event.Foreign p side got) v s = ap switches s.now
 

@@ -22,7 +22,7 @@ events_of journal = map (λ (e : Entry). e.event) journal
 
 -- how many switches a world has
 abbrev pub switches : WorldValue → ℕ
-switches w = length w.fleet.ends
+switches w = length w.fleet.wired
 
 -- ---- sessions
 

@@ -22,8 +22,8 @@ pub record SentIsPut : Type 0 where
 -- Where a switch has not begun, its HELLO waits, and is handed out first.
 pub record HelloWaits (E : Type 0) : Type 0 where
   pub newest : (run : RunValue E) (s capacity sw : ℕ) →
-      slice_get run.held.world.fleet.ends s ≡ Some (new_end capacity sw) →
+      slice_get run.held.world.fleet.wired s ≡ Some (new_end capacity sw) →
       newest_at run.held.world side.Switch s ≡ Some (to.Hello 1 0)
   pub waiting : (run : RunValue E) (s capacity sw : ℕ) →
-      slice_get run.held.world.fleet.ends s ≡ Some (new_end capacity sw) → slice_get run.back_waits s ≡ Some true →
+      slice_get run.held.world.fleet.wired s ≡ Some (new_end capacity sw) → slice_get run.back_waits s ≡ Some true →
       waits run side.Switch s ≡ true

@@ -4,7 +4,6 @@
 ghost use Rattle.std.specs.Prelude.{◌≡◌, ◌<◌, ◌%◌, [], IfOk, IfSome, OnErr, Some};
 ghost use Rattle.worker_desk.specs.Answers.{CanBeWritten, GivesBack, OnNewEnd, OnShutNewEnd};
 ghost use Rattle.worker_desk.specs.Streams.{TellsWhereKnown};
-ghost use Rattle.world_core.specs.declared.fault.StepFault.TheVariants as faults;
 ghost use Rattle.world_journal.specs.Journals.{switches};
 ghost use Rattle.world_journal.specs.Makers.{WorksAt};
 ghost use Rattle.world_journal.specs.Runs.{waits};
@@ -22,7 +21,7 @@ use worker_desk::{Given, Shut, Told};
 mod receipts;
 mod sends;
 
-use receipts::{lose_at, tell_at};
+use receipts::{Received, lose_at, tell_at};
 use sends::work_at;
 
 impl<L: RunName, E: Link> Run<L, E> {
@@ -70,7 +69,7 @@ impl<L: RunName, E: Link> Run<L, E> {
     {
         let (side, s) = seat.at();
         if self.is_present(s, end.name()) {
-            tell_at(self, alloc, seat, side, s, bytes, end, k)
+            tell_at(self, alloc, seat, side, s, Received { bytes, end, k })
         } else {
             Told::Back { end, made: None }
         }

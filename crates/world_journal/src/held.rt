@@ -8,7 +8,11 @@ use outside_net::Link;
 use std::alloc::Global;
 use std::marker::Model;
 use std::sync::ledger::{Blank, Book};
-use world_core::{Event, StepFault, World};
+use world_core::{Event, StepError, StepFault, World};
+
+mod cutting;
+
+pub use cutting::CutError;
 
 /// A world, the journal that led to it from the start that `L` names, and the ends that were kept for sessions that
 /// were lost or met foreign bytes. As many steps are booked in the ledger as the journal has entries.
@@ -47,22 +51,11 @@ impl<L: RunName, E: Link> Model for Held<L, E> {
         (h.book.total ≡ length h.journal.items) };
 }
 
-/// Why a step for which an end is kept was not made. The end comes back.
-#[derive(Drop)]
-pub enum CutFault<E: Link> {
-    /// It cannot happen now.
-    NotEnabled(E),
-    /// Out of memory.
-    Memory(E),
-}
-
 impl<L: RunName, E: Link> Held<L, E> {
-    ghost use Rattle.std.specs.Prelude.{◌≡◌, ◌<◌, ◌+◌, ◌++◌, ◌∷◌, [], false, OnOk, OnErr, IfErr, Err, length};
+    ghost use Rattle.std.specs.Prelude.{◌≡◌, ◌<◌, ◌+◌, ◌++◌, ◌∷◌, [], false, OnOk, OnErr, Err, length};
     ghost use Rattle.world_core.specs.Steps.{Step, IsEnabled, Runs};
-    ghost use Rattle.world_core.specs.declared.fault.StepFault.TheVariants as faults;
     ghost use Rattle.world_journal.specs.Makers.{MayMake, is_cut};
-    ghost use Rattle.world_journal.specs.Journals.{HeldValue, IsJournal, entry, events_of, MetBy, switches};
-    ghost use Rattle.world_journal.specs.Cuts.{HandsBack, Refuses};
+    ghost use Rattle.world_journal.specs.Journals.{HeldValue, IsJournal, entry, events_of, switches};
 
     /// A world at its start, with an empty journal, and the caller's seat, which has all parts.
     pub fn make(alloc: Global, world: World, blank: Blank) -> (Held<L, E>, Seat<L>)
@@ -87,11 +80,11 @@ impl<L: RunName, E: Link> Held<L, E> {
     }
 
     /// Does an event that this worker may make, but for those for which an end is kept, and notes it.
-    pub fn step(&mut self, alloc: Global, seat: &mut Seat<L>, event: Event) -> Result<(), StepFault>
+    pub fn step(&mut self, alloc: Global, seat: &mut Seat<L>, event: Event) -> Result<(), StepError>
         requires maker { MayMake (switches L.start) seat.old.worker event }
         requires plain { is_cut event ≡ false }
         ensures world { OnOk result (Step self.old.world event self.new.world) }
-        ensures refused { result ≡ Err faults.NotEnabled → ¬ IsEnabled self.old.world event }
+        ensures refused { result ≡ Err (StepError.Fault StepFault.NotEnabled) → ¬ IsEnabled self.old.world event }
         ensures journal { OnOk result (self.new.journal ≡ self.old.journal ++ entry seat.old.worker event ∷ []) }
         ensures ends { self.new.ends ≡ self.old.ends }
         ensures booked { OnOk result (seat.new.share.amount ≡ seat.old.share.amount + 1) }
@@ -99,52 +92,13 @@ impl<L: RunName, E: Link> Held<L, E> {
         ensures err { OnErr result ((self.new ≡ self.old) × (seat.new.share.amount ≡ seat.old.share.amount)) }
     {
         let Ok(()) = self.journal.reserve(1) else {
-            return Err(StepFault::Memory);
+            return Err(StepError::Memory);
         };
         self.world.step(alloc, &event)?;
         self.journal.push_reserved(Entry {
             worker: seat.worker,
             event,
         });
-        self.book.add(&mut seat.share, 1);
-        Ok(())
-    }
-
-    /// Does an event for which an end is kept, a lost session or foreign bytes, and notes it.
-    pub fn cut(
-        &mut self,
-        alloc: Global,
-        seat: &mut Seat<L>,
-        event: Event,
-        end: E,
-    ) -> Result<(), CutFault<E>>
-        requires maker { MayMake (switches L.start) seat.old.worker event }
-        requires met { MetBy (switches L.start) E.named E.faults E.received self.old.journal event end }
-        ensures world { OnOk result (Step self.old.world event self.new.world) }
-        ensures refused { IfErr result (λ e. Refuses (¬ IsEnabled self.old.world event) e) }
-        ensures journal { OnOk result (self.new.journal ≡ self.old.journal ++ entry seat.old.worker event ∷ []) }
-        ensures ends { OnOk result (self.new.ends ≡ self.old.ends ++ end ∷ []) }
-        ensures booked { OnOk result (seat.new.share.amount ≡ seat.old.share.amount + 1) }
-        ensures seat { (seat.new.worker ≡ seat.old.worker) × (seat.new.share.parts ≡ seat.old.share.parts) }
-        ensures err { OnErr result ((self.new ≡ self.old) × (seat.new.share.amount ≡ seat.old.share.amount)) }
-        ensures back { IfErr result (λ e. HandsBack end e) }
-    {
-        let Ok(()) = self.journal.reserve(1) else {
-            return Err(CutFault::Memory(end));
-        };
-        let Ok(()) = self.ends.reserve(1) else {
-            return Err(CutFault::Memory(end));
-        };
-        match self.world.step(alloc, &event) {
-            Ok(()) => {}
-            Err(StepFault::NotEnabled) => return Err(CutFault::NotEnabled(end)),
-            Err(StepFault::Memory) => return Err(CutFault::Memory(end)),
-        }
-        self.journal.push_reserved(Entry {
-            worker: seat.worker,
-            event,
-        });
-        self.ends.push_reserved(end);
         self.book.add(&mut seat.share, 1);
         Ok(())
     }

@@ -23,13 +23,13 @@ mod updates;
 mod watched;
 
 pub use entry::Entry;
-pub use held::{CutFault, Held};
+pub use held::{CutError, Held};
 pub use laws::{hello_waits, sent_is_put};
 pub use line::Line;
 pub use moves::StepOutcome;
 pub use name::RunName;
 pub use poster::Poster;
-pub use run::{Run, RunFault};
+pub use run::{Run, RunError, RunFault};
 pub use run_desk::RunDesk;
 pub use seat::{Role, Seat};
 pub use update_coordinator::Side;

@@ -15,7 +15,7 @@ use crate::run::Run;
 use crate::seat::Seat;
 use outside_net::Link;
 use std::alloc::{AllocError, Global};
-use world_core::{Event, PacketEvent, StepFault, World};
+use world_core::{Event, PacketEvent, StepError, StepFault, World};
 
 /// What came of a call.
 #[derive(Clone, Copy, Debug, PartialEq, Eq)]
@@ -50,8 +50,8 @@ impl<L: RunName, E: Link> Run<L, E> {
             Some(true) => Ok(StepOutcome::Nothing),
             Some(false) => match self.arrive(alloc, seat, place) {
                 Ok(()) => Ok(StepOutcome::Step),
-                Err(StepFault::NotEnabled) => Ok(StepOutcome::Nothing),
-                Err(StepFault::Memory) => Err(AllocError),
+                Err(StepError::Fault(StepFault::NotEnabled)) => Ok(StepOutcome::Nothing),
+                Err(StepError::Memory) => Err(AllocError),
             },
         }
     }
@@ -71,8 +71,8 @@ impl<L: RunName, E: Link> Run<L, E> {
         };
         match self.step(alloc, seat, Event::Packet(PacketEvent::Hop(place))) {
             Ok(()) => Ok(StepOutcome::Step),
-            Err(StepFault::NotEnabled) => Ok(StepOutcome::Nothing),
-            Err(StepFault::Memory) => Err(AllocError),
+            Err(StepError::Fault(StepFault::NotEnabled)) => Ok(StepOutcome::Nothing),
+            Err(StepError::Memory) => Err(AllocError),
         }
     }
 }

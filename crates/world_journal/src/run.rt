@@ -9,10 +9,11 @@ use crate::line::Line;
 use crate::name::RunName;
 use crate::seat::Seat;
 use outside_net::Link;
+use std::alloc::AllocError;
 use std::marker::Model;
 use std::sync::ledger::Share;
 use thiserror::Error;
-use world_core::{Event, StepFault, World};
+use world_core::{Event, World};
 
 mod ending;
 mod making;
@@ -30,9 +31,26 @@ pub enum RunFault {
     /// A pair of ends could not be made.
     #[error("a pair of ends could not be made")]
     NetFault,
-    /// Out of memory.
+}
+
+/// A run has a fault, or memory ran out.
+#[derive(Clone, Copy, Debug, PartialEq, Eq, Error)]
+pub enum RunError {
+    #[error("{0}")]
+    Fault(RunFault),
     #[error("out of memory")]
     Memory,
+}
+
+impl From<AllocError> for RunError {
+    ghost use Rattle.std.specs.Prelude.{◌≡◌};
+    ghost use Rattle.world_journal.specs.declared.run.RunError.TheVariants.{Memory};
+
+    ghost from_gives = { λ _ e. e ≡ Memory };
+
+    fn from(_: AllocError) -> Self {
+        RunError::Memory
+    }
 }
 
 /// A journal with its world; which of the packets that `L` names have come in, each once; whether the run was closed;

@@ -30,9 +30,10 @@ struct Bells {
     others: Condvar,
 }
 
-/// A run beside its pen under their one lock, as its workers share them. Each call locks once, and what it answers
-/// under the lock is stated of one function: for `give` that is `given_of`, and so on (`asks`, `asked_moves`). A worker
-/// that is told there is nothing to do waits, with the lock given up, until a step was made that may have changed this.
+/// A run beside its pen under their one lock, as its workers share them. A call locks once, or not at all if the desk
+/// made the worker's step ahead. What it answers under the lock is stated of one function: for `give` that is
+/// `given_of`, and so on (`asks`, `asked_moves`). A worker that is told there is nothing to do waits, with the lock given
+/// up, until a step was made that may have changed this.
 pub struct RunDesk<R, L: RunName, P: Poster, E: Link> {
     rt: R,
     alloc: Global,

@@ -62,7 +62,7 @@ impl<L: RunName> Seat<L> {
     }
 
     /// One of two or more parts, for a worker that has made no step.
-    pub fn part(&mut self, worker: usize, role: Role) -> Seat<L>
+    pub fn split_off(&mut self, worker: usize, role: Role) -> Seat<L>
         requires parts { 2 ≤ self.old.share.parts }
         requires does { role ≡ role_of (switches L.start) worker }
         ensures worker { (result.worker ≡ worker) × (result.role ≡ role) }

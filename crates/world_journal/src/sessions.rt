@@ -6,7 +6,6 @@ ghost use Rattle.update_coordinator.specs.declared.cause.Side.TheVariants as sid
 ghost use Rattle.world_core.specs.Steps.{IsEnabled};
 ghost use Rattle.world_core.specs.declared.event.Event.TheVariants as event;
 ghost use Rattle.world_core.specs.declared.event.ControllerEvent.TheVariants as of_controller;
-ghost use Rattle.world_core.specs.declared.fault.StepFault.TheVariants as faults;
 ghost use Rattle.world_journal.specs.Calls.{IsPresent, Returns};
 ghost use Rattle.world_journal.specs.Journals.{events_of, name_of, session, switches};
 ghost use Rattle.world_journal.specs.Makers.{IsCaller};
@@ -18,7 +17,7 @@ use crate::seat::Seat;
 use outside_net::Link;
 use std::alloc::Global;
 use update_coordinator::Side;
-use world_core::{ControllerEvent, Event, StepFault};
+use world_core::{ControllerEvent, Event, StepError, StepFault};
 
 impl<L: RunName, E: Link> Run<L, E> {
     /// Whether an end with this name is of the present session with a switch.
@@ -114,20 +113,20 @@ impl<L: RunName, E: Link> Run<L, E> {
         seat: &mut Seat<L>,
         s: usize,
         pair: (E, E),
-    ) -> Result<(), StepFault>
+    ) -> Result<(), StepError>
         requires maker { IsCaller seat.old.worker }
         requires place { s < switches L.start }
         requires named { (E.named pair.0 ≡ name_of (switches L.start) s
             (session s (events_of self.old.held.journal) + 1)) × (E.named pair.1 ≡ E.named pair.0) }
         requires fresh { IsNewPair E.received pair }
         ensures made { OnOk result (Returns seat.old.worker s pair self.old self.new) }
-        ensures refused { result ≡ Err faults.NotEnabled →
+        ensures refused { result ≡ Err (StepError.Fault StepFault.NotEnabled) →
             ¬ IsEnabled self.old.held.world (event.Controller (of_controller.Rejoin s)) }
         ensures seat { (seat.new.worker ≡ seat.old.worker) × (seat.new.share.parts ≡ seat.old.share.parts) }
         ensures err { OnErr result (self.new ≡ self.old) }
     {
         let Some(number) = self.sessions[s].checked_add(1) else {
-            return Err(StepFault::Memory);
+            return Err(StepError::Memory);
         };
         self.held
             .step(alloc, seat, Event::Controller(ControllerEvent::Rejoin(s)))?;

@@ -3,7 +3,6 @@
 //! Layer: runs; private. Called by `steps`.
 ghost use Rattle.std.specs.Prelude.{◌≡◌, ◌<◌, ◌+◌, false, None, OnOk, OnErr, Err, Some};
 ghost use Rattle.world_core.specs.Steps.{IsEnabled};
-ghost use Rattle.world_core.specs.declared.fault.StepFault.TheVariants as faults;
 ghost use Rattle.world_journal.specs.Arriving.{is_arrival};
 ghost use Rattle.world_journal.specs.Calls.{Made};
 ghost use Rattle.world_journal.specs.Journals.{switches, told_at, told_before};
@@ -15,7 +14,7 @@ use crate::seat::Seat;
 use outside_net::Link;
 use std::alloc::Global;
 use update_coordinator::Side;
-use world_core::{ControllerEvent, Event, StepFault, SwitchEvent};
+use world_core::{ControllerEvent, Event, StepError, StepFault, SwitchEvent};
 
 impl<L: RunName, E: Link> Run<L, E> {
     /// How many messages were told at this side of a switch in its present session.
@@ -35,12 +34,12 @@ impl<L: RunName, E: Link> Run<L, E> {
         alloc: Global,
         seat: &mut Seat<L>,
         event: Event,
-    ) -> Result<(), StepFault>
+    ) -> Result<(), StepError>
         requires maker { MayMake (switches L.start) seat.old.worker event }
         requires plain { (is_cut event ≡ false) × (is_arrival event ≡ false) × (is_rejoin event ≡ false) }
         requires silent { told_at event ≡ None }
         ensures made { OnOk result (Made seat.old.worker event self.old self.new) }
-        ensures refused { result ≡ Err faults.NotEnabled → ¬ IsEnabled self.old.held.world event }
+        ensures refused { result ≡ Err (StepError.Fault StepFault.NotEnabled) → ¬ IsEnabled self.old.held.world event }
         ensures seat { (seat.new.worker ≡ seat.old.worker) × (seat.new.share.parts ≡ seat.old.share.parts) }
         ensures booked { OnOk result (seat.new.share.amount ≡ seat.old.share.amount + 1) }
         ensures err { OnErr result ((self.new ≡ self.old) × (seat.new.share.amount ≡ seat.old.share.amount)) }
@@ -56,19 +55,19 @@ impl<L: RunName, E: Link> Run<L, E> {
         event: Event,
         side: Side,
         s: usize,
-    ) -> Result<(), StepFault>
+    ) -> Result<(), StepError>
         requires maker { MayMake (switches L.start) seat.old.worker event }
         requires plain { (is_cut event ≡ false) × (is_arrival event ≡ false) × (is_rejoin event ≡ false) }
         requires told { told_at event ≡ Some (side, s) }
         requires place { s < switches L.start }
         ensures made { OnOk result (Made seat.old.worker event self.old self.new) }
-        ensures refused { result ≡ Err faults.NotEnabled → ¬ IsEnabled self.old.held.world event }
+        ensures refused { result ≡ Err (StepError.Fault StepFault.NotEnabled) → ¬ IsEnabled self.old.held.world event }
         ensures seat { (seat.new.worker ≡ seat.old.worker) × (seat.new.share.parts ≡ seat.old.share.parts) }
         ensures booked { OnOk result (seat.new.share.amount ≡ seat.old.share.amount + 1) }
         ensures err { OnErr result ((self.new ≡ self.old) × (seat.new.share.amount ≡ seat.old.share.amount)) }
     {
         let Some(count) = self.told(side, s).checked_add(1) else {
-            return Err(StepFault::Memory);
+            return Err(StepError::Memory);
         };
         self.held.step(alloc, seat, event)?;
         match side {

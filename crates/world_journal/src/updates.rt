@@ -20,7 +20,7 @@ use crate::run::{Run, is_last};
 use crate::seat::Seat;
 use outside_net::Link;
 use std::alloc::{AllocError, Global};
-use world_core::{ControllerEvent, Event, PacketEvent, StepFault, World};
+use world_core::{ControllerEvent, Event, PacketEvent, StepError, StepFault, World};
 
 /// A switch that is to return, and the name of the pair over which it does.
 #[derive(Clone, Copy, Debug, PartialEq, Eq)]
@@ -67,8 +67,8 @@ impl<L: RunName, E: Link> Run<L, E> {
         };
         match self.step(alloc, seat, event) {
             Ok(()) => Ok(Update::Step),
-            Err(StepFault::NotEnabled) => Ok(Update::Nothing),
-            Err(StepFault::Memory) => Err(AllocError),
+            Err(StepError::Fault(StepFault::NotEnabled)) => Ok(Update::Nothing),
+            Err(StepError::Memory) => Err(AllocError),
         }
     }
 
@@ -96,8 +96,8 @@ impl<L: RunName, E: Link> Run<L, E> {
         }
         match self.return_over(alloc, seat, absence.place, pair) {
             Ok(()) => Ok(StepOutcome::Step),
-            Err(StepFault::NotEnabled) => Ok(StepOutcome::Nothing),
-            Err(StepFault::Memory) => Err(AllocError),
+            Err(StepError::Fault(StepFault::NotEnabled)) => Ok(StepOutcome::Nothing),
+            Err(StepError::Memory) => Err(AllocError),
         }
     }
 

@@ -11,7 +11,7 @@ ghost use Rattle.world_journal.specs.Watching.{MayPost, StaysOrCloses};
 use crate::held::Held;
 use crate::name::RunName;
 use crate::poster::Poster;
-use crate::run::{Run, RunFault};
+use crate::run::{Run, RunError};
 use crate::seat::Seat;
 use outside_net::Link;
 use std::marker::Model;
@@ -63,7 +63,7 @@ impl<L: RunName, P: Poster, E: Link> Watched<L, P, E> {
     }
 
     /// What `Run::finish` gives, with the pen, whose newest post then counts all entries.
-    pub fn finish(self) -> Result<(Held<L, E>, Seat<L>, P), RunFault>
+    pub fn finish(self) -> Result<(Held<L, E>, Seat<L>, P), RunError>
         requires back { self.run.back ≡ L.all }
         requires all { (L.all ≡ L.parts) × (0 < L.all) }
         requires over { HasEnded L.lines self.run }
@@ -73,7 +73,7 @@ impl<L: RunName, P: Poster, E: Link> Watched<L, P, E> {
         ensures over { IfOk result (λ r. IsOver L.lines r.0.world) }
         ensures posts { IfOk result (λ r. ArePosts L.start (events_of r.0.journal) (P.posts r.2)) }
         ensures posted { IfOk result (λ r. IsPosted (events_of r.0.journal) (P.posts r.2)) }
-        ensures fault { IfErr result (λ f. f ≡ RunFault.Memory) }
+        ensures fault { IfErr result (λ f. f ≡ RunError.Memory) }
     {
         let Watched { run, pen } = self;
         let (held, seat) = run.finish()?;

@@ -11,10 +11,10 @@ ghost use Rattle.world_journal.specs.Makers.{IsTraffic};
 use super::Crew;
 use crate::traffic::Traffic;
 use crate::worker::Worker;
-use outside_net::{Job, Link, NetFault, Spawner, StartFault};
+use outside_net::{Job, Link, Spawner, StartError, StartFault};
 use std::sync::{Arc, Wait};
 use worker_desk::Gate;
-use world_journal::{Poster, Role, RunFault, RunName, Seat, Side};
+use world_journal::{Poster, Role, RunError, RunFault, RunName, Seat, Side};
 
 impl<
     'a,
@@ -32,15 +32,16 @@ impl<
         place: usize,
         pair: (E, E),
         threads: &mut T,
-    ) -> Result<(), RunFault>
+    ) -> Result<(), RunError>
         requires parts { 3 ≤ seat.old.share.parts }
         requires place { (count ≡ switches L.start) × (place < count) × (count < 2 ^ 32) }
         requires pair { IsPair E.named E.received place pair }
         ensures parts { IsOk result → seat.new.share.parts + 2 ≡ seat.old.share.parts }
         ensures worker { seat.new.worker ≡ seat.old.worker }
         ensures later { T.faults threads.old ≤ T.faults threads.new }
-        ensures no_thread { result ≡ Err RunFault.NoThread → Rose (T.faults threads.old) (T.faults threads.new) }
-        ensures no_net { result ≢ Err RunFault.NetFault }
+        ensures no_thread { result ≡ Err (RunError.Fault RunFault.NoThread) →
+            Rose (T.faults threads.old) (T.faults threads.new) }
+        ensures no_net { result ≢ Err (RunError.Fault RunFault.NetFault) }
     {
         let (here, there) = pair;
         let session = Role::At(Side::Controller, place);
@@ -58,7 +59,7 @@ impl<
         worker: usize,
         role: Role,
         end: E,
-    ) -> Result<Worker<R, L, P, E, G>, RunFault>
+    ) -> Result<Worker<R, L, P, E, G>, RunError>
         requires parts { 2 ≤ seat.old.share.parts }
         requires worker { IsWorker (switches L.start) worker }
         requires does { role ≡ role_of (switches L.start) worker }
@@ -66,15 +67,11 @@ impl<
         requires fresh { is_fresh (E.received end) ≡ true }
         ensures parts { IfOk result (λ _. seat.new.share.parts + 1 ≡ seat.old.share.parts) }
         ensures worker { seat.new.worker ≡ seat.old.worker }
-        ensures memory { IfErr result (λ f. f ≡ RunFault.Memory) }
+        ensures memory { IfErr result (λ f. f ≡ RunError.Memory) }
     {
-        let Ok(desk) = self.desk.again() else {
-            return Err(RunFault::Memory);
-        };
-        let Ok(gate) = Arc::try_clone(self.gate) else {
-            return Err(RunFault::Memory);
-        };
-        Ok(Worker::new(desk, seat.part(worker, role), end, gate))
+        let desk = self.desk.again()?;
+        let gate = Arc::try_clone(self.gate)?;
+        Ok(Worker::new(desk, seat.split_off(worker, role), end, gate))
     }
 
     // The worker of this number that brings lines in, with a part of the seat.
@@ -83,32 +80,29 @@ impl<
         seat: &mut Seat<L>,
         worker: usize,
         first: usize,
-    ) -> Result<Traffic<R, L, P, E, G>, RunFault>
+    ) -> Result<Traffic<R, L, P, E, G>, RunError>
         requires parts { 2 ≤ seat.old.share.parts }
         requires worker { IsTraffic (switches L.start) worker }
         ensures parts { IfOk result (λ _. seat.new.share.parts + 1 ≡ seat.old.share.parts) }
         ensures worker { seat.new.worker ≡ seat.old.worker }
-        ensures memory { IfErr result (λ f. f ≡ RunFault.Memory) }
+        ensures memory { IfErr result (λ f. f ≡ RunError.Memory) }
     {
-        let Ok(desk) = self.desk.again() else {
-            return Err(RunFault::Memory);
-        };
-        let Ok(gate) = Arc::try_clone(self.gate) else {
-            return Err(RunFault::Memory);
-        };
-        Ok(Traffic::new(desk, seat.part(worker, Role::Traffic), first, gate))
+        let desk = self.desk.again()?;
+        let gate = Arc::try_clone(self.gate)?;
+        Ok(Traffic::new(desk, seat.split_off(worker, Role::Traffic), first, gate))
     }
 }
 
 // Starts a job.
-pub(crate) fn start_one<T: Spawner, J: Job>(threads: &mut T, job: J) -> Result<(), RunFault>
+pub(crate) fn start_one<T: Spawner, J: Job>(threads: &mut T, job: J) -> Result<(), RunError>
     ensures later { T.faults threads.old ≤ T.faults threads.new }
-    ensures no_thread { result ≡ Err RunFault.NoThread → Rose (T.faults threads.old) (T.faults threads.new) }
-    ensures no_net { result ≢ Err RunFault.NetFault }
+    ensures no_thread { result ≡ Err (RunError.Fault RunFault.NoThread) →
+        Rose (T.faults threads.old) (T.faults threads.new) }
+    ensures no_net { result ≢ Err (RunError.Fault RunFault.NetFault) }
 {
     match threads.start(job) {
         Ok(()) => Ok(()),
-        Err(StartFault::NoThread) => Err(RunFault::NoThread),
-        Err(StartFault::Memory) => Err(RunFault::Memory),
+        Err(StartError::Fault(StartFault::NoThread)) => Err(RunError::Fault(RunFault::NoThread)),
+        Err(StartError::Memory) => Err(RunError::Memory),
     }
 }

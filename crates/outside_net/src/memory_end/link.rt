@@ -4,28 +4,14 @@
 ghost use Rattle.std.specs.Prelude.{◌≡◌, ◌≢◌, ◌↔◌, ◌≤◌, IfSome, length};
 
 use super::MemoryEnd;
+use super::delivery::Delivery;
 use crate::link::{Link, LinkFault};
-use crate::trouble::Effect;
 use std::alloc::AllocError;
 use std::sync::Wait;
 
-// What became of bytes that were to be put into a pipe.
-#[derive(Drop)]
-enum Delivery {
-    // They are in.
-    Done,
-    // The pipe is closed.
-    Closed,
-    // The pipe had no room.
-    Full,
-    // They are not to be put in.
-    Spoiled,
-}
-
 impl<R: Wait + Drop> MemoryEnd<R> {
     ghost use Rattle.std.specs.Prelude.{IsTrue, IsSome, false};
-    ghost use Rattle.outside_net.specs.Troubles.{Spoils};
-    ghost use Rattle.outside_net.specs.Memory.{end_call, end_effect, end_failed, end_faults, end_full, end_met};
+    ghost use Rattle.outside_net.specs.Memory.{end_effect, end_failed, end_faults, end_full, end_met};
     ghost use Rattle.outside_net.specs.Memory.{CallIsListed, IsSameEnd};
 
     // Takes bytes of those on their way. There are none where the pipe is closed, or for an end that was met if none
@@ -49,47 +35,6 @@ impl<R: Wait + Drop> MemoryEnd<R> {
     {
         self.call = self.calls.next(&self.rt);
         self.calls.fails(self.call)
-    }
-
-    // Counts a send, and learns what is to become of it.
-    fn begin_send(&mut self)
-        ensures same { IsSameEnd self.old self.new }
-        ensures failed { (end_failed self.new ≡ end_failed self.old) × (end_faults self.new ≡ end_faults self.old) }
-        ensures full { end_full self.new ≡ false }
-    {
-        self.sends = self.sends.saturating_add(1);
-        self.full = false;
-        self.effect = self.calls.effect(&self.rt, self.name, self.end, self.sends);
-    }
-
-    // Delivers the bytes of a send, or what is to come in their place.
-    fn deliver(&self, bytes: &[u8]) -> Delivery
-        ensures { result ≡ Delivery.Spoiled ↔ Spoils (end_effect self.now) }
-    {
-        match &self.effect {
-            None => self.put(bytes),
-            Some(Effect::Fails) => Delivery::Spoiled,
-            Some(Effect::Repeats) => match self.put(bytes) {
-                Delivery::Done => self.put(bytes),
-                other => other,
-            },
-            Some(Effect::Replaces(others)) => self.put(others),
-            Some(Effect::Cuts(others)) => {
-                let _ = self.put(others);
-                Delivery::Spoiled
-            }
-        }
-    }
-
-    // Puts bytes into the pipe, all or none.
-    fn put(&self, bytes: &[u8]) -> Delivery
-        ensures { result ≢ Delivery.Spoiled }
-    {
-        match self.out.put(&self.rt, bytes) {
-            Ok(true) => Delivery::Done,
-            Ok(false) => Delivery::Closed,
-            Err(_) => Delivery::Full,
-        }
     }
 }
 

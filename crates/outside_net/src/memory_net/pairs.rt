@@ -6,7 +6,7 @@ ghost use Rattle.outside_net.specs.Memory.{IsNewEnd, IsPairEnd, net_listed};
 
 use super::MemoryNet;
 use crate::memory_end::MemoryEnd;
-use crate::pipe::Pipe;
+use crate::pipe::{Pipe, Pipes};
 use crate::trouble::End;
 use std::alloc::AllocError;
 use std::sync::{Arc, Wait};
@@ -24,10 +24,12 @@ impl<R: Wait + Clone + Drop> MemoryNet<R> {
         ensures pair { IfOk result (λ e. IsPairEnd (net_listed self.now) e) }
     {
         let rt = self.rt.clone()?;
-        let out = Arc::try_clone(out)?;
-        let into = Arc::try_clone(into)?;
+        let pipes = Pipes {
+            out: Arc::try_clone(out)?,
+            into: Arc::try_clone(into)?,
+        };
         let calls = Arc::try_clone(&self.calls)?;
-        Ok(MemoryEnd::new(self.alloc, rt, name, end, out, into, calls))
+        Ok(MemoryEnd::new(self.alloc, rt, name, end, pipes, calls))
     }
 
     // Both ends of a pair.

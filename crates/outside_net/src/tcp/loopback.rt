@@ -4,7 +4,7 @@
 ghost use Rattle.std.specs.Prelude.{None};
 
 use super::TcpEnd;
-use crate::net::{Net, NetFault};
+use crate::net::{Net, NetError, NetFault};
 use std::io;
 use std::net::{Ipv4Addr, Net as Sockets, SocketAddr, TcpListener, TcpStream};
 use std::time::Clock;
@@ -70,7 +70,7 @@ impl<R: Sockets<Stream = TcpStream, Listener = TcpListener> + Clock + Copy + Dro
 
     ghost gathered = { λ n. None };
 
-    fn pair(&mut self, name: u32) -> Result<(TcpEnd<R>, TcpEnd<R>), NetFault> {
+    fn pair(&mut self, name: u32) -> Result<(TcpEnd<R>, TcpEnd<R>), NetError> {
         match connect(&self.rt) {
             Ok((here, there)) => Ok((
                 TcpEnd::new(self.rt, here, name),
@@ -78,17 +78,17 @@ impl<R: Sockets<Stream = TcpStream, Listener = TcpListener> + Clock + Copy + Dro
             )),
             Err(_) => {
                 self.faults = self.faults.saturating_add(1);
-                Err(NetFault::Broken)
+                Err(NetError::Fault(NetFault::Broken))
             }
         }
     }
 
-    fn meet(&mut self, port: u16, name: u32) -> Result<TcpEnd<R>, NetFault> {
+    fn meet(&mut self, port: u16, name: u32) -> Result<TcpEnd<R>, NetError> {
         match listen(&self.rt, port) {
             Ok(door) => Ok(TcpEnd::at(self.rt, door, self.looks, name)),
             Err(_) => {
                 self.faults = self.faults.saturating_add(1);
-                Err(NetFault::Broken)
+                Err(NetError::Fault(NetFault::Broken))
             }
         }
     }

@@ -4,10 +4,10 @@
 ghost use Rattle.std.specs.Prelude.{◌≡◌, [], Option, IfSome};
 ghost use Rattle.worker_post.specs.Noting.{IsNotedOf, Notes};
 ghost use Rattle.worker_post.specs.Sessions.{HasWorked, IsNew, last_end};
-ghost use Rattle.worker_post.specs.Turns.{OnNew, Serves};
+ghost use Rattle.worker_post.specs.Cycles.{OnNew, Serves};
 ghost use Rattle.worker_post.specs.Works.{IsEnd};
 
-use super::{Inbox, Post, RoundEnd};
+use super::{CycleEnd, Inbox, Post};
 use of_framing::Framer;
 use std::sync::Wait;
 use worker_desk::{Desk, Gate, Shut};
@@ -40,7 +40,7 @@ impl<'a, D: Desk, G: Gate> Post<'a, D, G> {
     }
 
     // Works over this end until its session is over.
-    fn serve<R: Wait>(&self, rt: &R, seat: &mut D::Seat, end: D::End) -> RoundEnd<D::End>
+    fn serve<R: Wait>(&self, rt: &R, seat: &mut D::Seat, end: D::End) -> CycleEnd<D::End>
         requires seat { D.seated seat.old × (D.place_of (D.End.named end) ≡ D.place seat.old) }
         requires fresh { IfSome (D.End.received end) (λ xs. xs ≡ []) }
         ensures seat { D.seated seat.new × (D.place seat.new ≡ D.place seat.old) }
@@ -56,13 +56,13 @@ impl<'a, D: Desk, G: Gate> Post<'a, D, G> {
             told: 0,
         };
         for _ in rt.forever() {
-            match self.turn(seat, end, &mut inbox) {
-                RoundEnd::Going(e) => end = e,
-                RoundEnd::Shut(e) => return RoundEnd::Shut(e),
-                RoundEnd::New { old, new } => return RoundEnd::New { old, new },
-                RoundEnd::Stop(e) => return RoundEnd::Stop(e),
-                RoundEnd::Memory(e) => return RoundEnd::Memory(e),
-                RoundEnd::Kept => return RoundEnd::Kept,
+            match self.cycle(seat, end, &mut inbox) {
+                CycleEnd::Going(e) => end = e,
+                CycleEnd::Shut(e) => return CycleEnd::Shut(e),
+                CycleEnd::New { old, new } => return CycleEnd::New { old, new },
+                CycleEnd::Stop(e) => return CycleEnd::Stop(e),
+                CycleEnd::Memory(e) => return CycleEnd::Memory(e),
+                CycleEnd::Kept => return CycleEnd::Kept,
             }
         }
         unreachable!()
@@ -81,27 +81,27 @@ impl<'a, D: Desk, G: Gate> Post<'a, D, G> {
         ensures anew { IfSome result.next (IsNew D.place_of D.End.named D.End.received (D.place seat.old)) }
     {
         match self.serve(rt, seat, end) {
-            RoundEnd::Going(e) => Ended {
+            CycleEnd::Going(e) => Ended {
                 end: Some(e),
                 next: None,
             },
-            RoundEnd::Stop(e) => Ended {
+            CycleEnd::Stop(e) => Ended {
                 end: Some(e),
                 next: None,
             },
-            RoundEnd::Memory(e) => Ended {
+            CycleEnd::Memory(e) => Ended {
                 end: Some(e),
                 next: None,
             },
-            RoundEnd::New { old, new } => Ended {
+            CycleEnd::New { old, new } => Ended {
                 end: Some(old),
                 next: Some(new),
             },
-            RoundEnd::Shut(e) => Ended {
+            CycleEnd::Shut(e) => Ended {
                 end: Some(e),
                 next: self.wait_out(rt, seat),
             },
-            RoundEnd::Kept => Ended {
+            CycleEnd::Kept => Ended {
                 end: None,
                 next: self.wait_out(rt, seat),
             },

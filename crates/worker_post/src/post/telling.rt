@@ -9,10 +9,10 @@ ghost use Rattle.worker_desk.specs.Answers.{grown};
 ghost use Rattle.worker_post.specs.Working.{Continues, IsFollowing, TellsStream};
 ghost use Rattle.worker_post.specs.Noting.{NextNotes, Notes};
 ghost use Rattle.worker_post.specs.Sessions.{IsNew};
-ghost use Rattle.worker_post.specs.Turns.{EndIs, GoesOn, GoesOnWith, HasEnd, NextGoesOn, NextHasEnd, NextOnNew, OnNew};
-ghost use Rattle.worker_post.specs.Turns.{ToldTurn};
+ghost use Rattle.worker_post.specs.Cycles.{EndIs, GoesOn, GoesOnWith, HasEnd, NextGoesOn, NextHasEnd, NextOnNew, OnNew};
+ghost use Rattle.worker_post.specs.Cycles.{ToldCycle};
 
-use super::{Inbox, Post, RoundEnd};
+use super::{CycleEnd, Inbox, Post};
 use crate::messages::{Transfer, receive};
 use worker_desk::{Desk, Gate, Told};
 
@@ -22,17 +22,17 @@ pub enum TellOutcome<E> {
     /// Nothing: less than a message is held.
     Rest(E),
     /// Something, or there is nothing to tell any more.
-    Told(RoundEnd<E>),
+    Told(CycleEnd<E>),
 }
 
 impl<'a, D: Desk, G: Gate> Post<'a, D, G> {
     // Tells the next message, which it receives if it is not held.
-    pub(super) fn receive_turn(
+    pub(super) fn receive_cycle(
         &self,
         seat: &mut D::Seat,
         end: D::End,
         inbox: &mut Inbox,
-    ) -> RoundEnd<D::End>
+    ) -> CycleEnd<D::End>
         requires seat { D.seated seat.old × (D.place_of (D.End.named end) ≡ D.place seat.old) }
         requires following { IsFollowing (D.End.received end) inbox.old.framer inbox.old.told }
         ensures seat { D.seated seat.new × (D.place seat.new ≡ D.place seat.old) }
@@ -42,7 +42,8 @@ impl<'a, D: Desk, G: Gate> Post<'a, D, G> {
         ensures following { GoesOnWith (λ e. IsFollowing (D.End.received e) inbox.new.framer inbox.new.told) result }
         ensures told { (t0 : Option (List (List ℕ))) (r0 : Option (List ℕ)) →
             Continues t0 (D.told seat.old) r0 (D.End.received end) inbox.old.framer inbox.old.told
-            → ToldTurn D.End.received (D.kept seat.new) t0 r0 (D.told seat.new) inbox.new.framer inbox.new.told result }
+            → ToldCycle D.End.received (D.kept seat.new) t0 r0 (D.told seat.new) inbox.new.framer inbox.new.told
+            result }
         ensures anew { OnNew (IsNew D.place_of D.End.named D.End.received (D.place seat.old)) result }
         ensures noted { Notes ⊥ D.End.faults (D.kept seat.new) (D.End.named end) (D.End.faults end)
             (D.notices seat.old) (D.notices seat.new) result }
@@ -54,7 +55,7 @@ impl<'a, D: Desk, G: Gate> Post<'a, D, G> {
     }
 
     // Receives, and tells the next message if it is whole now.
-    fn receive_more(&self, seat: &mut D::Seat, end: D::End, inbox: &mut Inbox) -> RoundEnd<D::End>
+    fn receive_more(&self, seat: &mut D::Seat, end: D::End, inbox: &mut Inbox) -> CycleEnd<D::End>
         requires seat { D.seated seat.old × (D.place_of (D.End.named end) ≡ D.place seat.old) }
         requires following { IsFollowing (D.End.received end) inbox.old.framer inbox.old.told }
         ensures seat { D.seated seat.new × (D.place seat.new ≡ D.place seat.old) }
@@ -64,7 +65,8 @@ impl<'a, D: Desk, G: Gate> Post<'a, D, G> {
         ensures following { GoesOnWith (λ e. IsFollowing (D.End.received e) inbox.new.framer inbox.new.told) result }
         ensures told { (t0 : Option (List (List ℕ))) (r0 : Option (List ℕ)) →
             Continues t0 (D.told seat.old) r0 (D.End.received end) inbox.old.framer inbox.old.told
-            → ToldTurn D.End.received (D.kept seat.new) t0 r0 (D.told seat.new) inbox.new.framer inbox.new.told result }
+            → ToldCycle D.End.received (D.kept seat.new) t0 r0 (D.told seat.new) inbox.new.framer inbox.new.told
+            result }
         ensures anew { OnNew (IsNew D.place_of D.End.named D.End.received (D.place seat.old)) result }
         ensures noted { Notes ⊥ D.End.faults (D.kept seat.new) (D.End.named end) (D.End.faults end)
             (D.notices seat.old) (D.notices seat.new) result }
@@ -73,13 +75,13 @@ impl<'a, D: Desk, G: Gate> Post<'a, D, G> {
         match receive(&mut end, &mut inbox.framer) {
             Transfer::Well => match self.tell_next(seat, end, inbox) {
                 TellOutcome::Told(after) => after,
-                TellOutcome::Rest(end) => RoundEnd::Going(end),
+                TellOutcome::Rest(end) => CycleEnd::Going(end),
             },
             Transfer::Failed => self.lose(seat, end),
-            Transfer::Closed => RoundEnd::Shut(end),
+            Transfer::Closed => CycleEnd::Shut(end),
             Transfer::Memory => {
                 self.desk.close(seat);
-                RoundEnd::Memory(end)
+                CycleEnd::Memory(end)
             }
         }
     }
@@ -107,7 +109,7 @@ impl<'a, D: Desk, G: Gate> Post<'a, D, G> {
     {
         if inbox.told == u64::MAX {
             self.desk.close(seat);
-            return TellOutcome::Told(RoundEnd::Memory(end));
+            return TellOutcome::Told(CycleEnd::Memory(end));
         }
         match inbox.framer.span() {
             None => TellOutcome::Rest(end),
@@ -123,7 +125,7 @@ impl<'a, D: Desk, G: Gate> Post<'a, D, G> {
         end: D::End,
         inbox: &mut Inbox,
         len: usize,
-    ) -> RoundEnd<D::End>
+    ) -> CycleEnd<D::End>
         requires seat { D.seated seat.old × (D.place_of (D.End.named end) ≡ D.place seat.old) }
         requires following { IsFollowing (D.End.received end) inbox.old.framer inbox.old.told }
         requires count { inbox.old.told < 2 ^ 64 - 1 }
@@ -147,18 +149,18 @@ impl<'a, D: Desk, G: Gate> Post<'a, D, G> {
                 self.who.after(self.gate, made);
                 inbox.framer.skip(len);
                 inbox.told += 1;
-                RoundEnd::Going(end)
+                CycleEnd::Going(end)
             }
-            Told::Kept => RoundEnd::Kept,
+            Told::Kept => CycleEnd::Kept,
             Told::Memory(end) => {
                 self.desk.close(seat);
-                RoundEnd::Memory(end)
+                CycleEnd::Memory(end)
             }
         }
     }
 
     // Tells the bytes that are held at a fault.
-    fn tell_fault(&self, seat: &mut D::Seat, end: D::End, inbox: &Inbox) -> RoundEnd<D::End>
+    fn tell_fault(&self, seat: &mut D::Seat, end: D::End, inbox: &Inbox) -> CycleEnd<D::End>
         requires seat { D.seated seat.old × (D.place_of (D.End.named end) ≡ D.place seat.old) }
         requires following { IsFollowing (D.End.received end) inbox.now.framer inbox.now.told }
         requires fault { (f : WireFault) × IsFault inbox.now.framer f }
@@ -177,11 +179,11 @@ impl<'a, D: Desk, G: Gate> Post<'a, D, G> {
         ensures fault { D.told seat.new ≡ grown (D.told seat.old) (inbox.now.framer ∷ []) }
     {
         match self.desk.tell(seat, inbox.framer.held(), end, inbox.told) {
-            Told::Back { end, made: _ } => RoundEnd::Shut(end),
-            Told::Kept => RoundEnd::Kept,
+            Told::Back { end, made: _ } => CycleEnd::Shut(end),
+            Told::Kept => CycleEnd::Kept,
             Told::Memory(end) => {
                 self.desk.close(seat);
-                RoundEnd::Memory(end)
+                CycleEnd::Memory(end)
             }
         }
     }

@@ -77,7 +77,7 @@ impl WiredSwitch {
                 self.back.push_back_reserved(answer);
                 Ok(())
             }
-            Err(ApplyError::NotPending) => unreachable!(),
+            Err(ApplyError::Fault(_)) => unreachable!(),
             Err(ApplyError::Memory) => Err(AllocError),
         }
     }

@@ -4,13 +4,12 @@
 ghost use Rattle.std.specs.Prelude.{◌≡◌, ◌<◌, Err, Some};
 ghost use Rattle.worker_desk.specs.Answers.{GivesBack};
 ghost use Rattle.worker_desk.specs.Streams.{TellsWhereKnown};
-ghost use Rattle.world_core.specs.declared.fault.StepFault.TheVariants as faults;
 ghost use Rattle.world_journal.specs.Journals.{switches, present_name};
 ghost use Rattle.world_journal.specs.Makers.{WorksAt};
 ghost use Rattle.world_journal.specs.Calls.{IsUnmoved, LosesNow, TakesIn, TellsNow, TurnsAway, receipt};
 
 use super::sends::receipt;
-use crate::held::CutFault;
+use crate::held::CutError;
 use crate::name::RunName;
 use crate::run::Run;
 use crate::seat::Seat;
@@ -19,7 +18,15 @@ use outside_net::Link;
 use std::alloc::Global;
 use update_coordinator::Side;
 use worker_desk::{StepKind, Told};
-use world_core::{ControllerEvent, Event, StepFault};
+use world_core::{ControllerEvent, Event, StepError, StepFault};
+
+// What a worker received over an end: the bytes of one message, after those of k others.
+#[derive(Drop)]
+pub(super) struct Received<'a, E: Link> {
+    pub(super) bytes: &'a [u8],
+    pub(super) end: E,
+    pub(super) k: u64,
+}
 
 // Bytes were received over an end of the present session.
 pub(super) fn tell_at<L: RunName, E: Link>(
@@ -28,21 +35,20 @@ pub(super) fn tell_at<L: RunName, E: Link>(
     seat: &mut Seat<L>,
     side: Side,
     s: usize,
-    bytes: &[u8],
-    end: E,
-    k: u64,
+    received: Received<'_, E>,
 ) -> Told<E>
     requires seat { WorksAt (switches L.start) seat.old.worker side s }
-    requires name { E.named end ≡ present_name (switches L.start) s run.old.held.journal }
-    requires stream { TellsWhereKnown (E.received end) k bytes.now }
+    requires name { E.named received.end ≡ present_name (switches L.start) s run.old.held.journal }
+    requires stream { TellsWhereKnown (E.received received.end) received.k received.bytes.now }
     ensures seat { IsUnmoved seat.old.worker seat.new.worker seat.old.share.parts seat.new.share.parts }
-    ensures answer { TellsNow seat.old.worker side s bytes.now k end run.old run.new result }
-    ensures back { GivesBack end result }
+    ensures answer { TellsNow seat.old.worker side s received.entry.bytes.now received.entry.k received.entry.end
+        run.old run.new result }
+    ensures back { GivesBack received.entry.end result }
 {
-    if run.world().is_front(s, side, bytes) {
-        receive_at(run, alloc, seat, side, s, end)
+    if run.world().is_front(s, side, received.bytes) {
+        receive_at(run, alloc, seat, side, s, received.end)
     } else {
-        refuse_at(run, alloc, seat, side, s, bytes, end, k)
+        refuse_at(run, alloc, seat, side, s, received)
     }
 }
 
@@ -75,8 +81,8 @@ fn receive_at<L: RunName, E: Link>(
                 made: Some(kind),
             }
         }
-        Err(StepFault::NotEnabled) => Told::Back { end, made: None },
-        Err(StepFault::Memory) => Told::Memory(end),
+        Err(StepError::Fault(StepFault::NotEnabled)) => Told::Back { end, made: None },
+        Err(StepError::Memory) => Told::Memory(end),
     }
 }
 
@@ -87,17 +93,17 @@ fn refuse_at<L: RunName, E: Link>(
     seat: &mut Seat<L>,
     side: Side,
     s: usize,
-    bytes: &[u8],
-    end: E,
-    k: u64,
+    received: Received<'_, E>,
 ) -> Told<E>
     requires seat { WorksAt (switches L.start) seat.old.worker side s }
-    requires name { E.named end ≡ present_name (switches L.start) s run.old.held.journal }
-    requires stream { TellsWhereKnown (E.received end) k bytes.now }
+    requires name { E.named received.end ≡ present_name (switches L.start) s run.old.held.journal }
+    requires stream { TellsWhereKnown (E.received received.end) received.k received.bytes.now }
     ensures seat { IsUnmoved seat.old.worker seat.new.worker seat.old.share.parts seat.new.share.parts }
-    ensures answer { TurnsAway seat.old.worker side s bytes.now k end run.old run.new result }
-    ensures back { GivesBack end result }
+    ensures answer { TurnsAway seat.old.worker side s received.entry.bytes.now received.entry.k received.entry.end
+        run.old run.new result }
+    ensures back { GivesBack received.entry.end result }
 {
+    let Received { bytes, end, k } = received;
     if run.told(side, s) != k {
         return Told::Back { end, made: None };
     }
@@ -106,8 +112,8 @@ fn refuse_at<L: RunName, E: Link>(
     };
     match run.cut(alloc, seat, Event::Foreign(s, side, got), end) {
         Ok(()) => Told::Kept,
-        Err(CutFault::NotEnabled(end)) => Told::Back { end, made: None },
-        Err(CutFault::Memory(end)) => Told::Memory(end),
+        Err(CutError::NotEnabled(end)) => Told::Back { end, made: None },
+        Err(CutError::Memory(end)) => Told::Memory(end),
     }
 }
 
@@ -137,7 +143,7 @@ pub(super) fn lose_at<L: RunName, E: Link>(
             run.drop_waiting(s);
             Told::Kept
         }
-        Err(CutFault::NotEnabled(end)) => Told::Back { end, made: None },
-        Err(CutFault::Memory(end)) => Told::Memory(end),
+        Err(CutError::NotEnabled(end)) => Told::Back { end, made: None },
+        Err(CutError::Memory(end)) => Told::Memory(end),
     }
 }

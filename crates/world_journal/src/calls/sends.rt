@@ -18,7 +18,7 @@ use outside_net::Link;
 use std::alloc::{AllocError, Global};
 use update_coordinator::Side;
 use worker_desk::{Given, Made, StepKind};
-use world_core::{ControllerEvent, Event, StepFault, SwitchEvent, World};
+use world_core::{ControllerEvent, Event, StepError, StepFault, SwitchEvent, World};
 
 // The same where the worker goes on over its end.
 pub(super) fn work_at<L: RunName, E: Link>(
@@ -102,20 +102,20 @@ fn advance<L: RunName, E: Link>(
             Event::Controller(ControllerEvent::Send(s)),
         ) {
             Ok(()) => Ok(Some(StepKind::Send)),
-            Err(StepFault::Memory) => Err(AllocError),
-            Err(StepFault::NotEnabled) => Ok(None),
+            Err(StepError::Memory) => Err(AllocError),
+            Err(StepError::Fault(StepFault::NotEnabled)) => Ok(None),
         },
         Side::Switch => match run.step(alloc, seat, Event::Switch(SwitchEvent::Apply(s, 0))) {
             Ok(()) => Ok(Some(StepKind::Apply)),
-            Err(StepFault::Memory) => Err(AllocError),
-            Err(StepFault::NotEnabled) => match run.step(
+            Err(StepError::Memory) => Err(AllocError),
+            Err(StepError::Fault(StepFault::NotEnabled)) => match run.step(
                 alloc,
                 seat,
                 Event::Switch(SwitchEvent::Reply(s)),
             ) {
                 Ok(()) => Ok(Some(StepKind::Reply)),
-                Err(StepFault::Memory) => Err(AllocError),
-                Err(StepFault::NotEnabled) => Ok(None),
+                Err(StepError::Memory) => Err(AllocError),
+                Err(StepError::Fault(StepFault::NotEnabled)) => Ok(None),
             },
         },
     }

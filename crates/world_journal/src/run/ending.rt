@@ -4,7 +4,7 @@
 ghost use Rattle.std.specs.Prelude.{◌≡◌, ◌↔◌, IfOk, IsTrue, true};
 ghost use Rattle.world_journal.specs.Arriving.{AreSpent, IsLast, IsSettled};
 
-use super::{Run, RunFault};
+use super::{Run, RunError};
 use crate::held::Held;
 use crate::name::RunName;
 use crate::seat::Seat;
@@ -48,7 +48,7 @@ impl<L: RunName, E: Link> Run<L, E> {
     }
 
     /// The journal, and the caller's seat with all parts again; nothing if the run was closed.
-    pub fn finish(self) -> Result<(Held<L, E>, Seat<L>), RunFault>
+    pub fn finish(self) -> Result<(Held<L, E>, Seat<L>), RunError>
         requires back { self.back ≡ L.all }
         requires all { (L.all ≡ L.parts) × (0 < L.all) }
         requires over { HasEnded L.lines self }
@@ -57,7 +57,7 @@ impl<L: RunName, E: Link> Run<L, E> {
         ensures steps { IfOk result (λ r. r.1.share.amount ≡ length r.0.journal) }
         ensures over { IfOk result (λ r. IsOver L.lines r.0.world) }
         ensures not_closed { IfOk result (λ _. self.closed ≡ false) }
-        ensures fault { IfErr result (λ f. (f ≡ RunFault.Memory) × (self.closed ≡ true)) }
+        ensures fault { IfErr result (λ f. (f ≡ RunError.Memory) × (self.closed ≡ true)) }
     {
         let Run {
             held,
@@ -77,7 +77,7 @@ impl<L: RunName, E: Link> Run<L, E> {
             back_ends: _back_ends,
         } = self;
         if closed {
-            return Err(RunFault::Memory);
+            return Err(RunError::Memory);
         }
         let mut held = held;
         let mut seat = Seat::whole(laid);

@@ -13,7 +13,7 @@ use crate::asks::lay_of;
 use crate::held::Held;
 use crate::name::RunName;
 use crate::poster::Poster;
-use crate::run::RunFault;
+use crate::run::RunError;
 use crate::seat::Seat;
 use crate::watched::Watched;
 use outside_net::Link;
@@ -68,14 +68,14 @@ impl<R: Wait + Drop, L: RunName, P: Poster, E: Link> RunDesk<R, L, P, E> {
     }
 
     /// Waits until all seats are back and the run is closed or over, and takes it out.
-    pub fn finish(&self) -> Result<(Held<L, E>, Seat<L>, P), RunFault>
+    pub fn finish(&self) -> Result<(Held<L, E>, Seat<L>, P), RunError>
         requires all { (L.all ≡ L.parts) × (0 < L.all) }
         ensures parts { IfOk result (λ r. (r.1.worker ≡ 0) × (r.1.share.parts ≡ L.parts)) }
         ensures steps { IfOk result (λ r. r.1.share.amount ≡ length r.0.journal) }
         ensures over { IfOk result (λ r. IsOver L.lines r.0.world) }
         ensures posts { IfOk result (λ r. ArePosts L.start (events_of r.0.journal) (P.posts r.2)) }
         ensures posted { IfOk result (λ r. IsPosted (events_of r.0.journal) (P.posts r.2)) }
-        ensures fault { IfErr result (λ f. f ≡ RunFault.Memory) }
+        ensures fault { IfErr result (λ f. f ≡ RunError.Memory) }
     {
         for _ in self.rt.forever() {
             let mut guard = self.lock();

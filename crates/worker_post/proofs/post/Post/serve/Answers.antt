@@ -1,5 +1,5 @@
 use Rattle.std.proofs.Common.{refl}
-use Rattle.worker_post.specs.declared.post.RoundEnd.TheVariants.{Shut, New, Stop, Memory, Kept}
+use Rattle.worker_post.specs.declared.post.CycleEnd.TheVariants.{Shut, New, Stop, Memory, Kept}
 use Rattle.worker_post.proofs.Noting.{notes-from}
 use Rattle.worker_post.proofs.Turning.{at-start, following-start}
 use Rattle.worker_post.proofs.post.Post.serve.Goals as goal
@@ -37,20 +37,20 @@ returns-in-Kept-clause-worked g c =
 
 pub returns-in-Shut-clause-noted : goal.returns-in-Shut-clause-noted
 returns-in-Shut-clause-noted g c =
-    notes-from (Unit {0}) g.D.End.Link.faults (g.D.Desk.kept c.turn.new.seat) (g.D.End.Link.named c.args.end) (g.D.End.Link.named c.loop.end) (g.D.End.Link.faults c.args.end) (g.D.End.Link.faults c.loop.end) (g.D.Desk.notices c.args.seat.now) (g.D.Desk.notices c.loop.seat) (g.D.Desk.notices c.turn.new.seat) (Shut c.in-Shut.e) c.loop.invariant.named c.loop.invariant.faults c.loop.invariant.notices c.in-Shut.ensures.noted
+    notes-from (Unit {0}) g.D.End.Link.faults (g.D.Desk.kept c.cycle.new.seat) (g.D.End.Link.named c.args.end) (g.D.End.Link.named c.loop.end) (g.D.End.Link.faults c.args.end) (g.D.End.Link.faults c.loop.end) (g.D.Desk.notices c.args.seat.now) (g.D.Desk.notices c.loop.seat) (g.D.Desk.notices c.cycle.new.seat) (Shut c.in-Shut.e) c.loop.invariant.named c.loop.invariant.faults c.loop.invariant.notices c.in-Shut.ensures.noted
 
 pub returns-in-New-clause-noted : goal.returns-in-New-clause-noted
 returns-in-New-clause-noted g c =
-    notes-from (Unit {0}) g.D.End.Link.faults (g.D.Desk.kept c.turn.new.seat) (g.D.End.Link.named c.args.end) (g.D.End.Link.named c.loop.end) (g.D.End.Link.faults c.args.end) (g.D.End.Link.faults c.loop.end) (g.D.Desk.notices c.args.seat.now) (g.D.Desk.notices c.loop.seat) (g.D.Desk.notices c.turn.new.seat) (New c.in-New.old c.in-New.new) c.loop.invariant.named c.loop.invariant.faults c.loop.invariant.notices c.in-New.ensures.noted
+    notes-from (Unit {0}) g.D.End.Link.faults (g.D.Desk.kept c.cycle.new.seat) (g.D.End.Link.named c.args.end) (g.D.End.Link.named c.loop.end) (g.D.End.Link.faults c.args.end) (g.D.End.Link.faults c.loop.end) (g.D.Desk.notices c.args.seat.now) (g.D.Desk.notices c.loop.seat) (g.D.Desk.notices c.cycle.new.seat) (New c.in-New.old c.in-New.new) c.loop.invariant.named c.loop.invariant.faults c.loop.invariant.notices c.in-New.ensures.noted
 
 pub returns-in-Stop-clause-noted : goal.returns-in-Stop-clause-noted
 returns-in-Stop-clause-noted g c =
-    notes-from (Unit {0}) g.D.End.Link.faults (g.D.Desk.kept c.turn.new.seat) (g.D.End.Link.named c.args.end) (g.D.End.Link.named c.loop.end) (g.D.End.Link.faults c.args.end) (g.D.End.Link.faults c.loop.end) (g.D.Desk.notices c.args.seat.now) (g.D.Desk.notices c.loop.seat) (g.D.Desk.notices c.turn.new.seat) (Stop c.in-Stop.e) c.loop.invariant.named c.loop.invariant.faults c.loop.invariant.notices c.in-Stop.ensures.noted
+    notes-from (Unit {0}) g.D.End.Link.faults (g.D.Desk.kept c.cycle.new.seat) (g.D.End.Link.named c.args.end) (g.D.End.Link.named c.loop.end) (g.D.End.Link.faults c.args.end) (g.D.End.Link.faults c.loop.end) (g.D.Desk.notices c.args.seat.now) (g.D.Desk.notices c.loop.seat) (g.D.Desk.notices c.cycle.new.seat) (Stop c.in-Stop.e) c.loop.invariant.named c.loop.invariant.faults c.loop.invariant.notices c.in-Stop.ensures.noted
 
 pub returns-in-Memory-clause-noted : goal.returns-in-Memory-clause-noted
 returns-in-Memory-clause-noted g c =
-    notes-from (Unit {0}) g.D.End.Link.faults (g.D.Desk.kept c.turn.new.seat) (g.D.End.Link.named c.args.end) (g.D.End.Link.named c.loop.end) (g.D.End.Link.faults c.args.end) (g.D.End.Link.faults c.loop.end) (g.D.Desk.notices c.args.seat.now) (g.D.Desk.notices c.loop.seat) (g.D.Desk.notices c.turn.new.seat) (Memory c.in-Memory.e) c.loop.invariant.named c.loop.invariant.faults c.loop.invariant.notices c.in-Memory.ensures.noted
+    notes-from (Unit {0}) g.D.End.Link.faults (g.D.Desk.kept c.cycle.new.seat) (g.D.End.Link.named c.args.end) (g.D.End.Link.named c.loop.end) (g.D.End.Link.faults c.args.end) (g.D.End.Link.faults c.loop.end) (g.D.Desk.notices c.args.seat.now) (g.D.Desk.notices c.loop.seat) (g.D.Desk.notices c.cycle.new.seat) (Memory c.in-Memory.e) c.loop.invariant.named c.loop.invariant.faults c.loop.invariant.notices c.in-Memory.ensures.noted
 
 pub returns-in-Kept-clause-noted : goal.returns-in-Kept-clause-noted
 returns-in-Kept-clause-noted g c =
-    notes-from (Unit {0}) g.D.End.Link.faults (g.D.Desk.kept c.turn.new.seat) (g.D.End.Link.named c.args.end) (g.D.End.Link.named c.loop.end) (g.D.End.Link.faults c.args.end) (g.D.End.Link.faults c.loop.end) (g.D.Desk.notices c.args.seat.now) (g.D.Desk.notices c.loop.seat) (g.D.Desk.notices c.turn.new.seat) (Kept) c.loop.invariant.named c.loop.invariant.faults c.loop.invariant.notices c.in-Kept.ensures.noted
+    notes-from (Unit {0}) g.D.End.Link.faults (g.D.Desk.kept c.cycle.new.seat) (g.D.End.Link.named c.args.end) (g.D.End.Link.named c.loop.end) (g.D.End.Link.faults c.args.end) (g.D.End.Link.faults c.loop.end) (g.D.Desk.notices c.args.seat.now) (g.D.Desk.notices c.loop.seat) (g.D.Desk.notices c.cycle.new.seat) (Kept) c.loop.invariant.named c.loop.invariant.faults c.loop.invariant.notices c.in-Kept.ensures.noted
