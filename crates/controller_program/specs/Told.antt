@@ -22,5 +22,6 @@ pub data AnswersWords {Q : Type 0} (Takes : Command → Type 0) (c : Called Q) (
   where
     by : (k : Command) → Takes k → Asks k c.words → AnswersTo k c r → (¬ (IsReader k) → IsSame c.source.faults) →
         AnswersWords Takes c r
-    none : ¬ (IsLine Takes c.words) → r ≡ Err (error.Fault fault.Usage) → IsSame c.source.faults → AnswersWords Takes c r
+    none : ¬ (IsLine Takes c.words) → r ≡ Err (error.Fault fault.Usage) → IsSame c.source.faults →
+        AnswersWords Takes c r
     memory : r ≡ Err error.Memory → IsSame c.source.faults → AnswersWords Takes c r

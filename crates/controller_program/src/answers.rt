@@ -19,11 +19,11 @@ use outside_net::{Net, Reporter, Spawner};
 use plain_commands::{generate_answer, rules_answer, simulate_answer, trace_answer};
 use program_answer::{Answer, AnswerError};
 use std::alloc::Global;
-use std::sync::{Arc, Wait};
+use std::sync::Wait;
 use std::time::Clock;
 use thread_commands::{Onlooker, run_answer, watch_answer};
 use value_text::Fault;
-use worker_desk::Gate;
+use worker_desk::{Gate, Host};
 
 /// What words come to without links and threads: those that ask for a command that needs them are no command line.
 pub fn plain_answer<S: Source>(
@@ -49,17 +49,14 @@ pub fn any_answer<
     R: Wait + Clock + Clone + Drop + Send + 'static,
     S: Source,
     N: Net,
-    G: Gate + Onlooker + Send + Sync + 'static,
     T: Spawner,
+    G: Gate + Onlooker + Send + Sync + 'static,
     Q: Reporter,
 >(
-    rt: &R,
     alloc: Global,
     words: &[String],
     source: &mut S,
-    net: &mut N,
-    threads: &mut T,
-    gate: Arc<G>,
+    host: &mut Host<R, N, T, G>,
     reporter: &mut Q,
 ) -> Result<Answer, AnswerError>
 where
@@ -67,21 +64,20 @@ where
     Q::Receipt: Send + 'static,
     ensures answers { (sink : SinkSeen) →
         AnswersWords IsAny (called words.now (source_of S.left S.faults source.old source.new) sink
-        (net_of N.faults N.broken N.gathered net.old net.new) (change T.faults threads.old threads.new)
+        (net_of N.faults N.broken N.gathered host.old.net host.new.net)
+        (change T.faults host.old.threads host.new.threads)
         (reporter_of Q.Receipt.stamped (change Q.faults reporter.old reporter.new))) result }
     ensures at_most { TakesAtMost 4194305 (S.left source.old) (S.left source.new) }
     ensures untouched { ¬ (ReadsFrom IsAny words.now) → source.new ≡ source.old }
-    ensures untouched_net { ¬ (IsLine IsThreaded words.now) → net.new ≡ net.old }
-    ensures untouched_threads { ¬ (IsLine IsThreaded words.now) → threads.new ≡ threads.old }
+    ensures untouched_net { ¬ (IsLine IsThreaded words.now) → host.new.net ≡ host.old.net }
+    ensures untouched_threads { ¬ (IsLine IsThreaded words.now) → host.new.threads ≡ host.old.threads }
     ensures untouched_reporter { ¬ (IsLine IsReported words.now) → reporter.new ≡ reporter.old }
 {
     match asked(alloc, words) {
         Ok(Some(command)) => match command {
-            Command::Run => run_answer(rt, alloc, source, net, threads, gate),
-            Command::Watch => watch_answer(rt, alloc, source, net, threads, gate),
-            Command::Drive(first) => {
-                drive_answer(rt, alloc, source, first, net, threads, gate, reporter)
-            }
+            Command::Run => run_answer(alloc, source, host),
+            Command::Watch => watch_answer(alloc, source, host),
+            Command::Drive(first) => drive_answer(alloc, source, first, host, reporter),
             _ => command_answer(alloc, command, source),
         },
         Ok(None) => Err(AnswerError::Fault(Fault::Usage)),

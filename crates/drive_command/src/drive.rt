@@ -15,13 +15,13 @@ use crate::beginning::begin;
 use document_text::DeclaredSwitch;
 use drive_journal::{Steering, starts_halt_at_loss};
 use drive_text::drive_text;
-use drive_workers::{DriveFault, Gate, Onlooker, drive_over};
+use drive_workers::{DriveError, DriveFault, Gate, Host, Onlooker, drive_over};
 use outside_io::Source;
 use outside_net::{Net, Reporter, Spawner};
 use policy_rows::Version;
 use program_answer::{Answer, AnswerError, Fault, ReadyDocument, Status, read_input};
 use std::alloc::{AllocError, Global};
-use std::sync::{Arc, Wait};
+use std::sync::Wait;
 use std::time::Clock;
 use update_coordinator::Coordinator;
 
@@ -38,13 +38,10 @@ pub fn drive_answer<
     G: Gate + Onlooker + Send + Sync + 'static,
     Q: Reporter,
 >(
-    rt: &R,
     alloc: Global,
     source: &mut S,
     first: u16,
-    net: &mut N,
-    threads: &mut T,
-    gate: Arc<G>,
+    host: &mut Host<R, N, T, G>,
     reporter: &mut Q,
 ) -> Result<Answer, AnswerError>
 where
@@ -52,24 +49,14 @@ where
     Q::Receipt: Send + 'static,
     ensures answer { IfOk result
         (λ a. IsDriveAnswer Q.Receipt.stamped (source_of S.left S.faults source.old source.new)
-        (change N.broken net.old net.new) a.status a.text) }
+        (change N.broken host.old.net host.new.net) a.status a.text) }
     ensures stops { IfErr result
-        (DriveStops (source_of S.left S.faults source.old source.new) (change N.faults net.old net.new)
-        (change T.faults threads.old threads.new) (change Q.faults reporter.old reporter.new)) }
+        (DriveStops (source_of S.left S.faults source.old source.new) (change N.faults host.old.net host.new.net)
+        (change T.faults host.old.threads host.new.threads) (change Q.faults reporter.old reporter.new)) }
     ensures at_most { TakesAtMost 4194305 (S.left source.old) (S.left source.new) }
 {
     let input = read_input(alloc, source)?;
-    drive_document(
-        rt,
-        alloc,
-        input.document,
-        input.versions,
-        first,
-        net,
-        threads,
-        gate,
-        reporter,
-    )
+    drive_document(alloc, input.document, input.versions, first, host, reporter)
 }
 
 // Drives the switches of a document through all of its policies, and reports the journal.
@@ -80,14 +67,11 @@ fn drive_document<
     G: Gate + Onlooker + Send + Sync + 'static,
     Q: Reporter,
 >(
-    rt: &R,
     alloc: Global,
     document: ReadyDocument,
     versions: Vec<Version>,
     first: u16,
-    net: &mut N,
-    threads: &mut T,
-    gate: Arc<G>,
+    host: &mut Host<R, N, T, G>,
     reporter: &mut Q,
 ) -> Result<Answer, AnswerError>
 where
@@ -96,23 +80,23 @@ where
     requires sound { IsSound (doc_of document) }
     requires versions { AreVersions document.topology document.settings 0 (policies_of document) versions.items }
     ensures driven { IfOk result
-        (IsDrivenAs Q.Receipt.stamped (change N.broken net.old net.new) (doc_of document) versions.items) }
+        (IsDrivenAs Q.Receipt.stamped (change N.broken host.old.net host.new.net) (doc_of document) versions.items) }
     ensures cut { IfErr result
-        (TellsDriveCut (change N.faults net.old net.new) (change T.faults threads.old threads.new)
+        (TellsDriveCut (change N.faults host.old.net host.new.net) (change T.faults host.old.threads host.new.threads)
         (change Q.faults reporter.old reporter.new)) }
 {
     let topology = document.into_parts().topology;
     starts_halt_at_loss();
     let coordinator = begin(alloc, &topology, versions)?;
-    match drive_over(rt, alloc, coordinator, first, net, reporter, threads, gate) {
+    match drive_over(alloc, coordinator, first, host, reporter) {
         Ok((coordinator, journal)) => {
             let answer = report(alloc, topology.switches(), &coordinator, &journal)?;
             Ok(answer)
         }
-        Err(DriveFault::Net) => Err(AnswerError::Fault(Fault::Net)),
-        Err(DriveFault::NoThread) => Err(AnswerError::Fault(Fault::NoThread)),
-        Err(DriveFault::Report) => Err(AnswerError::Fault(Fault::Report)),
-        Err(DriveFault::Memory) => Err(AnswerError::Memory),
+        Err(DriveError::Fault(DriveFault::Net)) => Err(AnswerError::Fault(Fault::Net)),
+        Err(DriveError::Fault(DriveFault::NoThread)) => Err(AnswerError::Fault(Fault::NoThread)),
+        Err(DriveError::Fault(DriveFault::Report)) => Err(AnswerError::Fault(Fault::Report)),
+        Err(DriveError::Memory) => Err(AnswerError::Memory),
     }
 }
 

@@ -8,6 +8,7 @@ use Rattle.fdd_compile.specs.Named.{AreFewNamed, TermNames}
 use Rattle.table_emitter.specs.Emission.{IsEmitFault}
 use Rattle.embed_example.specs.declared.policy.PolicyError.{PolicyError}
 use Rattle.embed_example.specs.declared.policy.PolicyError.TheVariants as error
+use Rattle.embed_example.specs.declared.policy.PolicyFault.TheVariants as fault
 
 -- a compiled policy has no rows in a topology, with the stamp 1
 pub record HasNoRows (t : Layout) (p : Term) (f : EmitFault) : Type 0 where
@@ -17,7 +18,7 @@ pub record HasNoRows (t : Layout) (p : Term) (f : EmitFault) : Type 0 where
 
 -- the reason holds of the policy
 abbrev pub IsReason : Layout → Term → PolicyError → Type 0
-IsReason t p error.ManyNames = ¬ (AreFewNamed (TermNames p))
-IsReason t p (error.Compile f) = IsFaultOf p f
-IsReason t p (error.Emit f) = HasNoRows t p f
+IsReason t p (error.Fault fault.ManyNames) = ¬ (AreFewNamed (TermNames p))
+IsReason t p (error.Fault (fault.Compile f)) = IsFaultOf p f
+IsReason t p (error.Fault (fault.Emit f)) = HasNoRows t p f
 IsReason t p error.Memory = Unit {0}

@@ -8,7 +8,7 @@ mod adding;
 mod policy;
 
 use crate::adding::additions;
-use crate::policy::{PolicyError, version};
+use crate::policy::{PolicyError, PolicyFault, version};
 use document_text::{DocumentError, read_document};
 use nk_syntax::Pol;
 use std::alloc::{AllocError, Global};
@@ -41,9 +41,17 @@ fn answer(alloc: Global, text: &[u8]) -> Result<String, AllocError> {
 fn policy_answer(alloc: Global, pol: &Pol, topology: &Topology) -> Result<String, AllocError> {
     match version(alloc, pol, topology) {
         Ok(version) => format!(in alloc; "policy\n{}", additions(alloc, &version.rows)?),
-        Err(PolicyError::ManyNames) => format!(in alloc; "policy refused: too many values\n"),
-        Err(PolicyError::Compile(fault)) => format!(in alloc; "policy refused: {}\n", fault.name()),
-        Err(PolicyError::Emit(fault)) => format!(in alloc; "policy refused: {}\n", fault.name()),
+        Err(PolicyError::Fault(PolicyFault::ManyNames)) => format!(in alloc;
+            "policy refused: too many values\n"
+        ),
+        Err(PolicyError::Fault(PolicyFault::Compile(fault))) => format!(in alloc;
+            "policy refused: {}\n",
+            fault.name()
+        ),
+        Err(PolicyError::Fault(PolicyFault::Emit(fault))) => format!(in alloc;
+            "policy refused: {}\n",
+            fault.name()
+        ),
         Err(PolicyError::Memory) => Err(AllocError),
     }
 }

@@ -13,21 +13,32 @@ use nk_values::{Band, CompileFault, EmitFault};
 use policy_rows::{Intent, Version};
 use std::alloc::{AllocError, Global};
 use table_emitter::{EmitError, emit};
+use thiserror::Error;
 use topology_model::Topology;
 
 // The tag that packets carry between switches.
 const STAMP: u16 = 1;
 
 /// Why a policy has no rows.
-#[derive(Drop)]
-pub enum PolicyError {
+#[derive(Clone, Copy, Debug, PartialEq, Eq, Error)]
+pub enum PolicyFault {
     /// It names more than 2,000 values.
+    #[error("the policy names too many values")]
     ManyNames,
     /// It is not compiled.
+    #[error("{0}")]
     Compile(CompileFault),
     /// It has a diagram, and no rows in this topology.
+    #[error("{0}")]
     Emit(EmitFault),
-    /// out of memory.
+}
+
+/// A policy has no rows, or memory ran out.
+#[derive(Clone, Copy, Debug, PartialEq, Eq, Error)]
+pub enum PolicyError {
+    #[error("{0}")]
+    Fault(PolicyFault),
+    #[error("out of memory")]
     Memory,
 }
 
@@ -50,11 +61,13 @@ pub fn version(alloc: Global, pol: &Pol, topology: &Topology) -> Result<Version,
     ensures reason { IfErr result (IsReason topology.now (term_of pol.now)) }
 {
     if !names_few(alloc, pol)? {
-        return Err(PolicyError::ManyNames);
+        return Err(PolicyError::Fault(PolicyFault::ManyNames));
     }
     let compiled = match compile(alloc, pol) {
         Ok(compiled) => compiled,
-        Err(CompileError::Fault(fault)) => return Err(PolicyError::Compile(fault)),
+        Err(CompileError::Fault(fault)) => return Err(PolicyError::Fault(PolicyFault::Compile(
+            fault,
+        ))),
         Err(CompileError::Memory) => return Err(PolicyError::Memory),
     };
     match emit(
@@ -66,7 +79,7 @@ pub fn version(alloc: Global, pol: &Pol, topology: &Topology) -> Result<Version,
         Band::High,
     ) {
         Ok(version) => Ok(version),
-        Err(EmitError::Fault(fault)) => Err(PolicyError::Emit(fault)),
+        Err(EmitError::Fault(fault)) => Err(PolicyError::Fault(PolicyFault::Emit(fault))),
         Err(EmitError::Memory) => Err(PolicyError::Memory),
     }
 }

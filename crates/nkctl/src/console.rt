@@ -29,7 +29,7 @@ impl<R> Console<R> {
 }
 
 impl<R: Drop> Gate for Console<R> {
-    fn pass(&self, _worker: usize, _place: Moment) {}
+    fn pass(&self, _worker: usize, _moment: Moment) {}
 
     fn is_open(&self) -> bool {
         true

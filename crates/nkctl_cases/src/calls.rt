@@ -10,6 +10,7 @@ use std::str;
 use std::sync::{Arc, Wait};
 use std::thread::Threads;
 use std::time::Clock;
+use worker_desk::Host;
 
 /// How a call ended, and what it wrote.
 #[derive(Drop)]
@@ -89,19 +90,20 @@ pub fn call<R: Wait + Clock + Threads + Copy + Clone + Drop + Send + Sync + 'sta
         links,
     } = failing;
     let mut source = source_of(alloc, document, piece, reads)?;
-    let mut net = MemoryNet::new(alloc, rt, pairs, links)?;
     let mut sink = MemorySink::new(alloc, piece, writes);
-    let mut threads = RefusingSpawner::new(ThreadSpawner::new(alloc, rt), threads);
+    let mut host = Host {
+        rt,
+        net: MemoryNet::new(alloc, rt, pairs, links)?,
+        threads: RefusingSpawner::new(ThreadSpawner::new(alloc, rt), threads),
+        gate,
+    };
     let mut reporter = MemoryReporter::new(0, Vec::new(alloc));
     let status = nkctl(
-        &rt,
         alloc,
         words,
         &mut source,
         &mut sink,
-        &mut net,
-        &mut threads,
-        gate,
+        &mut host,
         &mut reporter,
     );
     written(alloc, status, &sink)

@@ -61,9 +61,9 @@ impl<R: Wait> Holding<R> {
     }
 
     // Whether this is where the worker is to be held, for the first time.
-    fn begins(&self, hold: Hold, worker: usize, place: Moment) -> bool {
+    fn begins(&self, hold: Hold, worker: usize, moment: Moment) -> bool {
         let mut seen = self.seen.lock(&self.rt);
-        let here = worker == hold.after.worker && place == Moment::Before(hold.before);
+        let here = worker == hold.after.worker && moment == Moment::Before(hold.before);
         if !here || seen.held || seen.own < hold.after.times {
             return false;
         }
@@ -72,13 +72,13 @@ impl<R: Wait> Holding<R> {
     }
 
     // Counts a step.
-    fn count(&self, hold: Hold, worker: usize, place: Moment) {
+    fn count(&self, hold: Hold, worker: usize, moment: Moment) {
         let mut seen = self.seen.lock(&self.rt);
         let Hold { after, until, .. } = hold;
-        if worker == after.worker && place == Moment::After(after.kind) {
+        if worker == after.worker && moment == Moment::After(after.kind) {
             seen.own = seen.own.saturating_add(1);
         }
-        if worker == until.worker && place == Moment::After(until.kind) {
+        if worker == until.worker && moment == Moment::After(until.kind) {
             seen.other = seen.other.saturating_add(1);
         }
     }
@@ -87,12 +87,12 @@ impl<R: Wait> Holding<R> {
 impl<R: Wait + Drop> Onlooker for Holding<R> {}
 
 impl<R: Wait + Drop> Gate for Holding<R> {
-    fn pass(&self, worker: usize, place: Moment) {
+    fn pass(&self, worker: usize, moment: Moment) {
         let Some(hold) = self.hold else {
             return;
         };
-        self.count(hold, worker, place);
-        if !self.begins(hold, worker, place) {
+        self.count(hold, worker, moment);
+        if !self.begins(hold, worker, moment) {
             return;
         }
         for _ in 0..10_000_000u32 {

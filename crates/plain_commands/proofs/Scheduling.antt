@@ -12,10 +12,16 @@ use Rattle.world_core.specs.declared.event.Event.TheVariants as event
 use Rattle.world_core.specs.declared.event.ControllerEvent.TheVariants as of_controller
 use Rattle.world_core.specs.declared.event.PacketEvent.TheVariants as of_packet
 use Rattle.world_core.specs.declared.event.SwitchEvent.TheVariants as of_switch
+use Rattle.world_core.specs.declared.fault.StepFault.{StepFault}
+use Rattle.world_core.specs.declared.fault.StepFault.TheVariants.{NotEnabled}
 use Rattle.world_core.specs.Worlds.{WorldValue}
 use Rattle.world_core.specs.Steps.{IsEnabled, Step, Runs}
 use Rattle.world_core.specs.Settling.{Followed, settling, flowing}
 use Rattle.plain_commands.specs.Schedules.{event_of, CannotHappen, DoesOne, Does, CarriedOut, StopsAt}
+
+-- a step has one fault
+pub only-fault : (f : StepFault) → f ≡ NotEnabled
+only-fault NotEnabled = refl
 
 -- no event changes the topology
 pub step-topology : (w : WorldValue) (e : Event) (v : WorldValue) → Step w e v → v.topology ≡ w.topology

@@ -3,7 +3,6 @@
 //! Layer: the program; private. Called by `outcome`.
 ghost use Rattle.std.specs.Prelude.{◌≡◌, ◌++◌, ◌-◌, [], List, Err, IfOk, IfErr, OnOk, option_map, slice_get};
 ghost use Rattle.world_core.specs.declared.event.Event.{Event as EventValue};
-ghost use Rattle.world_core.specs.declared.fault.StepFault.TheVariants as faults;
 ghost use Rattle.plain_commands.specs.Schedules.{arrive, event_of, CannotHappen, CarriedOut, Does};
 ghost use Rattle.plain_commands.specs.Told.{TellsStop};
 
@@ -12,7 +11,9 @@ use program_answer::AnswerError;
 use report_text::Fault;
 use std::alloc::{AllocError, Global};
 use topology_model::Topology;
-use world_core::{ControllerEvent, Event, Events, PacketEvent, StepFault, SwitchEvent, World};
+use world_core::{
+    ControllerEvent, Event, Events, PacketEvent, StepError, StepFault, SwitchEvent, World,
+};
 
 /// Carries out a schedule line by line, and gives the events that were done; or the first line whose event cannot
 /// happen.
@@ -30,10 +31,10 @@ pub fn carry_out(
     for line in schedule {
         match carry(alloc, world, packets, line.event, &mut events) {
             Ok(()) => {}
-            Err(StepFault::NotEnabled) => {
+            Err(StepError::Fault(StepFault::NotEnabled)) => {
                 return Err(AnswerError::Fault(Fault::NotEnabled { line: line.line }));
             }
-            Err(StepFault::Memory) => return Err(AnswerError::Memory),
+            Err(StepError::Memory) => return Err(AnswerError::Memory),
         }
     }
     Ok(events)
@@ -46,12 +47,12 @@ fn carry(
     packets: &[PacketLine],
     order: ScheduleStep,
     events: &mut Events,
-) -> Result<(), StepFault>
+) -> Result<(), StepError>
     ensures done { OnOk result
         ((more : List EventValue) × Does world.old.topology.switches packets.now order world.old more world.new ×
         (events.new.items ≡ events.old.items ++ more)) }
     ensures topology { OnOk result (world.new.topology ≡ world.old.topology) }
-    ensures refused { result ≡ Err faults.NotEnabled →
+    ensures refused { result ≡ Err (StepError.Fault StepFault.NotEnabled) →
         CannotHappen world.old.topology.switches packets.now order world.old }
 {
     match order {
@@ -60,7 +61,7 @@ fn carry(
         _ => {
             let named = event_of(alloc, world.topology(), packets, order)?;
             let Some(event) = named else {
-                return Err(StepFault::NotEnabled);
+                return Err(StepError::Fault(StepFault::NotEnabled));
             };
             events.reserve()?;
             world.step(alloc, &event)?;

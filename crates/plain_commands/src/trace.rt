@@ -68,7 +68,8 @@ fn put_policy(
     requires sound { IsSound (doc_of document.now) }
     requires means { (p : Term) × RowsMean rows.now p document.now.topology }
     ensures { (p : Term) → RowsMean rows.now p document.now.topology →
-        OnOk result (AddsText (IsTracedPolicyText (doc_of document.now) policy p) (string_bytes out.old) (string_bytes out.new)) }
+        OnOk result (AddsText (IsTracedPolicyText (doc_of document.now) policy p) (string_bytes out.old)
+        (string_bytes out.new)) }
 {
     put_policy_line(out, policy)?;
     let ordered = OrderedRows::new(alloc, rows)?;
@@ -85,7 +86,8 @@ fn put_packets(
     requires sound { IsSound (doc_of document.now) }
     requires means { (p : Term) × RowsMean rows.now p document.now.topology }
     ensures { (p : Term) → RowsMean rows.now p document.now.topology →
-        OnOk result (AddsText (AreTexts (IsPacketLineText (doc_of document.now) p) 0 document.now.packets.items) (string_bytes out.old) (string_bytes out.new)) }
+        OnOk result (AddsText (AreTexts (IsPacketLineText (doc_of document.now) p) 0 document.now.packets.items)
+        (string_bytes out.old) (string_bytes out.new)) }
 {
     for (before, line) in document.packets().iter().enumerate() {
         let walk = walk_of(alloc, document, rows, line)?;

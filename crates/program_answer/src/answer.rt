@@ -4,6 +4,7 @@
 use crate::status::Status;
 use report_text::{Fault, Text};
 use std::alloc::{AllocError, AllocFailed};
+use thiserror::Error;
 
 /// A report, and how the call ends once it is written: `Done` or `Halted`.
 #[derive(Debug, Drop)]
@@ -13,11 +14,13 @@ pub struct Answer {
 }
 
 /// Why a command has no report.
-#[derive(Clone, Copy, Debug, PartialEq, Eq)]
+#[derive(Clone, Copy, Debug, PartialEq, Eq, Error)]
 pub enum AnswerError {
     /// A fault, whose line is written in place of the report.
+    #[error("{0}")]
     Fault(Fault),
     /// Out of memory: nothing is written.
+    #[error("out of memory")]
     Memory,
 }
 

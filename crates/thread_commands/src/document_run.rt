@@ -14,18 +14,18 @@ ghost use Rattle.thread_commands.specs.Watch.{IsSeenAnswer};
 
 use crate::kept::{events_of, take_back};
 use document_text::PacketLine;
-use fleet_workers::{Lookout, Onlooker, Post, make_pairs, run_world};
-use outside_net::{Net, NetFault, Spawner};
+use fleet_workers::{Lookout, Onlooker, Post, RunStart, make_pairs, run_world};
+use outside_net::{Net, NetError, NetFault, Spawner};
 use policy_rows::Version;
 use program_answer::{Answer, AnswerError, Parts, ReadyDocument, world_answer, world_settings};
 use std::alloc::{AllocError, Global};
-use std::sync::{Arc, Wait};
+use std::sync::Wait;
 use std::time::Clock;
 use value_text::Fault;
 use watch_text::watch_text;
-use worker_desk::Gate;
+use worker_desk::{Gate, Host};
 use world_core::{Events, World, halts_stay, losses_count};
-use world_journal::{Line, RunFault};
+use world_journal::{Line, RunError, RunFault};
 
 // What a run came to: its world, the events that led to it, and what was seen of it.
 #[derive(Drop)]
@@ -62,28 +62,26 @@ impl DocumentRun {
 pub(crate) fn run_document<
     R: Wait + Clock + Clone + Drop + Send + 'static,
     N: Net,
-    G: Gate + Onlooker + Send + Sync + 'static,
     T: Spawner,
+    G: Gate + Onlooker + Send + Sync + 'static,
 >(
-    rt: &R,
     alloc: Global,
     document: ReadyDocument,
     versions: Vec<Version>,
     watched: bool,
-    net: &mut N,
-    threads: &mut T,
-    gate: Arc<G>,
+    host: &mut Host<R, N, T, G>,
 ) -> Result<DocumentRun, AnswerError>
 where
     N::End: 'static,
     requires sound { IsSound (doc_of document) }
     requires versions { AreVersions document.topology document.settings 0 (policies_of document) versions.items }
     ensures ran { IfOk result
-        (λ r. IsRunBy r.events.items r.world (net_of N.faults N.broken N.gathered net.old net.new) (doc_of document)
-        versions.items) }
+        (λ r. IsRunBy r.events.items r.world (net_of N.faults N.broken N.gathered host.old.net host.new.net)
+        (doc_of document) versions.items) }
     ensures seen { IfOk result
         (λ r. IsWatched (start_of (doc_of document) versions.items) r.events.items r.seen.items) }
-    ensures cut { IfErr result (TellsCut (change N.faults net.old net.new) (change T.faults threads.old threads.new)) }
+    ensures cut { IfErr result
+        (TellsCut (change N.faults host.old.net host.new.net) (change T.faults host.old.threads host.new.threads)) }
 {
     let Parts {
         topology,
@@ -98,25 +96,30 @@ where
         keeps: watched,
     };
     let world = World::start(alloc, versions, topology, world_settings(settings))?;
-    let ends = match make_pairs(alloc, net, count) {
+    let ends = match make_pairs(alloc, &mut host.net, count) {
         Ok(ends) => ends,
-        Err(NetFault::Broken) => return Err(AnswerError::Fault(Fault::Net)),
-        Err(NetFault::Memory) => return Err(AnswerError::Memory),
+        Err(NetError::Fault(NetFault::Broken)) => return Err(AnswerError::Fault(Fault::Net)),
+        Err(NetError::Memory) => return Err(AnswerError::Memory),
     };
     losses_count();
     halts_stay();
-    match run_world(rt, alloc, world, lines, lookout, ends, threads, gate, net) {
+    let start = RunStart {
+        world,
+        lines,
+        lookout,
+    };
+    match run_world(alloc, start, ends, host) {
         Ok(record) => {
-            take_back(net, record.kept);
+            take_back(&mut host.net, record.kept);
             Ok(DocumentRun {
                 world: record.world,
                 events: events_of(alloc, record.journal)?,
                 seen: record.seen,
             })
         }
-        Err(RunFault::NoThread) => Err(AnswerError::Fault(Fault::NoThread)),
-        Err(RunFault::NetFault) => Err(AnswerError::Fault(Fault::Net)),
-        Err(RunFault::Memory) => Err(AnswerError::Memory),
+        Err(RunError::Fault(RunFault::NoThread)) => Err(AnswerError::Fault(Fault::NoThread)),
+        Err(RunError::Fault(RunFault::NetFault)) => Err(AnswerError::Fault(Fault::Net)),
+        Err(RunError::Memory) => Err(AnswerError::Memory),
     }
 }
 

@@ -19,7 +19,7 @@ returns-in-Run-clause-answers g c = λ sink.
     let R = g.Q.Reporter in
     let asks : Asks c.in-Ok-Some.command c.args.words.now = search rules in
     let run = subst (λ (k : Command). Asks k c.args.words.now) c.in-Run.is asks in
-    let this = called c.args.words.now (source_of S.left S.faults c.args.source.now c.run_answer.new.source) sink (net_of N.faults N.broken N.gathered c.args.net.now c.run_answer.new.net) (change g.T.Spawner.faults c.args.threads.now c.run_answer.new.threads) (reporter_of g.Q.Receipt.Receipt.stamped (change R.faults c.args.reporter.now c.args.reporter.now)) in
+    let this = called c.args.words.now (source_of S.left S.faults c.args.source.now c.run_answer.new.source) sink (net_of N.faults N.broken N.gathered c.args.host.now.net c.run_answer.new.host.net) (change g.T.Spawner.faults c.args.host.now.threads c.run_answer.new.host.threads) (reporter_of g.Q.Receipt.Receipt.stamped (change R.faults c.args.reporter.now c.args.reporter.now)) in
     run_by this c.run_answer.result run (to_run this c.run_answer.result c.run_answer.ensures.answer c.run_answer.ensures.stops)
 
 pub returns-in-Run-clause-untouched : goal.returns-in-Run-clause-untouched
@@ -46,7 +46,7 @@ returns-in-Watch-clause-answers g c = λ sink.
     let R = g.Q.Reporter in
     let asks : Asks c.in-Ok-Some.command c.args.words.now = search rules in
     let watch = subst (λ (k : Command). Asks k c.args.words.now) c.in-Watch.is asks in
-    let this = called c.args.words.now (source_of S.left S.faults c.args.source.now c.watch_answer.new.source) sink (net_of N.faults N.broken N.gathered c.args.net.now c.watch_answer.new.net) (change g.T.Spawner.faults c.args.threads.now c.watch_answer.new.threads) (reporter_of g.Q.Receipt.Receipt.stamped (change R.faults c.args.reporter.now c.args.reporter.now)) in
+    let this = called c.args.words.now (source_of S.left S.faults c.args.source.now c.watch_answer.new.source) sink (net_of N.faults N.broken N.gathered c.args.host.now.net c.watch_answer.new.host.net) (change g.T.Spawner.faults c.args.host.now.threads c.watch_answer.new.host.threads) (reporter_of g.Q.Receipt.Receipt.stamped (change R.faults c.args.reporter.now c.args.reporter.now)) in
     watch_by this c.watch_answer.result watch (to_watch this c.watch_answer.result c.watch_answer.ensures.answer c.watch_answer.ensures.stops)
 
 pub returns-in-Watch-clause-untouched : goal.returns-in-Watch-clause-untouched
@@ -73,7 +73,7 @@ returns-in-Drive-clause-answers g c = λ sink.
     let R = g.Q.Reporter in
     let asks : Asks c.in-Ok-Some.command c.args.words.now = search rules in
     let drive = subst (λ (k : Command). Asks k c.args.words.now) c.in-Drive.is asks in
-    let this = called c.args.words.now (source_of S.left S.faults c.args.source.now c.drive_answer.new.source) sink (net_of N.faults N.broken N.gathered c.args.net.now c.drive_answer.new.net) (change g.T.Spawner.faults c.args.threads.now c.drive_answer.new.threads) (reporter_of g.Q.Receipt.Receipt.stamped (change R.faults c.args.reporter.now c.drive_answer.new.reporter)) in
+    let this = called c.args.words.now (source_of S.left S.faults c.args.source.now c.drive_answer.new.source) sink (net_of N.faults N.broken N.gathered c.args.host.now.net c.drive_answer.new.host.net) (change g.T.Spawner.faults c.args.host.now.threads c.drive_answer.new.host.threads) (reporter_of g.Q.Receipt.Receipt.stamped (change R.faults c.args.reporter.now c.drive_answer.new.reporter)) in
     drive_by c.in-Drive.first this c.drive_answer.result drive (to_drive c.in-Drive.first this c.drive_answer.result c.drive_answer.ensures.answer c.drive_answer.ensures.stops)
 
 pub returns-in-Drive-clause-untouched : goal.returns-in-Drive-clause-untouched
@@ -104,7 +104,7 @@ returns-in_default-clause-answers g c = λ sink.
     let N = g.N.Net in
     let R = g.Q.Reporter in
     let asks : Asks c.in-Ok-Some.command c.args.words.now = search rules in
-    let this = called c.args.words.now (source_of S.left S.faults c.args.source.now c.command_answer.new.source) sink (net_of N.faults N.broken N.gathered c.args.net.now c.args.net.now) (change g.T.Spawner.faults c.args.threads.now c.args.threads.now) (reporter_of g.Q.Receipt.Receipt.stamped (change R.faults c.args.reporter.now c.args.reporter.now)) in
+    let this = called c.args.words.now (source_of S.left S.faults c.args.source.now c.command_answer.new.source) sink (net_of N.faults N.broken N.gathered c.args.host.now.net c.args.host.now.net) (change g.T.Spawner.faults c.args.host.now.threads c.args.host.now.threads) (reporter_of g.Q.Receipt.Receipt.stamped (change R.faults c.args.reporter.now c.args.reporter.now)) in
     let alone = called c.args.words.now this.source sink no_net still no_reporter in
     other_by c.in-Ok-Some.command this c.command_answer.result c.in_default.not-Run c.in_default.not-Watch c.in_default.not-Drive asks (λ t. same_source c.in-Ok-Some.command alone this c.command_answer.result t refl (c.command_answer.ensures.answers t alone refl)) (λ n. ap S.faults (c.command_answer.ensures.untouched n))
 

@@ -21,4 +21,4 @@ returns-clause-call g c =
     let N = g.N.Net in
     let R = g.Q.Reporter in
     let sink = sink_of K.written K.faults c.args.sink.now c.say.new.sink in
-    is_call IsAny (called c.args.words.now (source_of S.left S.faults c.args.source.now c.any_answer-answer.new.source) sink (net_of N.faults N.broken N.gathered c.args.net.now c.any_answer-answer.new.net) (change g.T.Spawner.faults c.args.threads.now c.any_answer-answer.new.threads) (reporter_of g.Q.Receipt.Receipt.stamped (change R.faults c.args.reporter.now c.any_answer-answer.new.reporter))) c.any_answer-answer.result c.say.result (c.any_answer-answer.ensures.answers sink) c.any_answer-answer.ensures.at_most c.say.ensures.said
+    is_call IsAny (called c.args.words.now (source_of S.left S.faults c.args.source.now c.any_answer-answer.new.source) sink (net_of N.faults N.broken N.gathered c.args.host.now.net c.any_answer-answer.new.host.net) (change g.T.Spawner.faults c.args.host.now.threads c.any_answer-answer.new.host.threads) (reporter_of g.Q.Receipt.Receipt.stamped (change R.faults c.args.reporter.now c.any_answer-answer.new.reporter))) c.any_answer-answer.result c.say.result (c.any_answer-answer.ensures.answers sink) c.any_answer-answer.ensures.at_most c.say.ensures.said

@@ -15,8 +15,8 @@ drive_over-requires-clause-losses g c κs within = subst HaltsAtLoss (sym c.in_o
 
 pub returns-in_err-answer-in-Ok-clause-cut : goal.returns-in_err-answer-in-Ok-clause-cut
 returns-in_err-answer-in-Ok-clause-cut g c =
-    let pairs = change g.N.Net.faults c.args.net.now c.drive_over.new.net in
-    let threads = change g.T.Spawner.faults c.args.threads.now c.drive_over.new.threads in
+    let pairs = change g.N.Net.faults c.args.host.now.net c.drive_over.new.host.net in
+    let threads = change g.T.Spawner.faults c.args.host.now.threads c.drive_over.new.host.threads in
     let reports = change g.Q.Reporter.faults c.args.reporter.now c.drive_over.new.reporter in
     let p = err_from_is_err_and c.from_residual-in_err-answer-in-Ok.result c.from_residual-in_err-answer-in-Ok.ensures.1 in
     rw p.1 (subst (λ (e : AnswerError). TellsDriveCut pairs threads reports e) (sym p.2) tt)

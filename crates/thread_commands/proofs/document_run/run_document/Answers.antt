@@ -32,7 +32,7 @@ returns-in-Ok-run_world-clause-ran g c =
     let record' = c.in-Ok-run_world.record in
     let kept = record'.kept.items in
     let journal = record'.journal.items in
-    let net = net_of N.faults N.broken N.gathered c.args.net.now c.take_back.new.net in
+    let net = net_of N.faults N.broken N.gathered c.args.host.now.net c.take_back.new.net in
     let is = starts_as d vs c.in_ok-world.world _ (c.in_ok-world.ensures.world ∙ ap (λ t. initial_world t vs c.world_settings.result) c.into_parts-topology.ensures.topology) (c.world_settings.ensures ∙ ap world_settings c.into_parts-topology.ensures.settings) in
     let lines : c.in_ok-lines.lines.items ≡ lines_of (doc_of d) = c.in_ok-lines.ensures ∙ ap (λ (ls : List PacketLine). map line_of ls) (c.deref.ensures.value ∙ c.into_parts-topology.ensures.packets) in
     let first_broken = c.run_world.ensures.net.1 ∙ c.make_pairs.ensures.broken in
@@ -44,7 +44,7 @@ returns-in-Ok-run_world-clause-ran g c =
 
 pub returns-in_err-events_of-in-Ok-run_world-clause-cut : goal.returns-in_err-events_of-in-Ok-run_world-clause-cut
 returns-in_err-events_of-in-Ok-run_world-clause-cut g c =
-    let pairs = change g.N.Net.faults c.args.net.now c.take_back.new.net in
-    let threads = change g.T.Spawner.faults c.args.threads.now c.run_world.new.threads in
+    let pairs = change g.N.Net.faults c.args.host.now.net c.take_back.new.net in
+    let threads = change g.T.Spawner.faults c.args.host.now.threads c.run_world.new.host.threads in
     let p = err_from_is_err_and c.from_residual-in_err-events_of-in-Ok-run_world.result c.from_residual-in_err-events_of-in-Ok-run_world.ensures.1 in
     rw p.1 (subst (λ (e : AnswerError). TellsCut pairs threads e) (sym p.2) tt)
