@@ -13,7 +13,7 @@ use Rattle.nk_values.specs.Packets.{IsInRange, get}
 use Rattle.nk_values.specs.Trails.{Trail, packets}
 use Rattle.nk_values.proofs.MemberLaws.{in-either}
 use Rattle.value_text.specs.Histories.{changed, braced, step_text, steps_text, path_text}
-use Rattle.value_text.specs.Values.{place_text}
+use Rattle.value_text.specs.Values.{location_text}
 use Rattle.packet_tracer.specs.Ways.{oldest_of}
 use Rattle.line_laws.specs.Laws.{TextsTell}
 use Rattle.line_laws.proofs.Cut.{stops, cut, rest}
@@ -70,7 +70,7 @@ header-same p q r a =
 
 step-is : (p q : Packet) (u : List ℕ) → step_text p q ++ u ≡ 62 ∷ (decimal q.sw ++ (58 ∷ (decimal q.pt ++ (braced q (changed p q) ++ u))))
 step-is p q u =
-    ap (λ (xs : List ℕ). 62 ∷ xs) (append_assoc (place_text q.sw q.pt) (braced q (changed p q)) u
+    ap (λ (xs : List ℕ). 62 ∷ xs) (append_assoc (location_text q.sw q.pt) (braced q (changed p q)) u
     ∙ append_assoc (decimal q.sw) (58 ∷ decimal q.pt) (braced q (changed p q) ++ u))
 
 small : (n : ℕ) → n ≤ 65535 → n < 2 ^ 64
@@ -129,11 +129,11 @@ first_of (p ∷ ps) q = p
 path-same : (ps rs : List Packet) (q r : Packet) → ((x : Packet) → IsIn (q ∷ ps) x → IsInRange x) → ((x : Packet) → IsIn (r ∷ rs) x → IsInRange x) → first_of ps q ≡ first_of rs r → path_text ps q ≡ path_text rs r → (ps ≡ rs) × (q ≡ r)
 path-same [] [] q r k l same e = (refl, same)
 path-same [] (y ∷ ys) q r k l same e =
-    absurd (some-steps y ys r (append_cancel_left (place_text y.sw y.pt) [] (steps_text y ys r) (append-nil (place_text y.sw y.pt) ∙ ap (λ (z : Packet). place_text z.sw z.pt) (sym same) ∙ e)))
+    absurd (some-steps y ys r (append_cancel_left (location_text y.sw y.pt) [] (steps_text y ys r) (append-nil (location_text y.sw y.pt) ∙ ap (λ (z : Packet). location_text z.sw z.pt) (sym same) ∙ e)))
 path-same (x ∷ xs) [] q r k l same e =
-    absurd (some-steps x xs q (append_cancel_left (place_text x.sw x.pt) [] (steps_text x xs q) (append-nil (place_text x.sw x.pt) ∙ ap (λ (z : Packet). place_text z.sw z.pt) same ∙ sym e)))
+    absurd (some-steps x xs q (append_cancel_left (location_text x.sw x.pt) [] (steps_text x xs q) (append-nil (location_text x.sw x.pt) ∙ ap (λ (z : Packet). location_text z.sw z.pt) same ∙ sym e)))
 path-same (x ∷ xs) (y ∷ ys) q r k l same e =
-    let a = append_cancel_left (place_text x.sw x.pt) (steps_text x xs q) (steps_text x ys r) (e ∙ ap (λ (z : Packet). place_text z.sw z.pt ++ steps_text z ys r) (sym same)) in
+    let a = append_cancel_left (location_text x.sw x.pt) (steps_text x xs q) (steps_text x ys r) (e ∙ ap (λ (z : Packet). location_text z.sw z.pt ++ steps_text z ys r) (sym same)) in
     let b = steps-same x xs ys q r (λ z m. k z (less q x xs z m)) (λ z m. l z (less r y ys z m)) a in
     ((λ i. same i ∷ b.0 i), b.1)
   where

@@ -11,7 +11,7 @@ use Rattle.nk_values.specs.Members.{IsIn}
 use Rattle.nk_values.specs.Names.{name_of, header_fields}
 use Rattle.nk_values.specs.Packets.{IsInRange, get}
 use Rattle.nk_values.specs.Tags.{IsTag}
-use Rattle.value_text.specs.Values.{value_text, fields_text, place_text}
+use Rattle.value_text.specs.Values.{value_text, fields_text, location_text}
 use Rattle.report_text.specs.Events.{tag_text, incoming_text}
 use Rattle.line_laws.proofs.Cut.{every, stops, cut, rest, every-append}
 use Rattle.line_laws.proofs.Values.{digit, digits, decimal-same, value-same}
@@ -101,6 +101,6 @@ tag-line (Some v) h = decimal-line v (small v h)
 
 pub incoming-line : (p : Packet) (tag : Option ℕ) → IsInRange p → IsTag tag → every in_line (incoming_text p tag) ≡ true
 incoming-line p tag k h =
-    every-append in_line (place_text p.sw p.pt) (tag_text tag ++ fields_text p header_fields)
+    every-append in_line (location_text p.sw p.pt) (tag_text tag ++ fields_text p header_fields)
     (every-append in_line (decimal p.sw) (58 ∷ decimal p.pt) (decimal-line p.sw (wide p.sw (sw-high p k))) (decimal-line p.pt (wide p.pt (pt-high p k))))
     (every-append in_line (tag_text tag) (fields_text p header_fields) (tag-line tag h) (fields-line p k header_fields))

@@ -7,7 +7,7 @@ use Rattle.packet_tracer.specs.declared.flight.Flight.{Flight}
 use Rattle.update_laws.specs.Traffic.{Arrived}
 use Rattle.world_core.specs.declared.event.Event.{Event}
 use Rattle.world_core.specs.Worlds.{WorldValue}
-use Rattle.value_text.specs.Values.{line, place_text}
+use Rattle.value_text.specs.Values.{line, location_text}
 use Rattle.value_text.specs.Traces.{AreLinesOf, AreTexts}
 use Rattle.report_text.specs.Events.{events_text}
 use Rattle.report_text.specs.Causes.{control_text, entry_text}
@@ -16,7 +16,7 @@ use Rattle.report_text.specs.Copies.{arrival_copies}
 -- the n-th arrival: where it came in, and the entry that it met
 abbrev pub arrival_text : ℕ → Arrived → List ℕ
 arrival_text n a = codes "arrival " ++
-    (decimal n ++ (codes " at " ++ (place_text a.packet.sw a.packet.pt ++ (codes " " ++ entry_text a.entry))))
+    (decimal n ++ (codes " at " ++ (location_text a.packet.sw a.packet.pt ++ (codes " " ++ entry_text a.entry))))
 
 -- The n-th arrival with these lines of its copies in flight: its line, those of its finished histories, and then these.
 pub record HasFate (still : List (List ℕ)) (n : ℕ) (a : Arrived) (text : List ℕ) : Type 0 where

@@ -1,3 +1,4 @@
+mod Decimals
 mod Macs
 pub mod Puts
 pub mod SortLaws

@@ -1,11 +1,12 @@
 //! The texts of numbers and fields.
 //!
 //! Layer: the program; public. Called by many modules here, and by report_text.
-ghost use Rattle.std.specs.Prelude.{◌≡◌, ◌+◌, ◌/◌, ◌%◌, ◌++◌, ◌<◌, ◌≤◌, ◌∷◌, [], OnOk, string_bytes, decimal};
+ghost use Rattle.std.specs.Prelude.{◌≡◌, ◌+◌, ◌/◌, ◌%◌, ◌++◌, ◌<◌, ◌≤◌, ◌∷◌, [], OnOk, codes, string_bytes, decimal};
 ghost use Rattle.value_text.specs.Values.{hex_digit, hex_byte, hex_half, mac_text, dotted_pair, ip_text, value_text};
-ghost use Rattle.value_text.specs.Values.{field_text, fields_text, packet_text, place_text};
+ghost use Rattle.value_text.specs.Values.{field_text, fields_text, packet_text, location_text};
+ghost use Rattle.nk_values.specs.Names.{name_of};
 
-use crate::numbers::put_number;
+use crate::numbers::{put_number, put_number_and};
 use nk_values::{Field, Packet};
 use std::alloc::AllocError;
 
@@ -88,8 +89,7 @@ fn low_digit(number: u64) -> u8
 fn put_dotted_pair(out: &mut String, number: u64) -> Result<(), AllocError>
     ensures { OnOk result (string_bytes out.new ≡ string_bytes out.old ++ dotted_pair number) }
 {
-    put_number(out, number / 256 % 256)?;
-    put_ascii(out, b'.')?;
+    put_number_and(out, number / 256 % 256, b'.')?;
     put_number(out, number % 256)
 }
 
@@ -101,11 +101,27 @@ fn put_ip(out: &mut String, number: u64) -> Result<(), AllocError>
     put_dotted_pair(out, number)
 }
 
+// Puts the last two bytes at the end in hexadecimal, after `0x`: one push, since tables have a great many.
 fn put_hex_half(out: &mut String, number: u64) -> Result<(), AllocError>
-    ensures { OnOk result (string_bytes out.new ≡ string_bytes out.old ++ hex_half number) }
+    ensures { OnOk result (string_bytes out.new ≡ string_bytes out.old ++ (codes "0x" ++ hex_half number)) }
 {
-    put_hex_byte(out, number / 256)?;
-    put_hex_byte(out, number)
+    let digits = half_digits(number);
+    // hexadecimal digits and `x` are ASCII
+    out.push_str(unsafe { str::from_utf8_unchecked(&digits) })
+}
+
+// The last two bytes in hexadecimal digits.
+fn half_digits(number: u64) -> [u8; 6]
+    ensures { result ≡ codes "0x" ++ hex_half number }
+{
+    [
+        b'0',
+        b'x',
+        high_digit(number / 256),
+        low_digit(number / 256),
+        high_digit(number),
+        low_digit(number),
+    ]
 }
 
 /// Puts the number of a field at the end: ethTyp in hexadecimal, addresses in their usual forms, others in
@@ -114,10 +130,7 @@ pub fn put_value(out: &mut String, field: Field, number: u64) -> Result<(), Allo
     ensures { OnOk result (string_bytes out.new ≡ string_bytes out.old ++ value_text field number) }
 {
     match field {
-        Field::EthTyp => {
-            out.push_str("0x")?;
-            put_hex_half(out, number)
-        }
+        Field::EthTyp => put_hex_half(out, number),
         Field::EthSrc | Field::EthDst => put_mac(out, number),
         Field::Ip4Src | Field::Ip4Dst => put_ip(out, number),
         Field::Sw | Field::Pt | Field::IpProto | Field::TcpSrcPort | Field::TcpDstPort => {
@@ -135,12 +148,37 @@ pub fn put_field(out: &mut String, field: Field, number: u64) -> Result<(), Allo
     put_value(out, field, number)
 }
 
+/// Puts ` f=value` at the end.
+pub(crate) fn put_headed(out: &mut String, field: Field, number: u64) -> Result<(), AllocError>
+    ensures { OnOk result (string_bytes out.new ≡ string_bytes out.old ++ (codes " " ++ field_text field number)) }
+{
+    out.push_str(head_of(field))?;
+    put_value(out, field, number)
+}
+
+// What stands before a number: one text for each field, since tables have a great many.
+fn head_of(field: Field) -> &'static str
+    ensures { result.now ≡ codes " " ++ (name_of field ++ codes "=") }
+{
+    match field {
+        Field::Sw => " sw=",
+        Field::Pt => " pt=",
+        Field::EthTyp => " ethTyp=",
+        Field::IpProto => " ipProto=",
+        Field::EthSrc => " ethSrc=",
+        Field::EthDst => " ethDst=",
+        Field::Ip4Src => " ip4Src=",
+        Field::Ip4Dst => " ip4Dst=",
+        Field::TcpSrcPort => " tcpSrcPort=",
+        Field::TcpDstPort => " tcpDstPort=",
+    }
+}
+
 /// Puts `S:B` at the end.
 pub fn put_place(out: &mut String, sw: u64, pt: u64) -> Result<(), AllocError>
-    ensures { OnOk result (string_bytes out.new ≡ string_bytes out.old ++ place_text sw pt) }
+    ensures { OnOk result (string_bytes out.new ≡ string_bytes out.old ++ location_text sw pt) }
 {
-    put_number(out, sw)?;
-    put_ascii(out, b':')?;
+    put_number_and(out, sw, b':')?;
     put_number(out, pt)
 }
 
@@ -157,8 +195,7 @@ pub fn put_fields(out: &mut String, packet: &Packet, fields: &[Field]) -> Result
     ensures { OnOk result (string_bytes out.new ≡ string_bytes out.old ++ fields_text packet.now fields.now) }
 {
     for field in fields {
-        put_ascii(out, b' ')?;
-        put_field(out, *field, packet.get(*field))?;
+        put_headed(out, *field, packet.get(*field))?;
     }
     Ok(())
 }

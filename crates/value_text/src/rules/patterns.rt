@@ -6,7 +6,7 @@ ghost use Rattle.value_text.specs.Rules.{in_text, vlan_text, fixed_text, address
 ghost use Rattle.value_text.specs.Rules.{pattern_text};
 
 use crate::numbers::put_number;
-use crate::values::{put_ascii, put_field};
+use crate::values::put_headed;
 use nk_values::{Field, Pattern, Prefix, UNTAGGED};
 use std::alloc::AllocError;
 
@@ -99,9 +99,6 @@ fn put_fixed(out: &mut String, field: Field, number: Option<u64>) -> Result<(), 
 {
     match number {
         None => Ok(()),
-        Some(number) => {
-            put_ascii(out, b' ')?;
-            put_field(out, field, number)
-        }
+        Some(number) => put_headed(out, field, number),
     }
 }
