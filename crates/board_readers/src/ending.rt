@@ -7,7 +7,7 @@ use std::time::{Clock, Duration};
 
 // What the sharers of an ending share.
 #[derive(Drop)]
-struct Shared {
+struct SharedEnd {
     over: Mutex<bool>,
     bell: Condvar,
 }
@@ -16,13 +16,13 @@ struct Shared {
 #[derive(Drop)]
 pub struct Ending<R> {
     rt: R,
-    shared: Arc<Shared>,
+    shared: Arc<SharedEnd>,
 }
 
 impl<R: Wait + Clock + Drop> Ending<R> {
     /// An ending of which nothing was told yet.
     pub fn new(rt: R, alloc: Global) -> Result<Ending<R>, AllocError> {
-        let shared = Shared {
+        let shared = SharedEnd {
             over: Mutex::new(false),
             bell: Condvar::new(),
         };

@@ -13,5 +13,5 @@ pub use ending::Ending;
 pub use progress::{Onlooker, Progress};
 pub use sight_desk::SightDesk;
 pub use sights::{Sights, newest_alone};
-pub use status_board::{Board, BoardName, Eye, Pen, Seen};
+pub use status_board::{Board, BoardName, Eye, Pen, Sighting};
 pub use watcher::Watcher;

@@ -4,7 +4,7 @@
 use crate::ending::Ending;
 use crate::watcher::is_last;
 use outside_net::Job;
-use status_board::{BoardName, Eye, Seen};
+use status_board::{BoardName, Eye, Sighting};
 use std::sync::{Arc, Wait};
 use std::time::{Clock, Duration};
 use worker_desk::OpenGate;
@@ -20,7 +20,7 @@ pub trait Onlooker {
     }
 
     /// The updates are in another phase than they were when it was told last, or have halted.
-    fn told(&self, _seen: Seen) {}
+    fn told(&self, _seen: Sighting) {}
 }
 
 impl Onlooker for OpenGate {}

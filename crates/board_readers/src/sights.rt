@@ -6,7 +6,7 @@ ghost use Rattle.status_board.specs.Posts.{newest};
 ghost use Rattle.status_board.specs.Reads.{post_of};
 ghost use Rattle.board_readers.specs.Sights.{AreSeen, is_new};
 
-use status_board::{BoardName, Eye, Note, Post, Seen};
+use status_board::{BoardName, Eye, Note, Post, Sighting};
 use std::alloc::{AllocError, Global};
 use std::marker::Model;
 
@@ -38,7 +38,7 @@ impl<J: BoardName> Sights<J> {
     }
 
     /// Reads the board. An `Err` says out of memory.
-    pub fn look(&mut self) -> Result<Seen, AllocError>
+    pub fn look(&mut self) -> Result<Sighting, AllocError>
         ensures { IfOk result (λ s. post_of s ≡ newest self.new.known) }
     {
         let read = self.eye.read();
@@ -86,7 +86,7 @@ fn is_new(seen: &[Post], count: u64) -> bool
 }
 
 // The post that was read.
-fn post_of(read: Seen) -> Post
+fn post_of(read: Sighting) -> Post
     ensures { result ≡ post_of read }
 {
     Post {

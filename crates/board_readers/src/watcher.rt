@@ -4,7 +4,7 @@
 use crate::sight_desk::SightDesk;
 use crate::sights::Sights;
 use outside_net::Job;
-use status_board::{BoardName, Eye, Seen};
+use status_board::{BoardName, Eye, Sighting};
 use std::alloc::AllocError;
 use std::sync::Wait;
 use std::time::{Clock, Duration};
@@ -50,7 +50,7 @@ fn watch<R: Wait + Clock + Drop, J: BoardName>(
 }
 
 // Whether nothing new is to be seen after this: the updates have halted, or the last policy handles all packets.
-pub(crate) fn is_last(seen: Seen, last: usize) -> bool {
+pub(crate) fn is_last(seen: Sighting, last: usize) -> bool {
     seen.halted || seen.phase == Phase::Idle(last)
 }
 

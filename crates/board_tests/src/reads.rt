@@ -3,7 +3,7 @@
 //! Layer: tests; private. Called by `threads`.
 ghost use Rattle.std.specs.Prelude.{◌≡◌};
 
-use status_board::{Board, BoardName, Eye, Pen, Seen};
+use status_board::{Board, BoardName, Eye, Pen, Sighting};
 use std::alloc::Global;
 use std::marker::Brand;
 use std::sync::Wait;
@@ -11,8 +11,8 @@ use std::test::Fail;
 use update_coordinator::Phase;
 
 /// What a read says in the opening, not halted.
-pub fn seen(count: u64, fresh: bool) -> Seen {
-    Seen {
+pub fn seen(count: u64, fresh: bool) -> Sighting {
+    Sighting {
         count,
         phase: Phase::Opening,
         halted: false,
@@ -36,7 +36,7 @@ pub fn post<J: BoardName, R: Wait + Drop>(
 #[test]
 fn eyes_read_what_they_were_not_told(rt: HostRuntime) -> Result<(), Fail> {
     let (live, gone) = reads::<Brand, _>(&rt, rt.alloc(), Board::new()).ok_or("out of memory")?;
-    let last = Seen {
+    let last = Sighting {
         count: 9,
         phase: Phase::Idle(3),
         halted: true,
@@ -47,7 +47,7 @@ fn eyes_read_what_they_were_not_told(rt: HostRuntime) -> Result<(), Fail> {
         gone,
         (
             true,
-            Seen {
+            Sighting {
                 fresh: false,
                 ..last
             }
@@ -63,7 +63,7 @@ fn reads<J: BoardName, R: Wait>(
     rt: &R,
     alloc: Global,
     board: Board,
-) -> Option<([Seen; 4], (bool, Seen))>
+) -> Option<([Sighting; 4], (bool, Sighting))>
     requires { board ≡ J.book }
 {
     let (mut pen, mut eyes) = board.named::<J, &R>(alloc, rt, 2).ok()?;
@@ -81,7 +81,7 @@ fn live_reads<J: BoardName, R: Wait>(
     pen: &mut Pen<J, &R>,
     first: &mut Eye<J>,
     second: &mut Eye<J>,
-) -> Option<[Seen; 4]> {
+) -> Option<[Sighting; 4]> {
     let before = first.read();
     post(pen, 1, Phase::Opening, false)?;
     first.learn(&pen.tell());

@@ -4,7 +4,7 @@
 ghost use Rattle.std.specs.Prelude.{◌≡◌};
 
 use crate::reads::{post, seen};
-use status_board::{Board, BoardName, Eye, Pen, Seen};
+use status_board::{Board, BoardName, Eye, Pen, Sighting};
 use std::alloc::Global;
 use std::marker::Brand;
 use std::sync::Wait;
@@ -27,7 +27,7 @@ fn beside<J: BoardName + Send + Sync, R: Threads + Wait + Sync>(
     rt: &R,
     alloc: Global,
     board: Board,
-) -> Option<(Option<()>, bool, [Seen; 2])>
+) -> Option<(Option<()>, bool, [Sighting; 2])>
     requires { board ≡ J.book }
 {
     let (mut pen, mut eyes) = board.named::<J, &R>(alloc, rt, 2).ok()?;

@@ -12,7 +12,7 @@ use Rattle.nk_values.specs.Members.{IsIn}
 use Rattle.nk_values.proofs.MemberLaws.{in-either}
 use Rattle.nk_values.specs.declared.field.Field.TheVariants.{Sw}
 use Rattle.nk_syntax.specs.Terms.{Term}
-use Rattle.topology_model.specs.Layouts.{Layout, has_switch, is_edge, place_of}
+use Rattle.topology_model.specs.Layouts.{Layout, has_switch, is_edge, location_of}
 use Rattle.document_text.specs.declared.document.ScheduleStep.{ScheduleStep}
 use Rattle.document_text.specs.declared.document.ScheduleStep.TheVariants as event
 use Rattle.document_text.specs.declared.document.PacketLine.{PacketLine}
@@ -25,7 +25,7 @@ use Rattle.document_text.specs.Packets.{GivenFields, is_value, is_vlan_id, with_
 use Rattle.document_text.specs.Texts.{numeral, end_of, is_end}
 use Rattle.document_text.specs.States.{State, initial_state, place_of_kind, is_late, is_empty, has_edge, with_policy}
 use Rattle.document_text.specs.Schedules.{refused_if, formed, at_switch, arrival, event_alone, event_of_one, event_of_two, event_of, is_index}
-use Rattle.document_text.specs.Lines.{is_end_value, at_edge, placed_by, switch_form, switch_line, link_form, link_line, behind_policies, one_numeral, two_numerals, hops_line, capacity_line, stamps_line, rejoins_line, overlap_line, policy_line, packet_form, packet_line, schedule_line}
+use Rattle.document_text.specs.Lines.{is_end_value, at_edge, placed_by, switch_form, switch_line, link_form, link_line, after_policies, one_numeral, two_numerals, hops_line, capacity_line, stamps_line, rejoins_line, overlap_line, policy_line, packet_form, packet_line, schedule_line}
 use Rattle.document_text.specs.Steps.{Next, Stops, head_of, event_too_many, is_too_many, next, opens, enters, happens, scheduled, declares, step}
 use Rattle.document_text.specs.Answers.{IsNextState, IsOpening}
 use Rattle.document_text.specs.Laws.{IsArrivalLine, IsNamed, IsRead}
@@ -258,7 +258,7 @@ stamps-line-holds s t ws h e =
     (kind-holds (record s { stamps = Some x.0 }) kind.Setting (stamps-holds s (Some x.0) h (upto 1 x.0.0 low.0, two, upto x.0.1 4094 range.1)) (on-time s kind.Setting (left-false _ _ a.0)))
 
 -- after the topology and a policy
-pub policies-ok : {A : Type 0} (s : State) (r : Result A TextFault) (t : A) → behind_policies s r ≡ Ok t → r ≡ Ok t
+pub policies-ok : {A : Type 0} (s : State) (r : Result A TextFault) (t : A) → after_policies s r ≡ Ok t → r ≡ Ok t
 policies-ok s r t e =
     (refused-ok (is_empty s.policies) NoPolicy r t (refused-ok (not (has_edge s.layout)) NoEdge (refused_if (is_empty s.policies) NoPolicy r) t e).1).1
 
@@ -292,7 +292,7 @@ form-at w ws (Some d) x e = given-at d (with_words (given_at d) ws) x (words-kee
     given-at d None x h e = absurd (cc)
     given-at d (Some g) x h e = let same : (d, g) ≡ x = cc in subst (λ y. (y.1.packet.sw ≡ y.0.0) × (y.1.packet.pt ≡ y.0.1)) same (h.sw, h.pt)
 
-packet-at : (s : State) (p : PacketLine) (ws : List (List ℕ)) → packet_line s ws ≡ Ok p → (place_of_kind s.reached ≤ 4) × (is_edge s.layout (place_of (p.packet.sw, p.packet.pt)) ≡ true)
+packet-at : (s : State) (p : PacketLine) (ws : List (List ℕ)) → packet_line s ws ≡ Ok p → (place_of_kind s.reached ≤ 4) × (is_edge s.layout (location_of (p.packet.sw, p.packet.pt)) ≡ true)
 packet-at s p [] e = absurd (cc)
 packet-at s p (w ∷ ws) e =
     let x = formed-ok (packet_form (w ∷ ws)) _ p e in
@@ -304,9 +304,9 @@ packet-at s p (w ∷ ws) e =
     let f = refused-ok (not (is_end_value x.0.0) || x.0.1.outside) ValueRange (at_edge s x.0.0 made) p d.1 in
     let g = edge-ok s x.0.0 made p f.1 in
     let at = form-at w ws (end_of w) x.0 x.1 in
-    let here = subst (λ n. is_edge s.layout (place_of (n, x.0.0.1)) ≡ true) (sym at.0) g.0 in
-    let there = subst (λ n. is_edge s.layout (place_of (x.0.1.packet.sw, n)) ≡ true) (sym at.1) here in
-    (on-time s kind.Packet a.0, subst (λ q. is_edge s.layout (place_of (q.packet.sw, q.packet.pt)) ≡ true) (line-is (record { packet = x.0.1.packet; tag = x.0.1.tag }) p g.1) there)
+    let here = subst (λ n. is_edge s.layout (location_of (n, x.0.0.1)) ≡ true) (sym at.0) g.0 in
+    let there = subst (λ n. is_edge s.layout (location_of (x.0.1.packet.sw, n)) ≡ true) (sym at.1) here in
+    (on-time s kind.Packet a.0, subst (λ q. is_edge s.layout (location_of (q.packet.sw, q.packet.pt)) ≡ true) (line-is (record { packet = x.0.1.packet; tag = x.0.1.tag }) p g.1) there)
 
 in-last : {A : Type 0} (xs : List A) (y z : A) → IsIn (xs ++ y ∷ []) z → IsIn xs z ⊎ (y ≡ z)
 in-last xs y z m = elim (in-either xs (y ∷ []) z m) [ inl k ↦ inl k | inr k ↦ elim k [ inl e ↦ inr e | inr n ↦ absurd n ] ]

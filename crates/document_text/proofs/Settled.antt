@@ -6,7 +6,7 @@ use Rattle.nk_values.specs.declared.text_fault.TextFault.{TextFault}
 use Rattle.nk_values.specs.declared.text_fault.TextFault.TheVariants.{NoPolicy}
 use Rattle.nk_syntax.specs.declared.pol.Pol.{Pol}
 use Rattle.nk_syntax.specs.Views.{term_of}
-use Rattle.history_meaning.specs.Network.{Place}
+use Rattle.history_meaning.specs.Network.{Location}
 use Rattle.topology_model.specs.Layouts.{Layout, edges_of}
 use Rattle.topology_model.specs.Lines.{fault_from}
 use Rattle.document_text.specs.Documents.{Accepted}
@@ -15,7 +15,7 @@ use Rattle.document_text.specs.Schedules.{refused_if}
 use Rattle.document_text.specs.declared.fault.Stop.{Stop}
 use Rattle.document_text.specs.declared.fault.Stop.TheVariants as stop
 use Rattle.document_text.specs.Answers.{Becomes, Leads}
-use Rattle.document_text.specs.Lines.{unset, new_number}
+use Rattle.document_text.specs.Lines.{set_once, new_number}
 use Rattle.document_text.specs.Grammar.{finished, refused_at}
 
 within : (m n : ℕ) → m ≤ n → nat_le m n ≡ true
@@ -37,12 +37,12 @@ no-number s given given' least most ws next (stop.Fault f) r same h is = subst (
 no-number s given given' least most ws next stop.Memory r same h is = subst (λ x. Becomes (new_number s given least most ws next) s s x) (sym is) refl
 
 -- what passes all tests
-pub unset-ok-twice : (s : State) (given given' bad worse : Bool) (f g : TextFault) (t : State) → given' ≡ given → ((r : Result State TextFault) → unset s given' r ≡ r) → bad ≡ false → worse ≡ false
-    → unset s given (refused_if bad f (refused_if worse g (Ok t))) ≡ Ok t
-unset-ok-twice s given given' bad worse f g t e tests b w =
-    subst (λ x. unset s x (refused_if bad f (refused_if worse g (Ok t))) ≡ Ok t) e (tests (refused_if bad f (refused_if worse g (Ok t))) ∙ rw (b, w) refl)
+pub set_once-ok-twice : (s : State) (given given' bad worse : Bool) (f g : TextFault) (t : State) → given' ≡ given → ((r : Result State TextFault) → set_once s given' r ≡ r) → bad ≡ false → worse ≡ false
+    → set_once s given (refused_if bad f (refused_if worse g (Ok t))) ≡ Ok t
+set_once-ok-twice s given given' bad worse f g t e tests b w =
+    subst (λ x. set_once s x (refused_if bad f (refused_if worse g (Ok t))) ≡ Ok t) e (tests (refused_if bad f (refused_if worse g (Ok t))) ∙ rw (b, w) refl)
 
-edge-by : (t : Layout) (es : List Place) → edges_of t ≡ es → fault_from t None ≡ None → not (is_empty es) ≡ true
+edge-by : (t : Layout) (es : List Location) → edges_of t ≡ es → fault_from t None ≡ None → not (is_empty es) ≡ true
 edge-by t [] e h = let none = rw e at h in absurd (cc)
 edge-by t (a ∷ as') e h = refl
 

@@ -11,7 +11,7 @@ use Rattle.nk_values.specs.declared.packet.Packet.{Packet}
 use Rattle.nk_values.specs.Packets.{with_value}
 use Rattle.nk_values.specs.Names.{name_of, header_fields}
 use Rattle.netkat_parser.specs.Numbers.{number}
-use Rattle.topology_model.specs.Layouts.{is_edge, place_of}
+use Rattle.topology_model.specs.Layouts.{is_edge, location_of}
 use Rattle.document_text.specs.declared.document.PacketLine.{PacketLine}
 use Rattle.document_text.specs.Packets.{GivenFields, is_value, pair_of, with_tag, with_number, with_field, with_named, with_pair, with_word, with_words}
 use Rattle.document_text.specs.Texts.{numeral}
@@ -111,7 +111,7 @@ not-false false h = absurd (cc)
 edge-of : (a b : Bool) → a ≡ true → b ≡ false → (a && not b) ≡ true
 edge-of a b h k = rw (h, k) refl
 
-pub edge-ok : (s : State) (e : ℕ × ℕ) (r : Result PacketLine TextFault) (p : PacketLine) → at_edge s e r ≡ Ok p → (is_edge s.layout (place_of e) ≡ true) × (r ≡ Ok p)
+pub edge-ok : (s : State) (e : ℕ × ℕ) (r : Result PacketLine TextFault) (p : PacketLine) → at_edge s e r ≡ Ok p → (is_edge s.layout (location_of e) ≡ true) × (r ≡ Ok p)
 edge-ok s e r p h =
     let a = refused-ok _ _ _ p h in
     let b = refused-ok _ _ _ p a.1 in

@@ -17,10 +17,10 @@ use Rattle.document_text.specs.declared.fault.DocumentError.{DocumentError}
 use Rattle.document_text.specs.declared.fault.DocumentError.TheVariants as document
 use Rattle.document_text.specs.declared.fault.Stop.{Stop}
 use Rattle.document_text.specs.declared.fault.Stop.TheVariants as stop
-use Rattle.document_text.specs.declared.declaration.Declared.{Declared}
+use Rattle.document_text.specs.declared.declaration.Declarations.{Declarations}
 use Rattle.document_text.specs.declared.reader.Reader.{Reader}
-use Rattle.document_text.specs.declared.reader.Taken.{Taken}
-use Rattle.document_text.specs.declared.reader.Taken.TheVariants.{Line, Opening}
+use Rattle.document_text.specs.declared.reader.Continuation.{Continuation}
+use Rattle.document_text.specs.declared.reader.Continuation.TheVariants.{Line, Opening}
 use Rattle.document_text.specs.Documents.{Doc, Outcome, Accepted, Refused}
 use Rattle.document_text.specs.States.{State}
 use Rattle.document_text.specs.Steps.{Step, Next, Enters, Opens, Stops}
@@ -31,7 +31,7 @@ abbrev pub texts : List (Bor (List ℕ)) → List (List ℕ)
 texts ws = map (λ w. w.now) ws
 
 -- a topology and what lines have declared beside it
-abbrev pub state : Layout → Declared → State
+abbrev pub state : Layout → Declarations → State
 state t declared = record {
   reached = declared.reached;
   layout = t;
@@ -113,7 +113,7 @@ IsStop (Enters p s) f = (IsWellShaped p.packet → ⊥) × (f ≡ BadLine)
 IsStop _ f = ⊥
 
 -- the reader came from this state to that one by the step, or stops; where memory ran out, the state is as it was
-abbrev pub TakesLine : Step → State → State → Result Taken Stop → Type 0
+abbrev pub TakesLine : Step → State → State → Result Continuation Stop → Type 0
 TakesLine x old new (Ok Line) = IsNextState x new
 TakesLine x old new (Ok Opening) = IsOpening x new
 TakesLine x old new (Err (stop.Fault f)) = IsStop x f

@@ -4,7 +4,7 @@ use Rattle.nk_values.specs.Members.{IsIn}
 use Rattle.nk_values.specs.Packets.{IsWellShaped}
 use Rattle.nk_syntax.specs.Terms.{Term}
 use Rattle.netkat_parser.specs.Grammar.{IsText}
-use Rattle.topology_model.specs.Layouts.{Layout, is_edge, has_switch, place_of}
+use Rattle.topology_model.specs.Layouts.{Layout, is_edge, has_switch, location_of}
 use Rattle.document_text.specs.declared.document.ScheduleStep.{ScheduleStep}
 use Rattle.document_text.specs.declared.document.ScheduleStep.TheVariants.{Send, Take, Apply, Reply, Heard, Arrive}
 use Rattle.document_text.specs.declared.document.ScheduleStep.TheVariants.{Lost, Rejoin}
@@ -25,7 +25,7 @@ SomeOutcome = (text : List ℕ) → (o : Outcome) × IsReading text o
 -- the packet is well shaped and arrives at a port without a link
 pub record IsArrivalLine (t : Layout) (p : PacketLine) : Type 0 where
   pub shaped : IsWellShaped p.packet
-  pub edge : is_edge t (place_of (p.packet.sw, p.packet.pt)) ≡ true
+  pub edge : is_edge t (location_of (p.packet.sw, p.packet.pt)) ≡ true
 
 -- the switch that the event names is declared, and the packet line is one of so many
 abbrev pub IsNamed : Layout → ℕ → ScheduleStep → Type 0

@@ -5,7 +5,7 @@ pub mod Grammar
 pub mod Laws
 pub mod Lines
 pub mod Packets
-pub mod Parts
+pub mod Statements
 pub mod Schedules
 pub mod States
 pub mod Steps

@@ -9,7 +9,7 @@ use Rattle.nk_values.specs.declared.text_fault.TextFault.TheVariants.{BadLine, N
 use Rattle.nk_values.specs.declared.text_fault.TextFault.TheVariants.{TooFewStamps, UnknownName, UnknownPort}
 use Rattle.nk_values.specs.declared.text_fault.TextFault.TheVariants.{UnknownSwitch, ValueRange}
 use Rattle.nk_values.specs.declared.field.Field.TheVariants.{Sw, Pt}
-use Rattle.topology_model.specs.Layouts.{place_of, has_switch, has_port, is_linked}
+use Rattle.topology_model.specs.Layouts.{location_of, has_switch, has_port, is_linked}
 use Rattle.topology_model.specs.Lines.{with_line, line_fault}
 use Rattle.topology_model.specs.declared.line.TopoLine.{TopoLine}
 use Rattle.topology_model.specs.declared.line.TopoLine.TheVariants as topology
@@ -61,12 +61,12 @@ link_line s ws =
     (placed s Link (topology.Link x.0 x.1))))
 
 -- after the topology, which has to have an edge port
-abbrev pub behind_topology : {A : Type 0} → State → Result A TextFault → Result A TextFault
-behind_topology s r = refused_if (not (has_edge s.layout)) NoEdge r
+abbrev pub after_topology : {A : Type 0} → State → Result A TextFault → Result A TextFault
+after_topology s r = refused_if (not (has_edge s.layout)) NoEdge r
 
 -- a setting, unless it was given before
-abbrev pub unset : State → Bool → Result State TextFault → Result State TextFault
-unset s given r = refused_if (is_late s Setting || given) BadLine (behind_topology s r)
+abbrev pub set_once : State → Bool → Result State TextFault → Result State TextFault
+set_once s given r = refused_if (is_late s Setting || given) BadLine (after_topology s r)
 
 abbrev pub one_numeral : List (List ℕ) → Option ℕ
 one_numeral (w ∷ []) = numeral w
@@ -80,7 +80,7 @@ two_numerals _ = None
 abbrev pub new_number : State → Bool → ℕ → ℕ → List (List ℕ) → (ℕ → Result State TextFault) → Result State TextFault
 new_number s given least most ws next =
     formed (one_numeral ws) (λ n.
-    unset s given
+    set_once s given
     (refused_if (not (nat_le least n && nat_le n most)) ValueRange
     (next n)))
 
@@ -97,7 +97,7 @@ capacity_line s ws = new_number s (is_some s.capacity) 1 200000 ws
 abbrev pub stamps_line : State → List (List ℕ) → Result State TextFault
 stamps_line s ws =
     formed (two_numerals ws) (λ x.
-    unset s (is_some s.stamps)
+    set_once s (is_some s.stamps)
     (refused_if (not (nat_le 1 x.0 && nat_le x.0 x.1 && nat_le x.1 4094)) StampRange
     (refused_if (x.0 == x.1) TooFewStamps
     (Ok (record s { reached = Setting; stamps = Some x })))))
@@ -109,17 +109,17 @@ rejoins_line s ws = new_number s (is_some s.rejoins) 0 1000 ws
 
 -- `overlap` alone, once
 abbrev pub overlap_line : State → List (List ℕ) → Result State TextFault
-overlap_line s [] = unset s s.overlap (Ok (record s { reached = Setting; overlap = true }))
+overlap_line s [] = set_once s s.overlap (Ok (record s { reached = Setting; overlap = true }))
 overlap_line s _ = Err BadLine
 
 -- `policy` alone, which begins a policy's text
 abbrev pub policy_line : State → List (List ℕ) → Result State TextFault
-policy_line s [] = refused_if (is_late s Policy) BadLine (behind_topology s (Ok (record s { reached = Policy })))
+policy_line s [] = refused_if (is_late s Policy) BadLine (after_topology s (Ok (record s { reached = Policy })))
 policy_line s _ = Err BadLine
 
 -- after a policy
-abbrev pub behind_policies : {A : Type 0} → State → Result A TextFault → Result A TextFault
-behind_policies s r = behind_topology s (refused_if (is_empty s.policies) NoPolicy r)
+abbrev pub after_policies : {A : Type 0} → State → Result A TextFault → Result A TextFault
+after_policies s r = after_topology s (refused_if (is_empty s.policies) NoPolicy r)
 
 -- `packet S:B`, and words with the packet's values
 abbrev pub packet_form : List (List ℕ) → Option ((ℕ × ℕ) × GivenFields)
@@ -130,14 +130,14 @@ packet_form (w ∷ ws) = option_and_then (λ e. option_map (λ g. (e, g)) (with_
 abbrev pub at_edge : {A : Type 0} → State → ℕ × ℕ → Result A TextFault → Result A TextFault
 at_edge s e r =
     refused_if (not (has_switch s.layout.switches e.0)) UnknownSwitch
-    (refused_if (not (has_port s.layout.switches (place_of e))) UnknownPort
-    (refused_if (is_linked s.layout (place_of e)) NotEdge r))
+    (refused_if (not (has_port s.layout.switches (location_of e))) UnknownPort
+    (refused_if (is_linked s.layout (location_of e)) NotEdge r))
 
 abbrev pub packet_line : State → List (List ℕ) → Result PacketLine TextFault
 packet_line s ws =
     formed (packet_form ws) (λ x.
     refused_if (is_late s Packet) BadLine
-    (behind_policies s
+    (after_policies s
     (refused_if x.1.unknown UnknownName
     (refused_if (not (is_end_value x.0) || x.1.outside) ValueRange
     (at_edge s x.0 (Ok (record { packet = x.1.packet; tag = x.1.tag })))))))
@@ -146,5 +146,5 @@ packet_line s ws =
 abbrev pub schedule_line : State → List (List ℕ) → Result State TextFault
 schedule_line s [] =
     refused_if (nat_le 5 (place_of_kind s.reached)) BadLine
-    (behind_policies s (Ok (record s { reached = Schedule; inside = true })))
+    (after_policies s (Ok (record s { reached = Schedule; inside = true })))
 schedule_line s _ = Err BadLine

@@ -31,7 +31,7 @@ impl LineKind {
 /// The kind of the latest line, the settings that were given, policies, packets and events. The next
 /// line may stand inside the schedule.
 #[derive(Drop)]
-pub struct Declared {
+pub struct Declarations {
     pub reached: LineKind,
     pub hops: Option<u32>,
     pub capacity: Option<u32>,
@@ -48,12 +48,12 @@ ghost use Rattle.topology_model.specs.Layouts.{empty};
 ghost use Rattle.document_text.specs.States.{initial_state};
 ghost use Rattle.document_text.specs.Answers.{state};
 
-impl Declared {
+impl Declarations {
     /// Before the first line.
-    pub fn new(alloc: Global) -> Declared
+    pub fn new(alloc: Global) -> Declarations
         ensures { state empty result ≡ initial_state }
     {
-        Declared {
+        Declarations {
             reached: LineKind::Switch,
             hops: None,
             capacity: None,

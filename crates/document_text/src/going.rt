@@ -10,7 +10,7 @@ ghost use Rattle.document_text.specs.Texts.{words_of};
 
 use crate::doc_reader::{DocReader, Spot};
 use crate::fault::{DocFault, Stop};
-use crate::reader::Taken;
+use crate::reader::Continuation;
 use crate::words::{line_end, words};
 use nk_values::TextFault;
 use std::alloc::{AllocError, Global};
@@ -76,14 +76,14 @@ impl DocReader {
         };
         self.pending.advance(len);
         self.line += 1;
-        if let Taken::Opening = taken {
+        if let Continuation::Opening = taken {
             self.open_policy(alloc);
         }
         Ok(true)
     }
 
     // Takes the words of a line of `len` bytes. It stays pending.
-    fn take(&mut self, alloc: Global, len: usize) -> Result<Taken, Stop>
+    fn take(&mut self, alloc: Global, len: usize) -> Result<Continuation, Stop>
         requires { len ≤ length self.old.pending.items }
         ensures takes { TakesLine
             (step (state_of self.old.reader) self.old.line (words_of (take len self.old.pending.items)))

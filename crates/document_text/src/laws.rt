@@ -2,7 +2,7 @@
 //!
 //! Layer: texts that are read; public. No crate here calls it.
 ghost use Rattle.document_text.specs.Laws.{OneOutcome, SomeOutcome, Within};
-ghost use Rattle.document_text.specs.Parts.{SaysItsParts};
+ghost use Rattle.document_text.specs.Statements.{SaysItsStatements};
 
 /// A text has exactly one outcome: it is one document, or has one first fault at one place.
 pub fn one_outcome()
@@ -17,9 +17,9 @@ pub fn within()
     ensures { Within }
 {}
 
-/// A document says what its parts say, in order. Its topology is that of its switch lines and link lines, and its
+/// A document says what its statements say, in order. Its topology is that of its switch lines and link lines, and its
 /// policies are read from the texts between `policy` and `end`. Its packets are those of its packet lines, and each
 /// line of its schedule is an event.
-pub fn says_its_parts()
-    ensures { SaysItsParts }
+pub fn says_its_statements()
+    ensures { SaysItsStatements }
 {}

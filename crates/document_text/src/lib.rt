@@ -24,7 +24,7 @@ mod words;
 pub use doc_reader::DocReader;
 pub use document::{Document, PacketLine, ScheduleLine, ScheduleStep, Settings};
 pub use fault::{DocFault, DocumentError};
-pub use laws::{one_outcome, says_its_parts, within};
+pub use laws::{one_outcome, says_its_statements, within};
 pub use nk_syntax::{Pol, Pols, Pred};
 pub use read::read_document;
 pub use topology_model::{DeclaredSwitch, Topology};

@@ -48,7 +48,7 @@ pub fn packet_line(reader: &Reader, alloc: Global, words: &[&[u8]]) -> Result<Pa
     if reader.is_late(LineKind::Packet) {
         return Err(Stop::Fault(TextFault::BadLine));
     }
-    reader.behind_policies(alloc)?;
+    reader.after_policies(alloc)?;
     if given.unknown {
         return Err(Stop::Fault(TextFault::UnknownName));
     }

@@ -31,7 +31,7 @@ pub fn schedule_line(reader: &mut Reader, alloc: Global, words: &[&[u8]]) -> Res
     if !words.is_empty() || reader.declared.reached.place() >= 5 {
         return Err(Stop::Fault(TextFault::BadLine));
     }
-    reader.behind_policies(alloc)?;
+    reader.after_policies(alloc)?;
     reader.declared.reached = LineKind::Schedule;
     reader.declared.inside = true;
     Ok(())

@@ -3,7 +3,7 @@
 //! Layer: texts that are read; private. Called by `take`.
 ghost use Rattle.std.specs.Prelude.{◌≡◌, ◌≤◌, true, IfOk, OnOk};
 ghost use Rattle.document_text.specs.States.{State, has_edge};
-ghost use Rattle.document_text.specs.Lines.{unset, one_numeral, two_numerals, new_number, hops_line, capacity_line};
+ghost use Rattle.document_text.specs.Lines.{set_once, one_numeral, two_numerals, new_number, hops_line, capacity_line};
 ghost use Rattle.document_text.specs.Lines.{stamps_line, rejoins_line, overlap_line, policy_line};
 ghost use Rattle.document_text.specs.Answers.{texts, state_of, Becomes, Forms, Leads, Lets};
 
@@ -22,14 +22,14 @@ const MOST_ROWS: u64 = 200_000;
 const MOST_REJOINS: u64 = 1000;
 
 // Stops if a setting may not stand here, or was given before.
-fn unset(reader: &Reader, alloc: Global, given: bool) -> Result<(), Stop>
-    ensures tests { Lets {A = State} (unset (state_of reader.now) given) result }
+fn set_once(reader: &Reader, alloc: Global, given: bool) -> Result<(), Stop>
+    ensures tests { Lets {A = State} (set_once (state_of reader.now) given) result }
     ensures edge { OnOk result (has_edge reader.now.draft ≡ true) }
 {
     if reader.is_late(LineKind::Setting) || given {
         return Err(Stop::Fault(TextFault::BadLine));
     }
-    reader.behind_topology(alloc)
+    reader.after_topology(alloc)
 }
 
 fn one_numeral(words: &[&[u8]]) -> Result<u64, Stop>
@@ -68,7 +68,7 @@ fn new_number(
     ensures edge { OnOk result (has_edge reader.now.draft ≡ true) }
 {
     let number = one_numeral(words)?;
-    unset(reader, alloc, given)?;
+    set_once(reader, alloc, given)?;
     if number < least || number > most {
         return Err(Stop::Fault(TextFault::ValueRange));
     }
@@ -105,7 +105,7 @@ pub fn stamps_line(reader: &mut Reader, alloc: Global, words: &[&[u8]]) -> Resul
         result }
 {
     let (low, high) = two_numerals(words)?;
-    unset(reader, alloc, reader.declared.stamps.is_some())?;
+    set_once(reader, alloc, reader.declared.stamps.is_some())?;
     if low < 1 || low > high || high > u64::from(GREATEST_VLAN_ID) {
         return Err(Stop::Fault(TextFault::StampRange));
     }
@@ -137,7 +137,7 @@ pub fn overlap_line(reader: &mut Reader, alloc: Global, words: &[&[u8]]) -> Resu
     if !words.is_empty() {
         return Err(Stop::Fault(TextFault::BadLine));
     }
-    unset(reader, alloc, reader.declared.overlap)?;
+    set_once(reader, alloc, reader.declared.overlap)?;
     reader.declared.overlap = true;
     reader.declared.reached = LineKind::Setting;
     Ok(())
@@ -151,7 +151,7 @@ pub fn policy_line(reader: &mut Reader, alloc: Global, words: &[&[u8]]) -> Resul
     if !words.is_empty() || reader.is_late(LineKind::Policy) {
         return Err(Stop::Fault(TextFault::BadLine));
     }
-    reader.behind_topology(alloc)?;
+    reader.after_topology(alloc)?;
     reader.declared.reached = LineKind::Policy;
     Ok(())
 }

@@ -8,12 +8,12 @@ ghost use Rattle.document_text.specs.Lines.{packet_line};
 ghost use Rattle.document_text.specs.Answers.{state_of, texts};
 ghost use Rattle.document_text.specs.declared.fault.DocumentError.TheVariants as to;
 
-use crate::declaration::{Declared, LineKind};
+use crate::declaration::{Declarations, LineKind};
 use crate::document::ScheduleLine;
 use crate::fault::Stop;
 use crate::head::{Head, head_of};
 use crate::packet::packet_line;
-use crate::reader::{Reader, Taken};
+use crate::reader::{Continuation, Reader};
 use crate::schedule::{event_of, schedule_line};
 use crate::setting::{
     capacity_line, hops_line, overlap_line, policy_line, rejoins_line, stamps_line,
@@ -41,7 +41,7 @@ impl Reader {
     ghost use Rattle.document_text.specs.States.{State, initial_state, is_late};
     ghost use Rattle.document_text.specs.Steps.{step, is_too_many, declares};
     ghost use Rattle.document_text.specs.Answers.{texts};
-    ghost use Rattle.document_text.specs.Lines.{behind_topology, behind_policies};
+    ghost use Rattle.document_text.specs.Lines.{after_topology, after_policies};
     ghost use Rattle.document_text.specs.Answers.{state_of, FindsEdge, Lets, TakesLine, Passes};
 
     /// Before the first line.
@@ -50,7 +50,7 @@ impl Reader {
     {
         Reader {
             draft: Draft::new(alloc),
-            declared: Declared::new(alloc),
+            declared: Declarations::new(alloc),
         }
     }
 
@@ -62,7 +62,7 @@ impl Reader {
     }
 
     /// Stops if no port is without a link.
-    pub fn behind_topology(&self, alloc: Global) -> Result<(), Stop>
+    pub fn after_topology(&self, alloc: Global) -> Result<(), Stop>
         ensures { FindsEdge (has_edge self.now.draft) result }
     {
         if self.declared.reached.place() >= 2 || !self.draft.edges(alloc)?.is_empty() {
@@ -73,12 +73,12 @@ impl Reader {
     }
 
     /// Stops if no port is without a link, or there is no policy.
-    pub fn behind_policies(&self, alloc: Global) -> Result<(), Stop>
-        ensures packets { Lets {A = Packet} (behind_policies (state_of self.now)) result }
-        ensures states { Lets {A = State} (behind_policies (state_of self.now)) result }
+    pub fn after_policies(&self, alloc: Global) -> Result<(), Stop>
+        ensures packets { Lets {A = Packet} (after_policies (state_of self.now)) result }
+        ensures states { Lets {A = State} (after_policies (state_of self.now)) result }
         ensures edge { OnOk result (has_edge self.now.draft ≡ true) }
     {
-        self.behind_topology(alloc)?;
+        self.after_topology(alloc)?;
         if self.declared.policies.is_empty() {
             return Err(Stop::Fault(TextFault::NoPolicy));
         }
@@ -86,12 +86,12 @@ impl Reader {
     }
 
     /// Takes the words of the line with this number. If memory runs out, nothing changes.
-    pub fn take(&mut self, alloc: Global, line: u64, words: &[&[u8]]) -> Result<Taken, Stop>
+    pub fn take(&mut self, alloc: Global, line: u64, words: &[&[u8]]) -> Result<Continuation, Stop>
         ensures { TakesLine (step (state_of self.old) line (texts words.now)) (state_of self.old) (state_of self.new)
             result }
     {
         let Some((first, rest)) = words.split_first() else {
-            return Ok(Taken::Line);
+            return Ok(Continuation::Line);
         };
         let head = head_of(first);
         if self.is_too_many(head, words) {
@@ -99,7 +99,7 @@ impl Reader {
         }
         if self.declared.inside {
             self.scheduled(line, words)?;
-            return Ok(Taken::Line);
+            return Ok(Continuation::Line);
         }
         self.declares(alloc, head, rest)
     }
@@ -119,7 +119,7 @@ impl Reader {
     }
 
     // Takes a line outside the schedule.
-    fn declares(&mut self, alloc: Global, head: Head, words: &[&[u8]]) -> Result<Taken, Stop>
+    fn declares(&mut self, alloc: Global, head: Head, words: &[&[u8]]) -> Result<Continuation, Stop>
         ensures { TakesLine (declares (state_of self.old) head (texts words.now)) (state_of self.old)
             (state_of self.new) result }
     {
@@ -133,13 +133,13 @@ impl Reader {
             Head::Overlap => overlap_line(self, alloc, words)?,
             Head::Policy => {
                 policy_line(self, alloc, words)?;
-                return Ok(Taken::Opening);
+                return Ok(Continuation::Opening);
             }
             Head::Packet => self.enters(alloc, words)?,
             Head::Schedule => schedule_line(self, alloc, words)?,
             Head::Unlisted => return Err(Stop::Fault(TextFault::BadLine)),
         }
-        Ok(Taken::Line)
+        Ok(Continuation::Line)
     }
 
     // Takes a line inside the schedule.

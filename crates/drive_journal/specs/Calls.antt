@@ -7,12 +7,12 @@ use Rattle.session_core.specs.Sessions.{reply_of}
 use Rattle.update_coordinator.specs.Calls.{begin_refusal, drain_refusal}
 use Rattle.update_coordinator.specs.Controls.{Control}
 use Rattle.update_coordinator.specs.Sending.{MaySend, Owes, HasGreeted}
-use Rattle.worker_desk.specs.declared.desk.Given.{Given}
-use Rattle.worker_desk.specs.declared.desk.Given.TheVariants.{Out, Expect, Nothing, NewEnd, Stop}
-use Rattle.worker_desk.specs.declared.desk.Told.{Told}
-use Rattle.worker_desk.specs.declared.desk.Told.TheVariants.{Back, Kept, Memory}
-use Rattle.worker_desk.specs.declared.desk.Shut.{Shut}
-use Rattle.worker_desk.specs.declared.desk.Shut.TheVariants as shut
+use Rattle.worker_desk.specs.declared.desk.WorkerTask.{WorkerTask}
+use Rattle.worker_desk.specs.declared.desk.WorkerTask.TheVariants.{Out, Expect, Nothing, NewEnd, Stop}
+use Rattle.worker_desk.specs.declared.desk.TellResult.{TellResult}
+use Rattle.worker_desk.specs.declared.desk.TellResult.TheVariants.{Back, Kept, Memory}
+use Rattle.worker_desk.specs.declared.desk.IdleTask.{IdleTask}
+use Rattle.worker_desk.specs.declared.desk.IdleTask.TheVariants as shut
 use Rattle.drive_journal.specs.declared.steering.Steering.{Steering}
 use Rattle.drive_journal.specs.declared.steering.Steering.TheVariants as steering
 use Rattle.drive_journal.specs.declared.updates.CallerTask.{CallerTask}
@@ -56,18 +56,18 @@ abbrev pub IsAwaited : {E Q : Type 0} → ℕ → DriveValue E Q → Type 0
 IsAwaited s r = Owes s r.held.control ⊎ (¬ HasGreeted s r.held.control)
 
 -- what is answered if nothing is to be sent
-abbrev pub RestsAs : {E Q : Type 0} → ℕ → DriveValue E Q → Given E → Type 0
+abbrev pub RestsAs : {E Q : Type 0} → ℕ → DriveValue E Q → WorkerTask E → Type 0
 RestsAs s r (Expect None) = IsAwaited s r
 RestsAs s r (Nothing None) = ¬ IsAwaited s r
 RestsAs s r _ = ⊥
 
 -- the answer that is to be sent
-abbrev pub GivesEcho : {E Q : Type 0} → ℕ → DriveValue E Q → DriveValue E Q → Given E → Type 0
+abbrev pub GivesEcho : {E Q : Type 0} → ℕ → DriveValue E Q → DriveValue E Q → WorkerTask E → Type 0
 GivesEcho s old new (Out m None) = (echo_at old s ≡ Some m) × (new ≡ answering old s None)
 GivesEcho s old new _ = ⊥
 
 -- the next message, or what is to be done if there is none
-abbrev pub GivesNext : {E Q : Type 0} → ℕ → DriveValue E Q → DriveValue E Q → Given E → Type 0
+abbrev pub GivesNext : {E Q : Type 0} → ℕ → DriveValue E Q → DriveValue E Q → WorkerTask E → Type 0
 GivesNext s old new Stop = ⊥
 GivesNext s old new (Out m (Some kind.Send)) = SendsOut s m old new
 GivesNext s old new (Out m _) = ⊥
@@ -79,7 +79,7 @@ GivesNext s old new (NewEnd e) = ⊥
 
 -- What `give` answers to the worker of switch s: that it is to stop; the answer that is to be sent; the next message;
 -- to receive, if one is to come; or nothing.
-abbrev pub DriveGives : {E Q : Type 0} → ℕ → DriveValue E Q → DriveValue E Q → Given E → Type 0
+abbrev pub DriveGives : {E Q : Type 0} → ℕ → DriveValue E Q → DriveValue E Q → WorkerTask E → Type 0
 DriveGives s old new Stop = Stops old s × (new ≡ old)
 DriveGives s old new (Out m None) = (¬ Stops old s) × (echo_at old s ≡ Some m) × (new ≡ answering old s None)
 DriveGives s old new (Out m (Some kind.Send)) = (¬ Stops old s) × (echo_at old s ≡ None) × SendsOut s m old new
@@ -125,7 +125,7 @@ abbrev pub IsVain : {E Q : Type 0} → ℕ → List ℕ → ℕ → DriveValue E
 IsVain s bytes k r = (¬ (told_before s r.held.journal ≡ k)) ⊎ (IsRest bytes ⊎ (r.held.control.halt ≢ None))
 
 -- what is answered to an element that came next
-abbrev pub HearsAs : {E Q : Type 0} → ℕ → Element → E → DriveValue E Q → DriveValue E Q → Told E → Type 0
+abbrev pub HearsAs : {E Q : Type 0} → ℕ → Element → E → DriveValue E Q → DriveValue E Q → TellResult E → Type 0
 HearsAs s (element.Message m) end old new (Back e (Some kind.Heard)) = (e ≡ end) × Hears s m old new
 HearsAs s x end old new (Back e (Some _)) = ⊥
 HearsAs s x end old new (Back e None) = (e ≡ end) × (new ≡ old) × (old.held.control.halt ≢ None)
@@ -133,7 +133,7 @@ HearsAs s x end old new Kept = (e : Steering) × IsEventOf s x e × DriveCuts e 
 HearsAs s x end old new (Memory e) = (e ≡ end) × (new ≡ old)
 
 -- What `tell` answers: a message is heard; what halts the coordinator has its end kept; other bytes come to nothing.
-abbrev pub DriveTells : {E Q : Type 0} → ℕ → List ℕ → ℕ → E → DriveValue E Q → DriveValue E Q → Told E → Type 0
+abbrev pub DriveTells : {E Q : Type 0} → ℕ → List ℕ → ℕ → E → DriveValue E Q → DriveValue E Q → TellResult E → Type 0
 DriveTells s bytes k end old new (Back e (Some kind.Heard)) = (e ≡ end) × (told_before s old.held.journal ≡ k) ×
     ((m : Message) × IsElement bytes (element.Message m) × Hears s m old new)
 DriveTells s bytes k end old new (Back e (Some _)) = ⊥
@@ -143,14 +143,14 @@ DriveTells s bytes k end old new Kept = (told_before s old.held.journal ≡ k) �
 DriveTells s bytes k end old new (Memory e) = (e ≡ end) × (new ≡ old)
 
 -- what `lost` answers
-abbrev pub DriveLoses : {E Q : Type 0} → ℕ → E → DriveValue E Q → DriveValue E Q → Told E → Type 0
+abbrev pub DriveLoses : {E Q : Type 0} → ℕ → E → DriveValue E Q → DriveValue E Q → TellResult E → Type 0
 DriveLoses s end old new (Back e None) = (e ≡ end) × (old.held.control.halt ≢ None) × (new ≡ old)
 DriveLoses s end old new (Back e (Some _)) = ⊥
 DriveLoses s end old new Kept = DriveCuts (steering.Lost s) end old new
 DriveLoses s end old new (Memory e) = (e ≡ end) × (new ≡ old)
 
 -- what `shut` answers
-abbrev pub Shuts : {E : Type 0} → Type 0 → Shut E → Type 0
+abbrev pub Shuts : {E : Type 0} → Type 0 → IdleTask E → Type 0
 Shuts stop shut.Nothing = ¬ stop
 Shuts stop shut.Stop = stop
 Shuts stop (shut.NewEnd e) = ⊥

@@ -4,17 +4,17 @@ use Rattle.openflow_wire.specs.declared.message.Message.{Message}
 use Rattle.openflow_wire.specs.Writing.{Fits}
 use Rattle.drive_journal.specs.declared.steering.Steering.{Steering}
 use Rattle.drive_journal.specs.declared.steering.Steering.TheVariants.{Send, Heard, Lost, Garbled}
-use Rattle.drive_journal.specs.declared.refused.Refused.{Refused}
-use Rattle.drive_journal.specs.declared.refused.Refused.TheVariants.{NotEnabled, Memory}
+use Rattle.drive_journal.specs.declared.refused.Rejection.{Rejection}
+use Rattle.drive_journal.specs.declared.refused.Rejection.TheVariants.{NotEnabled, Memory}
 use Rattle.drive_journal.specs.Steering.{Steers}
 use Rattle.drive_journal.specs.Journals.{SteeredValue}
 
-abbrev pub HandsBack : {X : Type 0} → X → Refused X → Type 0
+abbrev pub HandsBack : {X : Type 0} → X → Rejection X → Type 0
 HandsBack x (NotEnabled y) = y ≡ x
 HandsBack x (Memory y) = y ≡ x
 
 -- what holds if the event could not happen
-abbrev pub Refuses : {X : Type 0} → Type 0 → Refused X → Type 0
+abbrev pub Refuses : {X : Type 0} → Type 0 → Rejection X → Type 0
 Refuses P (NotEnabled y) = P
 Refuses P (Memory y) = Unit {0}
 

@@ -14,19 +14,19 @@ ghost use Rattle.drive_journal.specs.Journals.{told_before};
 use crate::drive::Drive;
 use crate::element::{Element, read_element};
 use crate::name::DriveName;
-use crate::refused::Refused;
+use crate::refused::Rejection;
 use crate::steering::Steering;
 use openflow_wire::{Message, WireFault};
 use outside_net::{Link, Receipt};
 use session_core::echo_reply;
 use std::alloc::{AllocError, Global};
-use worker_desk::{Given, Shut, StepKind, Told};
+use worker_desk::{IdleTask, StepKind, TellResult, WorkerTask};
 
 impl<L: DriveName, E: Link, Q: Receipt> Drive<L, E, Q> {
     /// What the worker of the switch at a place is to do next: to stop; to send the answer to what it told last, or
     /// the next message; to receive; or nothing. It receives if the switch owes a reply or did not greet yet.
     /// Out of memory, the next message may be noted as sent.
-    pub fn give(&mut self, alloc: Global, place: usize) -> Result<Given<E>, AllocError>
+    pub fn give(&mut self, alloc: Global, place: usize) -> Result<WorkerTask<E>, AllocError>
         requires { place < length L.start.peers }
         ensures fits { IfOk result CanBeWritten }
         ensures answer { IfOk result (DriveGives place self.old self.new) }
@@ -35,7 +35,7 @@ impl<L: DriveName, E: Link, Q: Receipt> Drive<L, E, Q> {
         ensures memory { OnErr result (RunsOut place self.old self.new) }
     {
         if self.stops(place) {
-            return Ok(Given::Stop);
+            return Ok(WorkerTask::Stop);
         }
         if self.has_echo(place) {
             return Ok(self.give_echo(place));
@@ -44,7 +44,7 @@ impl<L: DriveName, E: Link, Q: Receipt> Drive<L, E, Q> {
     }
 
     // The answer that is still to be sent.
-    fn give_echo(&mut self, place: usize) -> Given<E>
+    fn give_echo(&mut self, place: usize) -> WorkerTask<E>
         requires place { place < length L.start.peers }
         requires some { echo_at self.old place ≢ None }
         ensures fits { CanBeWritten result }
@@ -52,7 +52,7 @@ impl<L: DriveName, E: Link, Q: Receipt> Drive<L, E, Q> {
         ensures same_end { OnNewEnd (λ _. ⊥) result }
     {
         match self.take_echo(place) {
-            Some(message) => Given::Out {
+            Some(message) => WorkerTask::Out {
                 message,
                 made: None,
             },
@@ -61,7 +61,7 @@ impl<L: DriveName, E: Link, Q: Receipt> Drive<L, E, Q> {
     }
 
     // The next message, or what is to be done if there is none.
-    fn give_next(&mut self, alloc: Global, place: usize) -> Result<Given<E>, AllocError>
+    fn give_next(&mut self, alloc: Global, place: usize) -> Result<WorkerTask<E>, AllocError>
         requires { place < length L.start.peers }
         ensures fits { IfOk result CanBeWritten }
         ensures answer { IfOk result (GivesNext place self.old self.new) }
@@ -69,26 +69,26 @@ impl<L: DriveName, E: Link, Q: Receipt> Drive<L, E, Q> {
         ensures memory { OnErr result (RunsOut place self.old self.new) }
     {
         match self.send(alloc, place) {
-            Ok(Some(message)) => Ok(Given::Out {
+            Ok(Some(message)) => Ok(WorkerTask::Out {
                 message,
                 made: Some(StepKind::Send),
             }),
             Ok(None) => Err(AllocError),
-            Err(Refused::Memory(())) => Err(AllocError),
-            Err(Refused::NotEnabled(())) => Ok(self.rest(place)),
+            Err(Rejection::Memory(())) => Err(AllocError),
+            Err(Rejection::NotEnabled(())) => Ok(self.rest(place)),
         }
     }
 
     // What is to be done if nothing is to be sent.
-    fn rest(&self, place: usize) -> Given<E>
+    fn rest(&self, place: usize) -> WorkerTask<E>
         requires { place < length L.start.peers }
         ensures answer { RestsAs place self.now result }
         ensures same_end { OnNewEnd (λ _. ⊥) result }
     {
         if self.awaits(place) {
-            Given::Expect { made: None }
+            WorkerTask::Expect { made: None }
         } else {
-            Given::Nothing { made: None }
+            WorkerTask::Nothing { made: None }
         }
     }
 
@@ -102,7 +102,14 @@ impl<L: DriveName, E: Link, Q: Receipt> Drive<L, E, Q> {
 
     /// Takes the bytes of a message of the switch at a place, which came after k others, or those at which its stream
     /// has a fault. What halts the coordinator has its end kept.
-    pub fn tell(&mut self, alloc: Global, place: usize, bytes: &[u8], end: E, k: u64) -> Told<E>
+    pub fn tell(
+        &mut self,
+        alloc: Global,
+        place: usize,
+        bytes: &[u8],
+        end: E,
+        k: u64,
+    ) -> TellResult<E>
         requires place { place < length L.start.peers }
         requires name { E.named end ≡ place }
         requires stream { TellsWhereKnown (E.received end) k bytes.now }
@@ -110,18 +117,18 @@ impl<L: DriveName, E: Link, Q: Receipt> Drive<L, E, Q> {
         ensures back { GivesBack end result }
     {
         if self.told(place) as u64 != k {
-            return Told::Back { end, made: None };
+            return TellResult::Back { end, made: None };
         }
         match read_element(alloc, bytes) {
             Element::Message(message) => self.hear(alloc, place, message, end),
             Element::Fault(fault) => self.garble(place, fault, end),
-            Element::Rest => Told::Back { end, made: None },
-            Element::Memory => Told::Memory(end),
+            Element::Rest => TellResult::Back { end, made: None },
+            Element::Memory => TellResult::Memory(end),
         }
     }
 
     // Hears a message.
-    fn hear(&mut self, alloc: Global, place: usize, message: Message, end: E) -> Told<E>
+    fn hear(&mut self, alloc: Global, place: usize, message: Message, end: E) -> TellResult<E>
         requires place { place < length L.start.peers }
         requires name { E.named end ≡ place }
         requires fits { Fits message }
@@ -131,24 +138,24 @@ impl<L: DriveName, E: Link, Q: Receipt> Drive<L, E, Q> {
         ensures back { GivesBack end result }
     {
         let Ok(reply) = echo_reply(alloc, &message) else {
-            return Told::Memory(end);
+            return TellResult::Memory(end);
         };
         match self.cut(Steering::Heard(place, message), end) {
-            Ok(None) => Told::Kept,
+            Ok(None) => TellResult::Kept,
             Ok(Some(end)) => {
                 self.note_echo(place, reply);
-                Told::Back {
+                TellResult::Back {
                     end,
                     made: Some(StepKind::Heard),
                 }
             }
-            Err(Refused::NotEnabled(end)) => Told::Back { end, made: None },
-            Err(Refused::Memory(end)) => Told::Memory(end),
+            Err(Rejection::NotEnabled(end)) => TellResult::Back { end, made: None },
+            Err(Rejection::Memory(end)) => TellResult::Memory(end),
         }
     }
 
     // The stream has a fault.
-    fn garble(&mut self, place: usize, fault: WireFault, end: E) -> Told<E>
+    fn garble(&mut self, place: usize, fault: WireFault, end: E) -> TellResult<E>
         requires place { place < length L.start.peers }
         requires name { E.named end ≡ place }
         requires next { IsNextElement (told_before place self.old.held.journal) (E.received end)
@@ -157,15 +164,15 @@ impl<L: DriveName, E: Link, Q: Receipt> Drive<L, E, Q> {
         ensures back { GivesBack end result }
     {
         match self.cut(Steering::Garbled(place, fault), end) {
-            Ok(None) => Told::Kept,
+            Ok(None) => TellResult::Kept,
             Ok(Some(_)) => unreachable!(),
-            Err(Refused::NotEnabled(end)) => Told::Back { end, made: None },
-            Err(Refused::Memory(end)) => Told::Memory(end),
+            Err(Rejection::NotEnabled(end)) => TellResult::Back { end, made: None },
+            Err(Rejection::Memory(end)) => TellResult::Memory(end),
         }
     }
 
     /// The end of the switch at a place failed: the session is lost, unless the coordinator has halted.
-    pub fn lost(&mut self, place: usize, end: E) -> Told<E>
+    pub fn lost(&mut self, place: usize, end: E) -> TellResult<E>
         requires place { place < length L.start.peers }
         requires name { E.named end ≡ place }
         requires failed { 0 < E.faults end }
@@ -173,23 +180,23 @@ impl<L: DriveName, E: Link, Q: Receipt> Drive<L, E, Q> {
         ensures back { GivesBack end result }
     {
         match self.cut(Steering::Lost(place), end) {
-            Ok(None) => Told::Kept,
+            Ok(None) => TellResult::Kept,
             Ok(Some(_)) => unreachable!(),
-            Err(Refused::NotEnabled(end)) => Told::Back { end, made: None },
-            Err(Refused::Memory(end)) => Told::Memory(end),
+            Err(Rejection::NotEnabled(end)) => TellResult::Back { end, made: None },
+            Err(Rejection::Memory(end)) => TellResult::Memory(end),
         }
     }
 
     /// Whether the worker of the switch at a place, whose end is closed, is to stop.
-    pub fn shut(&self, place: usize) -> Shut<E>
+    pub fn shut(&self, place: usize) -> IdleTask<E>
         requires { place < length L.start.peers }
         ensures answer { Shuts (Stops self.now place) result }
         ensures same_end { OnShutNewEnd (λ _. ⊥) result }
     {
         if self.stops(place) {
-            Shut::Stop
+            IdleTask::Stop
         } else {
-            Shut::Nothing
+            IdleTask::Nothing
         }
     }
 }

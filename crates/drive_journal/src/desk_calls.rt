@@ -11,7 +11,7 @@ use outside_net::{Link, Receipt};
 use std::alloc::AllocError;
 use std::sync::Wait;
 use std::time::Clock;
-use worker_desk::{Desk, Given, Shut, Told};
+use worker_desk::{Desk, IdleTask, TellResult, WorkerTask};
 
 impl<R: Wait + Clock + Drop, L: DriveName, E: Link, Q: Receipt> Desk for DriveDesk<R, L, E, Q> {
     type Seat = DriveSeat;
@@ -32,10 +32,10 @@ impl<R: Wait + Clock + Drop, L: DriveName, E: Link, Q: Receipt> Desk for DriveDe
 
     ghost kept = { λ s. None };
 
-    fn give(&self, seat: &mut DriveSeat) -> Result<Given<E>, AllocError> {
+    fn give(&self, seat: &mut DriveSeat) -> Result<WorkerTask<E>, AllocError> {
         let mut guard = self.drive.lock(&self.rt);
         let given = match &mut *guard {
-            None => Ok(Given::Stop),
+            None => Ok(WorkerTask::Stop),
             Some(drive) => drive.give(self.alloc, seat.place),
         };
         if !is_idle(&given) {
@@ -43,19 +43,19 @@ impl<R: Wait + Clock + Drop, L: DriveName, E: Link, Q: Receipt> Desk for DriveDe
         }
         if seat.heard {
             seat.heard = false;
-            return Ok(Given::Expect { made: None });
+            return Ok(WorkerTask::Expect { made: None });
         }
         if self.rest(guard) {
-            return Ok(Given::Expect { made: None });
+            return Ok(WorkerTask::Expect { made: None });
         }
         given
     }
 
-    fn tell(&self, seat: &mut DriveSeat, bytes: &[u8], end: E, k: u64) -> Told<E> {
+    fn tell(&self, seat: &mut DriveSeat, bytes: &[u8], end: E, k: u64) -> TellResult<E> {
         let mut guard = self.drive.lock(&self.rt);
         let before = moment_of(&guard);
         let told = match &mut *guard {
-            None => Told::Back { end, made: None },
+            None => TellResult::Back { end, made: None },
             Some(drive) => {
                 seat.heard = !drive.awaits(seat.place);
                 drive.tell(self.alloc, seat.place, bytes, end, k)
@@ -69,22 +69,22 @@ impl<R: Wait + Clock + Drop, L: DriveName, E: Link, Q: Receipt> Desk for DriveDe
         told
     }
 
-    fn lost(&self, seat: &mut DriveSeat, end: E) -> Told<E> {
+    fn lost(&self, seat: &mut DriveSeat, end: E) -> TellResult<E> {
         let told = match &mut *self.drive.lock(&self.rt) {
-            None => Told::Back { end, made: None },
+            None => TellResult::Back { end, made: None },
             Some(drive) => drive.lost(seat.place, end),
         };
         self.bell.notify_all();
         told
     }
 
-    fn shut(&self, seat: &mut DriveSeat) -> Shut<E> {
+    fn shut(&self, seat: &mut DriveSeat) -> IdleTask<E> {
         let guard = self.drive.lock(&self.rt);
         let shut = match &*guard {
-            None => Shut::Stop,
+            None => IdleTask::Stop,
             Some(drive) => drive.shut(seat.place),
         };
-        if matches!(shut, Shut::Nothing) {
+        if matches!(shut, IdleTask::Nothing) {
             self.rest(guard);
         }
         shut
@@ -96,6 +96,6 @@ impl<R: Wait + Clock + Drop, L: DriveName, E: Link, Q: Receipt> Desk for DriveDe
 }
 
 // Whether there was nothing to do.
-fn is_idle<E>(given: &Result<Given<E>, AllocError>) -> bool {
-    matches!(given, Ok(Given::Nothing { made: None }))
+fn is_idle<E>(given: &Result<WorkerTask<E>, AllocError>) -> bool {
+    matches!(given, Ok(WorkerTask::Nothing { made: None }))
 }

@@ -4,8 +4,8 @@
 ghost use Rattle.std.specs.Prelude.{◌≡◌, None, IfOk, replicate};
 
 use crate::name::DriveName;
-use crate::refused::Refused;
-use crate::steered::Steered;
+use crate::refused::Rejection;
+use crate::steered::DriveState;
 use crate::steering::Steering;
 use crate::updates::is_last;
 use openflow_wire::Message;
@@ -20,7 +20,7 @@ use echoes::no_echoes;
 
 /// A journal with its coordinator, whether the drive was closed, and the answers that are still to be sent.
 pub struct Drive<L: DriveName, E: Link, Q: Receipt> {
-    pub(crate) held: Steered<L, E, Q>,
+    pub(crate) held: DriveState<L, E, Q>,
     pub(crate) closed: bool,
     echoes: Vec<Option<Message>>,
 }
@@ -59,7 +59,7 @@ impl<L: DriveName, E: Link, Q: Receipt> Drive<L, E, Q> {
     ghost use Rattle.drive_journal.specs.Steering.{Steers};
 
     /// A drive that begins: no answer is to be sent.
-    pub fn new(alloc: Global, held: Steered<L, E, Q>) -> Result<Drive<L, E, Q>, AllocError>
+    pub fn new(alloc: Global, held: DriveState<L, E, Q>) -> Result<Drive<L, E, Q>, AllocError>
         ensures { IfOk result (λ d. d ≡ record
             { held = held; closed = false; echoes = replicate (length L.start.peers) None }) }
     {
@@ -98,7 +98,7 @@ impl<L: DriveName, E: Link, Q: Receipt> Drive<L, E, Q> {
 
     /// Sends the next message to the switch at a place. A copy of it is given, unless memory
     /// runs out after the message was noted.
-    pub fn send(&mut self, alloc: Global, place: usize) -> Result<Option<Message>, Refused<()>>
+    pub fn send(&mut self, alloc: Global, place: usize) -> Result<Option<Message>, Rejection<()>>
         requires { place < length L.start.peers }
         ensures sent { IfOk result (λ copy. Sends place copy self.old.held self.new.held × IsBeside self.old self.new) }
         ensures refused { IfErr result (Refuses (¬ MaySend place self.old.held.control)) }
@@ -108,7 +108,7 @@ impl<L: DriveName, E: Link, Q: Receipt> Drive<L, E, Q> {
     }
 
     /// Does what came over an end.
-    pub fn cut(&mut self, event: Steering, end: E) -> Result<Option<E>, Refused<E>>
+    pub fn cut(&mut self, event: Steering, end: E) -> Result<Option<E>, Rejection<E>>
         requires place { IsAmong (length L.start.peers) event }
         requires met { MetBy E.named E.faults E.received self.old.held.journal event end }
         requires fits { IsWritable event }
@@ -126,7 +126,7 @@ impl<L: DriveName, E: Link, Q: Receipt> Drive<L, E, Q> {
     }
 
     /// Takes the report of a drain, and keeps it.
-    pub fn drained(&mut self, receipt: Q) -> Result<(), Refused<Q>>
+    pub fn drained(&mut self, receipt: Q) -> Result<(), Rejection<Q>>
         ensures step { OnOk result
             (Steers self.old.held.control (steering.Drained (Q.stamped receipt)) self.new.held.control) }
         ensures refused { IfErr result (Refuses (drain_refusal self.old.held.control (Q.stamped receipt) ≢ None)) }
@@ -164,7 +164,7 @@ impl<L: DriveName, E: Link, Q: Receipt> Drive<L, E, Q> {
     }
 
     /// The journal with all that was kept.
-    pub fn finish(self) -> Steered<L, E, Q>
+    pub fn finish(self) -> DriveState<L, E, Q>
         ensures { result ≡ self.held }
     {
         let Drive {

@@ -7,8 +7,8 @@ ghost use Rattle.drive_journal.specs.Drives.{IsOver};
 use crate::drive::Drive;
 use crate::moment::{is_done, stand_of};
 use crate::name::DriveName;
-use crate::refused::Refused;
-use crate::steered::Steered;
+use crate::refused::Rejection;
+use crate::steered::DriveState;
 use crate::updates::CallerTask;
 use outside_net::{Link, Receipt};
 use status_board::Post;
@@ -119,7 +119,7 @@ impl<R: Wait + Clock + Drop, L: DriveName, E: Link, Q: Receipt> DriveDesk<R, L, 
         let done = match &mut *self.drive.lock(&self.rt) {
             None => Ok(()),
             Some(drive) => match drive.drained(receipt) {
-                Err(Refused::Memory(_)) => Err(AllocError),
+                Err(Rejection::Memory(_)) => Err(AllocError),
                 _ => Ok(()),
             },
         };
@@ -137,7 +137,7 @@ impl<R: Wait + Clock + Drop, L: DriveName, E: Link, Q: Receipt> DriveDesk<R, L, 
     }
 
     /// Waits until the drive is closed or over, and takes its journal out: none if it was closed.
-    pub fn finish(&self) -> Option<Steered<L, E, Q>>
+    pub fn finish(&self) -> Option<DriveState<L, E, Q>>
         ensures { IfSome result (λ h. IsOver h.control) }
     {
         for _ in self.rt.forever() {

@@ -1,13 +1,13 @@
 //! What a journal with its coordinator is made of.
 //!
-//! Layer: switches outside; private. Adds calls to `Steered`.
+//! Layer: switches outside; private. Adds calls to `DriveState`.
 use crate::name::DriveName;
-use crate::steered::Steered;
+use crate::steered::DriveState;
 use crate::steering::Steering;
 use outside_net::{Link, Receipt};
 use update_coordinator::Coordinator;
 
-impl<L: DriveName, E: Link, Q: Receipt> Steered<L, E, Q> {
+impl<L: DriveName, E: Link, Q: Receipt> DriveState<L, E, Q> {
     ghost use Rattle.std.specs.Prelude.{◌≡◌, ◌<◌, length};
     ghost use Rattle.drive_journal.specs.Journals.{AreWritable, IsSteered, told_before};
 
@@ -52,7 +52,7 @@ impl<L: DriveName, E: Link, Q: Receipt> Steered<L, E, Q> {
         ensures history { IsSteered E.named E.faults E.received Q.stamped L.start self.control self.journal
             self.receipts self.ends }
     {
-        let Steered {
+        let DriveState {
             coordinator,
             journal,
             receipts,

@@ -6,7 +6,7 @@ use thiserror::Error;
 
 /// Why an event did not happen. What was handed in comes back.
 #[derive(Debug, Drop, Error)]
-pub enum Refused<X> {
+pub enum Rejection<X> {
     /// It cannot happen now.
     #[error("the event cannot happen now")]
     NotEnabled(X),

@@ -3,7 +3,7 @@
 //! Layer: switches outside; public. Called by `drive`, `drive_desk` and `parts` here, and by drive_workers.
 use crate::intake::{count_told, take_in};
 use crate::name::DriveName;
-use crate::refused::Refused;
+use crate::refused::Rejection;
 use crate::steering::Steering;
 use openflow_wire::Message;
 use outside_net::{Link, Receipt};
@@ -14,7 +14,7 @@ use update_coordinator::Coordinator;
 /// A coordinator, the journal that led to it from the start that `L` names, the reports that were kept for drains, and
 /// the end that was kept if it has halted.
 #[derive(Drop)]
-pub struct Steered<L: DriveName, E: Link, Q: Receipt> {
+pub struct DriveState<L: DriveName, E: Link, Q: Receipt> {
     pub(crate) coordinator: Coordinator,
     pub(crate) journal: Vec<Steering>,
     pub(crate) receipts: Vec<Q>,
@@ -24,7 +24,7 @@ pub struct Steered<L: DriveName, E: Link, Q: Receipt> {
     pub(crate) of: PhantomData<L>,
 }
 
-impl<L: DriveName, E: Link, Q: Receipt> Model for Steered<L, E, Q> {
+impl<L: DriveName, E: Link, Q: Receipt> Model for DriveState<L, E, Q> {
     ghost use Rattle.std.specs.Prelude.{◌≡◌, length};
     ghost use Rattle.drive_journal.specs.Journals.{AreCounts, AreWritable, IsSteered, SteeredValue};
     ghost use Rattle.drive_journal.specs.Losses.{HaltsAtLoss};
@@ -40,7 +40,7 @@ impl<L: DriveName, E: Link, Q: Receipt> Model for Steered<L, E, Q> {
         AreWritable h.journal.items × HaltsAtLoss h.coordinator };
 }
 
-impl<L: DriveName, E: Link, Q: Receipt> Steered<L, E, Q> {
+impl<L: DriveName, E: Link, Q: Receipt> DriveState<L, E, Q> {
     ghost use Rattle.std.specs.Prelude.{◌≡◌, ◌≢◌, ◌<◌, ◌++◌, ◌∷◌, [], None, OnOk, OnErr, IfOk, IfErr, length};
     ghost use Rattle.update_coordinator.specs.Calls.{begin_refusal, drain_refusal};
     ghost use Rattle.update_coordinator.specs.Sending.{MaySend};
@@ -51,7 +51,7 @@ impl<L: DriveName, E: Link, Q: Receipt> Steered<L, E, Q> {
     ghost use Rattle.drive_journal.specs.Steering.{Steers};
 
     /// A coordinator at its start, with an empty journal. A session that is lost halts it.
-    pub fn make(alloc: Global, coordinator: Coordinator) -> Result<Steered<L, E, Q>, AllocError>
+    pub fn make(alloc: Global, coordinator: Coordinator) -> Result<DriveState<L, E, Q>, AllocError>
         requires start { coordinator ≡ L.start }
         requires runs { coordinator.halt ≡ None }
         requires losses { HaltsAtLoss coordinator }
@@ -59,7 +59,7 @@ impl<L: DriveName, E: Link, Q: Receipt> Steered<L, E, Q> {
     {
         let count = coordinator.switch_count();
         let told = vec![in alloc; 0usize; count]?;
-        Ok(Steered {
+        Ok(DriveState {
             coordinator,
             journal: Vec::new(alloc),
             receipts: Vec::new(alloc),
@@ -70,16 +70,16 @@ impl<L: DriveName, E: Link, Q: Receipt> Steered<L, E, Q> {
     }
 
     /// Begins the next update, and notes it.
-    pub fn begin(&mut self) -> Result<(), Refused<()>>
+    pub fn begin(&mut self) -> Result<(), Rejection<()>>
         ensures begun { OnOk result (NotesEvent steering.Begin self.old self.new) }
         ensures refused { IfErr result (Refuses (begin_refusal self.old.control ≢ None)) }
         ensures err { OnErr result (self.new ≡ self.old) }
     {
         let Ok(()) = self.journal.reserve(1) else {
-            return Err(Refused::Memory(()));
+            return Err(Rejection::Memory(()));
         };
         let Ok(()) = self.coordinator.begin() else {
-            return Err(Refused::NotEnabled(()));
+            return Err(Rejection::NotEnabled(()));
         };
         self.journal.push_reserved(Steering::Begin);
         Ok(())
@@ -87,19 +87,19 @@ impl<L: DriveName, E: Link, Q: Receipt> Steered<L, E, Q> {
 
     /// Sends the next message to the switch at a place, and notes it. A copy of it is given, unless memory
     /// runs out after the message was noted.
-    pub fn send(&mut self, alloc: Global, place: usize) -> Result<Option<Message>, Refused<()>>
+    pub fn send(&mut self, alloc: Global, place: usize) -> Result<Option<Message>, Rejection<()>>
         requires { place < length L.start.peers }
         ensures sent { IfOk result (λ copy. Sends place copy self.old self.new) }
         ensures refused { IfErr result (Refuses (¬ MaySend place self.old.control)) }
         ensures err { OnErr result (self.new ≡ self.old) }
     {
         let Ok(()) = self.journal.reserve(1) else {
-            return Err(Refused::Memory(()));
+            return Err(Rejection::Memory(()));
         };
         let message = match self.coordinator.next_out(place) {
             Ok(Some(message)) => message,
-            Ok(None) => return Err(Refused::NotEnabled(())),
-            Err(AllocError) => return Err(Refused::Memory(())),
+            Ok(None) => return Err(Rejection::NotEnabled(())),
+            Err(AllocError) => return Err(Rejection::Memory(())),
         };
         let copy = message.copy(alloc).ok();
         self.journal.push_reserved(Steering::Send(place, message));
@@ -107,7 +107,7 @@ impl<L: DriveName, E: Link, Q: Receipt> Steered<L, E, Q> {
     }
 
     /// Takes the report that no packet carries a stamp any more, and keeps it.
-    pub fn drained(&mut self, receipt: Q) -> Result<(), Refused<Q>>
+    pub fn drained(&mut self, receipt: Q) -> Result<(), Rejection<Q>>
         ensures step { OnOk result (Steers self.old.control (steering.Drained (Q.stamped receipt)) self.new.control) }
         ensures refused { IfErr result (Refuses (drain_refusal self.old.control (Q.stamped receipt) ≢ None)) }
         ensures journal { OnOk result
@@ -118,14 +118,14 @@ impl<L: DriveName, E: Link, Q: Receipt> Steered<L, E, Q> {
         ensures back { IfErr result (HandsBack receipt) }
     {
         let Ok(()) = self.journal.reserve(1) else {
-            return Err(Refused::Memory(receipt));
+            return Err(Rejection::Memory(receipt));
         };
         let Ok(()) = self.receipts.reserve(1) else {
-            return Err(Refused::Memory(receipt));
+            return Err(Rejection::Memory(receipt));
         };
         let stamp = receipt.stamp();
         let Ok(()) = self.coordinator.drained(stamp) else {
-            return Err(Refused::NotEnabled(receipt));
+            return Err(Rejection::NotEnabled(receipt));
         };
         self.journal.push_reserved(Steering::Drained(stamp));
         self.receipts.push_reserved(receipt);
@@ -134,7 +134,7 @@ impl<L: DriveName, E: Link, Q: Receipt> Steered<L, E, Q> {
 
     /// Does what came over an end: a message, a fault of the stream, or that the session is lost. The end is kept if
     /// this halts the coordinator, and else it comes back.
-    pub fn cut(&mut self, event: Steering, end: E) -> Result<Option<E>, Refused<E>>
+    pub fn cut(&mut self, event: Steering, end: E) -> Result<Option<E>, Rejection<E>>
         requires place { IsAmong (length L.start.peers) event }
         requires met { MetBy E.named E.faults E.received self.old.journal event end }
         requires fits { IsWritable event }
@@ -148,13 +148,13 @@ impl<L: DriveName, E: Link, Q: Receipt> Steered<L, E, Q> {
         ensures back { IfErr result (HandsBack end) }
     {
         let Ok(()) = self.journal.reserve(1) else {
-            return Err(Refused::Memory(end));
+            return Err(Rejection::Memory(end));
         };
         let Ok(()) = self.ends.reserve(1) else {
-            return Err(Refused::Memory(end));
+            return Err(Rejection::Memory(end));
         };
         if !take_in(&mut self.coordinator, &event) {
-            return Err(Refused::NotEnabled(end));
+            return Err(Rejection::NotEnabled(end));
         }
         count_told(&mut self.told, &self.journal, &event);
         self.journal.push_reserved(event);

@@ -7,7 +7,7 @@ ghost use Rattle.drive_journal.specs.Drives.{IsLast};
 
 use crate::drive::Drive;
 use crate::name::DriveName;
-use crate::refused::Refused;
+use crate::refused::Rejection;
 use outside_net::{Link, Receipt};
 use std::alloc::AllocError;
 use update_coordinator::{Coordinator, Phase};
@@ -47,8 +47,8 @@ impl<L: DriveName, E: Link, Q: Receipt> Drive<L, E, Q> {
         }
         match self.held.begin() {
             Ok(()) => Ok(CallerTask::Step),
-            Err(Refused::Memory(())) => Err(AllocError),
-            Err(Refused::NotEnabled(())) => Ok(awaited(self.coordinator())),
+            Err(Rejection::Memory(())) => Err(AllocError),
+            Err(Rejection::NotEnabled(())) => Ok(awaited(self.coordinator())),
         }
     }
 }

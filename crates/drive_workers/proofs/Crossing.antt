@@ -26,8 +26,8 @@ use Rattle.outside_net.specs.declared.reporter.Receipt as Receipt
 use Rattle.drive_journal.specs.declared.name.DriveName as DriveName
 use Rattle.drive_journal.specs.contracts.steering.Steering as steering
 use Rattle.drive_journal.proofs.steering.Steering.TheSendSync as steerings
-use Rattle.drive_journal.specs.contracts.steered.Steered as steered
-use Rattle.drive_journal.specs.contracts.steered.Steered.TheInside as steered_inside
+use Rattle.drive_journal.specs.contracts.steered.DriveState as steered
+use Rattle.drive_journal.specs.contracts.steered.DriveState.TheInside as steered_inside
 use Rattle.drive_journal.specs.contracts.drive.Drive as drive
 use Rattle.drive_journal.specs.contracts.drive.Drive.TheInside as drive_inside
 use Rattle.drive_journal.specs.contracts.drive_desk.DriveDesk as desk

@@ -6,7 +6,7 @@ ghost use Rattle.drive_workers.specs.Faults.{AskCause};
 use crate::fault::{DriveError, DriveFault};
 use board_readers::{BoardName, Pen};
 use drive_journal::{CallerTask, DriveDesk, DriveName};
-use outside_net::{Link, Receipt, ReportFailed, Reporter};
+use outside_net::{Link, Receipt, ReportFailure, Reporter};
 use std::alloc::AllocError;
 use std::sync::Wait;
 use std::time::Clock;
@@ -64,6 +64,6 @@ fn ask<R: Wait + Clock + Drop, L: DriveName, E: Link, Q: Reporter>(
             desk.pause();
             Ok(())
         }
-        Err(ReportFailed) => Err(DriveError::Fault(DriveFault::Report)),
+        Err(ReportFailure) => Err(DriveError::Fault(DriveFault::Report)),
     }
 }

@@ -12,7 +12,7 @@ use crate::crew::drive_fleet;
 use crate::fault::DriveError;
 use crate::lookout::{open_board, start_progress};
 use board_readers::{Board, BoardName, Onlooker};
-use drive_journal::{DriveName, Steered, Steering};
+use drive_journal::{DriveName, DriveState, Steering};
 use outside_net::{Net, Reporter, Spawner};
 use std::alloc::Global;
 use std::marker::Brand;
@@ -91,7 +91,7 @@ where
     ensures net { host.new.net ≡ host.old.net }
 {
     let last = coordinator.versions().len();
-    let held = Steered::<L, N::End, Q::Receipt>::make(alloc, coordinator)?;
+    let held = DriveState::<L, N::End, Q::Receipt>::make(alloc, coordinator)?;
     let (board, eyes) = open_board::<R, L>(&host.rt, alloc, board)?;
     let mut board = board;
     start_progress(&board.ending, eyes, last, &host.gate, &mut host.threads)?;

@@ -11,7 +11,7 @@ use crate::fault::{DriveError, DriveFault};
 use crate::lookout::OpenBoard;
 use crate::worker::DriveWorker;
 use board_readers::{BoardName, Pen};
-use drive_journal::{Drive, DriveDesk, DriveName, Steered};
+use drive_journal::{Drive, DriveDesk, DriveName, DriveState};
 use outside_net::{Job, Link, Net, Receipt, Reporter, Spawner, StartError, StartFault};
 use std::alloc::Global;
 use std::sync::{Arc, Wait};
@@ -31,12 +31,12 @@ pub fn drive_fleet<
     Q: Reporter,
 >(
     alloc: Global,
-    held: Steered<L, N::End, Q::Receipt>,
+    held: DriveState<L, N::End, Q::Receipt>,
     ends: Vec<N::End>,
     board: &mut OpenBoard<Pen<J, R>, R>,
     host: &mut Host<R, N, T, G>,
     reporter: &mut Q,
-) -> Result<Steered<L, N::End, Q::Receipt>, DriveError>
+) -> Result<DriveState<L, N::End, Q::Receipt>, DriveError>
 where
     N::End: 'static,
     Q::Receipt: Send + 'static,

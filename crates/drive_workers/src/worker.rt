@@ -9,7 +9,7 @@ use outside_net::{Job, Link, Receipt};
 use std::sync::{Arc, Wait};
 use std::time::Clock;
 use worker_desk::Gate;
-use worker_post::{Post, Who};
+use worker_post::{Post, WorkerName};
 
 /// A worker with the place of its switch and its end.
 #[derive(Drop)]
@@ -79,7 +79,7 @@ impl<
             alloc: desk.alloc(),
             desk: &desk,
             gate: &*gate,
-            who: Who {
+            who: WorkerName {
                 worker: place.saturating_add(1),
                 session: true,
             },

@@ -23,7 +23,7 @@ pub fn additions(alloc: Global, rows: &Rows) -> Result<String, AllocError>
     requires { AreWritable rows.now }
 {
     let mut told = String::new(alloc);
-    for port in rows.ports.as_slice() {
+    for port in &rows.ports {
         told.push_str(&port_additions(alloc, port)?)?;
     }
     Ok(told)
@@ -34,7 +34,7 @@ fn port_additions(alloc: Global, port: &PortRows) -> Result<String, AllocError>
     requires { (row : Row) → IsIn port.now.rows row → IsWritable row }
 {
     let mut told = String::new(alloc);
-    for row in port.rows.as_slice() {
+    for row in &port.rows {
         let message = addition(alloc, row)?;
         let digits = hex::encode(alloc, message.as_slice())?;
         told.push_str(&format!(in alloc; "{}:{} {digits}\n", port.sw, port.pt)?)?;

@@ -9,7 +9,7 @@ use Rattle.nk_syntax.specs.Views.{term_of}
 use Rattle.history_meaning.specs.Plain.{IsPlain}
 use Rattle.document_text.specs.Documents.{Doc}
 use Rattle.equal_laws.specs.Equals.{HaveSameResults}
-use Rattle.fdd_apart.specs.declared.finding.Apart.{Apart}
+use Rattle.fdd_apart.specs.declared.finding.Difference.{Difference}
 use Rattle.fdd_compile.specs.Named.{AreFewNamed, TermNames}
 use Rattle.outside_io.specs.Lists.{TakesFirst}
 use Rattle.policy_equality.specs.Comparisons.{AreApartBy, HaveSameHistories}
@@ -27,7 +27,7 @@ use Rattle.equal_command.specs.Compared.{IsComparedAs, IsEquivTold, IsTextOf, Te
 use Rattle.equal_command.specs.Equiv.{HasTwo, IsComparison, equal, apart, IsEquivAnswer, IsEquivRefused, IsNumberFault}
 
 -- the text of what was found compares the policies
-pub text-compares : (p q : Term) (o : Option Apart) (text : List ℕ) → IsTextOf o text → (o ≡ None) ↔ HaveSameResults p q → IfSome o (AreApartBy p q) → (o ≡ None → IsPlain p → IsPlain q → HaveSameHistories p q) → IsComparison p q text
+pub text-compares : (p q : Term) (o : Option Difference) (text : List ℕ) → IsTextOf o text → (o ≡ None) ↔ HaveSameResults p q → IfSome o (AreApartBy p q) → (o ≡ None → IsPlain p → IsPlain q → HaveSameHistories p q) → IsComparison p q text
 text-compares p q None text t same by h = equal (record { results = same.0 refl; histories = h refl }) t
 text-compares p q (Some x) text t same by h = apart x by t
 

@@ -2,7 +2,7 @@
 use Rattle.std.specs.Prelude.{◌≡◌, ◌⊎◌, ℕ, List, Option, Some, None}
 use Rattle.nk_syntax.specs.Terms.{Term}
 use Rattle.document_text.specs.Documents.{Doc}
-use Rattle.fdd_apart.specs.declared.finding.Apart.{Apart}
+use Rattle.fdd_apart.specs.declared.finding.Difference.{Difference}
 use Rattle.policy_equality.specs.Comparisons.{HaveMeaning}
 use Rattle.value_text.specs.Equality.{equal_text, apart_text}
 use Rattle.program_answer.specs.declared.answer.Answer.{Answer}
@@ -12,7 +12,7 @@ use Rattle.program_answer.specs.declared.status.Status.TheVariants.{Done}
 use Rattle.equal_command.specs.Equiv.{IsComparison, IsEquivOf, IsMeaningFault, IsNumberFault, IsPairFault, number_of}
 
 -- the line of what was found
-abbrev pub IsTextOf : Option Apart → List ℕ → Type 0
+abbrev pub IsTextOf : Option Difference → List ℕ → Type 0
 IsTextOf None text = text ≡ equal_text
 IsTextOf (Some x) text = text ≡ apart_text x.packet x.output (number_of x.side)
 

@@ -6,7 +6,7 @@ use Rattle.history_meaning.specs.Plain.{IsPlain}
 use Rattle.document_text.specs.Documents.{Doc}
 use Rattle.document_text.specs.Grammar.{IsDocument}
 use Rattle.equal_laws.specs.Equals.{HaveSameResults}
-use Rattle.fdd_apart.specs.declared.finding.Apart.{Apart}
+use Rattle.fdd_apart.specs.declared.finding.Difference.{Difference}
 use Rattle.fdd_apart.specs.declared.finding.Side.{Side}
 use Rattle.fdd_apart.specs.declared.finding.Side.TheVariants.{First, Second}
 use Rattle.policy_equality.specs.Comparisons.{AreApartBy, HaveMeaning, HaveSameHistories, IsFaultOf}
@@ -37,7 +37,7 @@ pub record AreEqual (p q : Term) : Type 0 where
 -- number gives.
 pub data IsComparison (p q : Term) (text : List ℕ) : Type 0 where
   equal : AreEqual p q → text ≡ equal_text → IsComparison p q text
-  apart : (x : Apart) → AreApartBy p q x → text ≡ apart_text x.packet x.output (number_of x.side) →
+  apart : (x : Difference) → AreApartBy p q x → text ≡ apart_text x.packet x.output (number_of x.side) →
       IsComparison p q text
 
 -- the first fault of the two, with the number of its policy

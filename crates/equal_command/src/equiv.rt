@@ -15,7 +15,7 @@ ghost use Rattle.equal_command.specs.Compared.{IsComparedAs, IsEquivTold, IsText
 use document_text::Document;
 use nk_syntax::Pol;
 use outside_io::Source;
-use policy_equality::{Apart, CompareError, Side, compare};
+use policy_equality::{CompareError, Difference, Side, compare};
 use program_answer::{Answer, AnswerError, ReadDocument, Status, read_source};
 use std::alloc::{AllocError, Global};
 use value_text::{Fault, Text, apart_text, equal_text};
@@ -68,7 +68,7 @@ fn comparison(alloc: Global, first: &Pol, second: &Pol) -> Result<Answer, Answer
 }
 
 // The line of a comparison.
-fn comparison_text(alloc: Global, found: &Option<Apart>) -> Result<Text, AllocError>
+fn comparison_text(alloc: Global, found: &Option<Difference>) -> Result<Text, AllocError>
     ensures { IfOk result (IsTextOf found.now) }
 {
     match found {

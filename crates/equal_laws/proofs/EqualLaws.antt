@@ -10,7 +10,7 @@ use Rattle.nk_values.proofs.MemberLaws.{from-flat_map}
 use Rattle.nk_syntax.specs.Terms.{Term}
 use Rattle.nk_syntax.specs.Views.{term_row}
 use Rattle.history_meaning.specs.Meaning.{den, times, IsResult}
-use Rattle.history_meaning.specs.Network.{Place, Wiring, hop, rest, edge_term, IsComplete, IsOpen}
+use Rattle.history_meaning.specs.Network.{Location, Wiring, hop, rest, edge_term, IsComplete, IsOpen}
 use Rattle.history_meaning.specs.Plain.{HasResult, IsPlain}
 use Rattle.topology_model.specs.Wired.{IsWiring}
 use Rattle.policy_rows.specs.Means.{standing}
@@ -21,7 +21,7 @@ use Rattle.history_meaning.proofs.Runs.{from-chain}
 use Rattle.packet_tracer.proofs.Reaching.{Reaches, Finishes, from-complete, to-complete, from-open, to-open}
 
 -- a packet at another port is as well shaped
-moved-range : (q : Packet) (a : Place) → IsInRange q → IsValue Sw a.sw → IsValue Pt a.pt → IsInRange (moved q a)
+moved-range : (q : Packet) (a : Location) → IsInRange q → IsValue Sw a.sw → IsValue Pt a.pt → IsInRange (moved q a)
 moved-range q a r s p Sw = s
 moved-range q a r s p Pt = p
 moved-range q a r s p EthTyp = r EthTyp
@@ -33,7 +33,7 @@ moved-range q a r s p Ip4Dst = r Ip4Dst
 moved-range q a r s p TcpSrcPort = r TcpSrcPort
 moved-range q a r s p TcpDstPort = r TcpDstPort
 
-moved-shaped : (q : Packet) (a : Place) → IsWellShaped q → IsValue Sw a.sw → IsValue Pt a.pt → IsWellShaped (moved q a)
+moved-shaped : (q : Packet) (a : Location) → IsWellShaped q → IsValue Sw a.sw → IsValue Pt a.pt → IsWellShaped (moved q a)
 moved-shaped q a h s p = record { in_range = moved-range q a h.in_range s p; ip_only = h.ip_only; no_ports = h.no_ports }
 
 abbrev There : Term → Term → Type 0

@@ -23,7 +23,7 @@ use Rattle.fdd_store.specs.Stores.{Kept, Grows}
 use Rattle.fdd_store.proofs.SameLaws.{same_trans, same_sym}
 use Rattle.fdd_store.proofs.StoreLaws.{has_grown, tree_grown}
 use Rattle.fdd_store.proofs.UniqueLaws.{alike_of_one}
-use Rattle.fdd_apart.specs.declared.finding.Apart.{Apart}
+use Rattle.fdd_apart.specs.declared.finding.Difference.{Difference}
 use Rattle.fdd_apart.specs.Aparts.{AreAlikeShaped, AreAlikeOf, AreAlikeBoth, AreNamesOf, IsLoneOutput, IsApart, IsAsked, IsPacketOf, IsApartOn}
 use Rattle.fdd_apart.specs.Outputs.{IsLoneOutcome}
 use Rattle.fdd_apart.specs.Kinds.{Restricts}
@@ -114,7 +114,7 @@ module _ (k : Frame) (ls : List Lit) (a b x y : Tree) (q g : Packet) (na : AreNa
       let left = λ (f : Field). (good f).0 in
       h.differs packet (agrees_fill q (fill (frame_cell k) g)) named_held (same_trans _ _ _ (rx.same packet left) (same_trans _ _ _ s (same_sym _ _ (ry.same packet left))))
 
-pub told_apart : (k : Frame) (ls : List Lit) (a b x y : Tree) (q p : Packet) (o : Option Apart) → AreNamesOf ls a → AreNamesOf ls b → Restricts k a x → Restricts k b y → CellApart whole_cell x y q → IsPacketOf q k ls p
+pub told_apart : (k : Frame) (ls : List Lit) (a b x y : Tree) (q p : Packet) (o : Option Difference) → AreNamesOf ls a → AreNamesOf ls b → Restricts k a x → Restricts k b y → CellApart whole_cell x y q → IsPacketOf q k ls p
     → MatchOption o (SameAnswers (answers a p) (answers b p)) (IsApartOn a b p) → MatchOption o (AreAlikeOf k a b) (IsApart a b)
 told_apart k ls a b x y q p None na nb rx ry h i t =
     absurd (packet_differs k ls a b x y q i.other na nb rx ry h i.fresh (subst (λ (r : Packet). SameAnswers (answers a r) (answers b r)) i.is t))
@@ -137,18 +137,18 @@ asked_grown k j a b ls g h = record {
   named_b = named_as ls _ _ (tree_grown k j b g h.has_b) h.named_b;
 }
 
-pub told_as : (a b x y : Tree) (p : Packet) (o : Option Apart) → a ≡ x → b ≡ y → MatchOption o (SameAnswers (answers a p) (answers b p)) (IsApartOn a b p) → MatchOption o (SameAnswers (answers x p) (answers y p)) (IsApartOn x y p)
+pub told_as : (a b x y : Tree) (p : Packet) (o : Option Difference) → a ≡ x → b ≡ y → MatchOption o (SameAnswers (answers a p) (answers b p)) (IsApartOn a b p) → MatchOption o (SameAnswers (answers x p) (answers y p)) (IsApartOn x y p)
 told_as a b x y p o e f h =
     subst (λ (t : Tree). MatchOption o (SameAnswers (answers x p) (answers t p)) (IsApartOn x t p)) f
     (subst (λ (t : Tree). MatchOption o (SameAnswers (answers t p) (answers b p)) (IsApartOn t b p)) e h)
 
 -- ---- several kinds
 
-pub both_kinds : (k j : Frame) (a b x y : Tree) (o : Option Apart) → x ≡ a → y ≡ b → AreAlikeOf k a b → MatchOption o (AreAlikeOf j x y) (IsApart x y) → MatchOption o (AreAlikeBoth k j a b) (IsApart a b)
+pub both_kinds : (k j : Frame) (a b x y : Tree) (o : Option Difference) → x ≡ a → y ≡ b → AreAlikeOf k a b → MatchOption o (AreAlikeOf j x y) (IsApart x y) → MatchOption o (AreAlikeBoth k j a b) (IsApart a b)
 both_kinds k j a b x y None e f h i = record { one = h; other = subst (λ (t : Tree). AreAlikeOf j a t) f (subst (λ (t : Tree). AreAlikeOf j t y) e i) }
 both_kinds k j a b x y (Some z) e f h i = subst (λ (t : Tree). IsApart a t z) f (subst (λ (t : Tree). IsApart t y z) e i)
 
-pub all_kinds : (a b x y : Tree) (o : Option Apart) → x ≡ a → y ≡ b → AreAlikeBoth NoIp OtherIp a b → MatchOption o (AreAlikeBoth Tcp Udp x y) (IsApart x y) → MatchOption o (AreAlikeShaped a b) (IsApart a b)
+pub all_kinds : (a b x y : Tree) (o : Option Difference) → x ≡ a → y ≡ b → AreAlikeBoth NoIp OtherIp a b → MatchOption o (AreAlikeBoth Tcp Udp x y) (IsApart x y) → MatchOption o (AreAlikeShaped a b) (IsApart a b)
 all_kinds a b x y None e f h i = alike_both a b h (subst (λ (t : Tree). AreAlikeBoth Tcp Udp a t) f (subst (λ (t : Tree). AreAlikeBoth Tcp Udp t y) e i))
 all_kinds a b x y (Some z) e f h i = subst (λ (t : Tree). IsApart a t z) f (subst (λ (t : Tree). IsApart t y z) e i)
 

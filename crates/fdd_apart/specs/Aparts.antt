@@ -12,7 +12,7 @@ use Rattle.fdd_differ.specs.Unnamed.{AreFewNames, IsFreshOf}
 use Rattle.fdd_store.specs.Stores.{Kept, Has, tree_at}
 use Rattle.fdd_apart.specs.declared.finding.Side.{Side}
 use Rattle.fdd_apart.specs.declared.finding.Side.TheVariants.{First, Second}
-use Rattle.fdd_apart.specs.declared.finding.Apart.{Apart}
+use Rattle.fdd_apart.specs.declared.finding.Difference.{Difference}
 
 -- the diagrams answer each well-shaped packet alike
 pub record AreAlikeShaped (a b : Tree) : Type 0 where
@@ -45,12 +45,12 @@ GivesAlone First a b p x = IsIn (answers a p) x × ¬ IsIn (answers b p) x
 GivesAlone Second a b p x = IsIn (answers b p) x × ¬ IsIn (answers a p) x
 
 -- a well-shaped packet, and an output that just one side gives
-pub record IsApart (a b : Tree) (x : Apart) : Type 0 where
+pub record IsApart (a b : Tree) (x : Difference) : Type 0 where
   pub shaped : IsWellShaped x.packet
   pub alone : GivesAlone x.side a b x.packet x.output
 
 -- the same of a packet that is given
-pub record IsApartOn (a b : Tree) (p : Packet) (x : Apart) : Type 0 where
+pub record IsApartOn (a b : Tree) (p : Packet) (x : Difference) : Type 0 where
   pub packet : x.packet ≡ p
   pub alone : GivesAlone x.side a b x.packet x.output
 

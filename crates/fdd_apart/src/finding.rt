@@ -12,7 +12,7 @@ ghost use Rattle.fdd_apart.specs.Aparts.{IsPacketOf, IsApartOn};
 use crate::kinds::restriction;
 use crate::outputs::lone_output;
 use crate::walk::{are_one, cell_apart};
-use fdd_differ::{Frame, Listed, unnamed};
+use fdd_differ::{Frame, LiteralList, unnamed};
 use fdd_nodes::Cell;
 use fdd_store::{Id, Store};
 use nk_values::{Lit, Packet};
@@ -27,7 +27,7 @@ pub enum Side {
 
 /// A well-shaped packet, and an output that just one side gives.
 #[derive(Clone, Copy)]
-pub struct Apart {
+pub struct Difference {
     pub packet: Packet,
     pub output: Packet,
     pub side: Side,
@@ -35,7 +35,7 @@ pub struct Apart {
 
 // The two diagrams that are compared.
 #[derive(Clone, Copy)]
-struct Compared {
+struct Comparison {
     a: Id,
     b: Id,
 }
@@ -54,7 +54,7 @@ pub fn apart_in(
     a: Id,
     b: Id,
     names: &[Lit],
-) -> Result<Option<Apart>, AllocError>
+) -> Result<Option<Difference>, AllocError>
     requires has_a { Has store.old a }
     requires has_b { Has store.old b }
     requires few { AreFewNames names.now }
@@ -68,7 +68,7 @@ pub fn apart_in(
     if are_one(store, a, b) {
         return Ok(None);
     }
-    let compared = Compared { a, b };
+    let compared = Comparison { a, b };
     if let Some(found) = apart_in_two_kinds(
         alloc,
         store,
@@ -86,11 +86,11 @@ pub fn apart_in(
 fn apart_in_two_kinds(
     alloc: Global,
     store: &mut Store,
-    compared: &Compared,
+    compared: &Comparison,
     names: &[Lit],
     first: Frame,
     second: Frame,
-) -> Result<Option<Apart>, AllocError>
+) -> Result<Option<Difference>, AllocError>
     requires { IsAsked store.old compared.now.a compared.now.b names.now }
     ensures grows { Grows store.old store.new }
     ensures told { IfOk result
@@ -108,10 +108,10 @@ fn apart_in_two_kinds(
 fn apart_in_kind(
     alloc: Global,
     store: &mut Store,
-    compared: &Compared,
+    compared: &Comparison,
     names: &[Lit],
     frame: Frame,
-) -> Result<Option<Apart>, AllocError>
+) -> Result<Option<Difference>, AllocError>
     requires { IsAsked store.old compared.now.a compared.now.b names.now }
     ensures grows { Grows store.old store.new }
     ensures told { IfOk result
@@ -133,12 +133,12 @@ fn packet_of(cell: &Cell, frame: Frame, names: &[Lit]) -> Packet
     requires { AreFewNames names.now }
     ensures { IsPacketOf cell.now frame names.now result }
 {
-    let other = unnamed(&Listed { lits: names });
+    let other = unnamed(&LiteralList { lits: names });
     cell.filled(&frame.cell().filled(&other))
 }
 
 // An output of a packet that just one side gives, or none if both answer it alike.
-fn output_apart(store: &Store, a: Id, b: Id, packet: &Packet) -> Option<Apart>
+fn output_apart(store: &Store, a: Id, b: Id, packet: &Packet) -> Option<Difference>
     requires has_a { Has store.now a }
     requires has_b { Has store.now b }
     ensures { MatchOption result
@@ -148,7 +148,7 @@ fn output_apart(store: &Store, a: Id, b: Id, packet: &Packet) -> Option<Apart>
     let packet = *packet;
     if let Some(output) = lone_output(store, a, b, &packet) {
         let side = Side::First;
-        return Some(Apart {
+        return Some(Difference {
             packet,
             output,
             side,
@@ -156,7 +156,7 @@ fn output_apart(store: &Store, a: Id, b: Id, packet: &Packet) -> Option<Apart>
     }
     let output = lone_output(store, b, a, &packet)?;
     let side = Side::Second;
-    Some(Apart {
+    Some(Difference {
         packet,
         output,
         side,

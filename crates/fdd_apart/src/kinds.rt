@@ -15,7 +15,7 @@ ghost use Rattle.fdd_store.specs.Stores.{Kept, Has, Gives, Grows, tree_at};
 ghost use Rattle.fdd_apart.specs.Kinds.{AreRestrictions, IsRestriction, Restricts};
 
 use fdd_differ::Frame;
-use fdd_nodes::{Assignments, Cell, Known, Leaf};
+use fdd_nodes::{Assignments, Cell, Knowledge, Leaf};
 use fdd_store::{Id, Look, Store};
 use indexmap::IndexMap;
 use nk_values::Lit;
@@ -102,9 +102,16 @@ fn restrict_anew(
     match store.look(a) {
         Look::Leaf => restrict_leaf(alloc, store, frame, a),
         Look::Fork(test, yes, no) => match frame.cell().knows(&test) {
-            Known::Yes => restrict(alloc, store, frame, known, yes),
-            Known::No => restrict(alloc, store, frame, known, no),
-            Known::Unset => restrict_test(alloc, store, frame, known, a, Fork { test, yes, no }),
+            Knowledge::Yes => restrict(alloc, store, frame, known, yes),
+            Knowledge::No => restrict(alloc, store, frame, known, no),
+            Knowledge::Unset => restrict_test(
+                alloc,
+                store,
+                frame,
+                known,
+                a,
+                Fork { test, yes, no },
+            ),
         },
     }
 }

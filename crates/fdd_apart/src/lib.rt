@@ -8,4 +8,4 @@ mod kinds;
 mod outputs;
 mod walk;
 
-pub use finding::{Apart, Side, apart_in};
+pub use finding::{Difference, Side, apart_in};

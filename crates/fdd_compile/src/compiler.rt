@@ -9,7 +9,7 @@ ghost use Rattle.fdd_compile.specs.Named.{AreFewNamed, TermNames};
 ghost use Rattle.fdd_compile.specs.Places.{diagram_of};
 
 use crate::build::build;
-use crate::compiled::Compiled;
+use crate::compiled::CompiledPolicy;
 use crate::fault::CompileError;
 use crate::guarded::unguarded;
 use crate::leftmost::leftmost_fault;
@@ -36,7 +36,7 @@ impl Compiler {
     }
 
     /// As `compile`. After an error further policies can be compiled.
-    pub fn compile(&mut self, alloc: Global, pol: &Pol) -> Result<Compiled, CompileError>
+    pub fn compile(&mut self, alloc: Global, pol: &Pol) -> Result<CompiledPolicy, CompileError>
         requires { AreFewNamed (TermNames (term_of pol.now)) }
         ensures told { MatchResult result (λ c. CompiledOf (term_of pol.now) (diagram_of c))
             (λ e. Refuses (term_of pol.now) e) }
@@ -51,7 +51,7 @@ impl Compiler {
 
 /// The split diagram of a policy, or the first reason against it. In order, these are the leftmost `dup` or assignment
 /// to sw, ethTyp or ipProto; the first star that is deep; and a well-shaped packet with a result that is not.
-pub fn compile(alloc: Global, pol: &Pol) -> Result<Compiled, CompileError>
+pub fn compile(alloc: Global, pol: &Pol) -> Result<CompiledPolicy, CompileError>
     requires { AreFewNamed (TermNames (term_of pol.now)) }
     ensures told { MatchResult result (λ c. CompiledOf (term_of pol.now) (diagram_of c))
         (λ e. Refuses (term_of pol.now) e) }
@@ -62,7 +62,7 @@ pub fn compile(alloc: Global, pol: &Pol) -> Result<Compiled, CompileError>
 }
 
 // The split diagram of a policy without a leftmost fault, or the first of the other reasons against it.
-fn compile_in(alloc: Global, store: &mut Store, pol: &Pol) -> Result<Compiled, CompileError>
+fn compile_in(alloc: Global, store: &mut Store, pol: &Pol) -> Result<CompiledPolicy, CompileError>
     requires few { AreFewNamed (TermNames (term_of pol.now)) }
     requires no_fault { leftmost (term_of pol.now) ≡ None }
     ensures { MatchResult result (λ c. CompiledOf (term_of pol.now) (diagram_of c)) (λ e. Refuses (term_of pol.now) e) }
@@ -72,7 +72,7 @@ fn compile_in(alloc: Global, store: &mut Store, pol: &Pol) -> Result<Compiled, C
         Some(packet) => Err(CompileError::Fault(CompileFault::Unguarded { packet })),
         None => {
             let diagram = split(alloc, store, root)?;
-            Ok(Compiled { diagram })
+            Ok(CompiledPolicy { diagram })
         }
     }
 }

@@ -21,7 +21,7 @@ mod plain;
 mod summand;
 mod sums;
 
-pub use compiled::Compiled;
+pub use compiled::CompiledPolicy;
 pub use compiler::{Compiler, compile};
 pub use fault::CompileError;
 pub use leftmost::leftmost_fault;

@@ -12,5 +12,5 @@ mod witness;
 pub use differ::difference;
 pub use frame::Frame;
 pub use fresh::unnamed;
-pub use names::{Listed, Names, Pair};
+pub use names::{LiteralList, Names, Pair};
 pub use witness::{path_packet, path_packet_in};

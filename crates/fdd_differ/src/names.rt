@@ -44,12 +44,12 @@ impl Names for Path {
 
 /// Literals in a list.
 #[derive(Clone, Copy)]
-pub struct Listed<'a> {
+pub struct LiteralList<'a> {
     pub lits: &'a [Lit],
 }
 
 /// A list of literals names them.
-impl Names for Listed<'_> {
+impl Names for LiteralList<'_> {
     ghost names = { λ d. d.lits.now };
 
     fn has(&self, f: Field, value: u64) -> bool {

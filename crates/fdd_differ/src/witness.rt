@@ -8,7 +8,7 @@ ghost use Rattle.fdd_differ.specs.Witness.{IsWitness, IsWitnessOf, narrowed_by_o
 
 use crate::frame::Frame;
 use crate::fresh::unnamed;
-use fdd_nodes::{Cell, Known, Path};
+use fdd_nodes::{Cell, Knowledge, Path};
 use nk_values::{Lit, Packet, well_shaped};
 
 /// A well-shaped packet of a path, or none if there is no such packet.
@@ -72,7 +72,7 @@ fn narrowed_once(cell: &Cell, l: &Lit) -> Cell
     ensures { result ≡ narrowed_by_one cell.now l.now }
 {
     match cell.knows(l) {
-        Known::Unset => cell.with(l),
+        Knowledge::Unset => cell.with(l),
         _ => *cell,
     }
 }

@@ -12,7 +12,7 @@ use Rattle.nk_values.specs.Ranks.{step, rank}
 use Rattle.nk_values.proofs.LitLaws.{lit_small}
 use Rattle.fdd_nodes.specs.Trees.{Tree, Leaf, Node, IsOrderedFrom}
 use Rattle.fdd_nodes.specs.Roots.{IsAfter}
-use Rattle.fdd_nodes.specs.Makes.{IsFreeOf, AreFreeOf}
+use Rattle.fdd_nodes.specs.Makes.{IsDisjointFrom, AreDisjointFrom}
 use Rattle.fdd_nodes.specs.Cells.{cell_of, Alike, IsFresh, Parts, Respects}
 use Rattle.fdd_nodes.specs.Normals.{IsPast, TellsTight}
 use Rattle.fdd_nodes.proofs.SplitLaws.{ordered_weaken}
@@ -42,16 +42,16 @@ of_ordered l t e o = (ordered_past' l t o.1, ordered_after l e o.2, ordered_weak
 
 -- leaves
 
-free_of : (c : Packet) (x : List Lit) → IsFreeOf c x → (m : Lit) → IsIn x m → ¬ Holds c m
+free_of : (c : Packet) (x : List Lit) → IsDisjointFrom c x → (m : Lit) → IsIn x m → ¬ Holds c m
 free_of c [] h m k = absurd k
 free_of c (l ∷ x) h m (inl e) = subst (λ (z : Lit). ¬ Holds c z) e h.0
 free_of c (l ∷ x) h m (inr k) = free_of c x h.1 m k
 
-of_free : (c : Packet) (x : List Lit) → ((m : Lit) → IsIn x m → ¬ Holds c m) → IsFreeOf c x
+of_free : (c : Packet) (x : List Lit) → ((m : Lit) → IsIn x m → ¬ Holds c m) → IsDisjointFrom c x
 of_free c [] h = tt
 of_free c (l ∷ x) h = (h l (inl refl), of_free c x (λ m k. h m (inr k)))
 
-pub respects_leaf : (c : Packet) (xs : List (List Lit)) → AreFreeOf c xs ↔ Respects c (Leaf xs)
+pub respects_leaf : (c : Packet) (xs : List (List Lit)) → AreDisjointFrom c xs ↔ Respects c (Leaf xs)
 respects_leaf c [] = (λ h m k. absurd k, λ h. tt)
 respects_leaf c (x ∷ xs) = (
   λ h m k. elim k [ inl w ↦ free_of c x h.0 m w | inr w ↦ (respects_leaf c xs).0 h.1 m w ],

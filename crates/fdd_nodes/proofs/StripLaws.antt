@@ -13,7 +13,7 @@ use Rattle.nk_values.proofs.PacketLaws.{get-with_same, get-with_other, same_pack
 use Rattle.fdd_nodes.specs.Trees.{apply, IsSetBy}
 use Rattle.fdd_nodes.specs.Copies.{IsCopyFrom, strip}
 use Rattle.fdd_nodes.specs.Cells.{IsUnset}
-use Rattle.fdd_nodes.specs.Makes.{IsFreeOf}
+use Rattle.fdd_nodes.specs.Makes.{IsDisjointFrom}
 use Rattle.fdd_nodes.proofs.CellLaws.{lit_not_free}
 
 with_there : (p : Packet) (f : Field) (n : ℕ) → get p f ≡ n → with_value p f n ≡ p
@@ -41,11 +41,11 @@ strip_apply c (l ∷ x) k p h g = elim (eqb_tells (get c (lit_field l)) (lit_val
 ]
 
 -- where a cell fixes nothing of a copy, nothing is dropped
-pub strip_free : (c : Packet) (x : List Lit) → IsFreeOf c x → strip c x ≡ x
-strip_free c [] h = refl
-strip_free c (l ∷ x) h = elim (eqb_tells (get c (lit_field l)) (lit_value l)) [
+pub strip_disjoint : (c : Packet) (x : List Lit) → IsDisjointFrom c x → strip c x ≡ x
+strip_disjoint c [] h = refl
+strip_disjoint c (l ∷ x) h = elim (eqb_tells (get c (lit_field l)) (lit_value l)) [
   | inl y ↦ absurd (h.0 y.1)
-  | inr n ↦ ap (λ b. cond b (strip c x) (l ∷ strip c x)) n.0 ∙ ap (λ (y : List Lit). l ∷ y) (strip_free c x h.1)
+  | inr n ↦ ap (λ b. cond b (strip c x) (l ∷ strip c x)) n.0 ∙ ap (λ (y : List Lit). l ∷ y) (strip_disjoint c x h.1)
 ]
 
 pub strip_among : (c : Packet) (x : List Lit) (m : Lit) → IsIn (strip c x) m → IsIn x m × (¬ Holds c m)

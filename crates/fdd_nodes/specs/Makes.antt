@@ -19,10 +19,10 @@ MakesAll [] ds p = Unit {0}
 MakesAll (c ∷ cs) ds p = IsIn (outcomes ds p) (apply c p) × MakesAll cs ds p
 
 -- the cell fixes no literal of the copy, and of no copy
-abbrev pub IsFreeOf : Packet → List Lit → Type 0
-IsFreeOf c [] = Unit {0}
-IsFreeOf c (l ∷ ls) = (¬ Holds c l) × IsFreeOf c ls
+abbrev pub IsDisjointFrom : Packet → List Lit → Type 0
+IsDisjointFrom c [] = Unit {0}
+IsDisjointFrom c (l ∷ ls) = (¬ Holds c l) × IsDisjointFrom c ls
 
-abbrev pub AreFreeOf : Packet → List (List Lit) → Type 0
-AreFreeOf c [] = Unit {0}
-AreFreeOf c (x ∷ xs) = IsFreeOf c x × AreFreeOf c xs
+abbrev pub AreDisjointFrom : Packet → List (List Lit) → Type 0
+AreDisjointFrom c [] = Unit {0}
+AreDisjointFrom c (x ∷ xs) = IsDisjointFrom c x × AreDisjointFrom c xs

@@ -6,7 +6,7 @@ ghost use Rattle.fdd_nodes.specs.Cells.{Alike, Parts};
 ghost use Rattle.fdd_nodes.specs.Roots.{IsLeaf};
 ghost use Rattle.fdd_nodes.specs.Trees.{tree};
 
-use crate::cell::{Cell, Known};
+use crate::cell::{Cell, Knowledge};
 use crate::node::Node;
 
 /// A cell within this one in which two diagrams answer apart, or none if they answer alike on all its packets.
@@ -19,12 +19,12 @@ pub fn parting(cell: &Cell, a: &Node, b: &Node) -> Option<Cell>
         return leaf_parting(cell, a, b);
     };
     match cell.knows(&l) {
-        Known::Unset => match parting(&cell.with(&l), a.then_of(&l), b.then_of(&l)) {
+        Knowledge::Unset => match parting(&cell.with(&l), a.then_of(&l), b.then_of(&l)) {
             Some(inner) => Some(inner),
             None => parting(cell, a.else_of(&l), b.else_of(&l)),
         },
-        Known::Yes => parting(cell, a.then_of(&l), b.then_of(&l)),
-        Known::No => parting(cell, a.else_of(&l), b.else_of(&l)),
+        Knowledge::Yes => parting(cell, a.then_of(&l), b.then_of(&l)),
+        Knowledge::No => parting(cell, a.else_of(&l), b.else_of(&l)),
     }
 }
 

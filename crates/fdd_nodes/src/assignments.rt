@@ -4,7 +4,7 @@
 ghost use Rattle.std.specs.Prelude.{◌≡◌, ◌↔◌, IsTrue, IfOk};
 ghost use Rattle.nk_values.specs.declared.lit.Lit.{Lit};
 ghost use Rattle.fdd_nodes.specs.Copies.{IsCopy, assigned};
-ghost use Rattle.fdd_nodes.specs.Makes.{IsFreeOf};
+ghost use Rattle.fdd_nodes.specs.Makes.{IsDisjointFrom};
 
 use crate::cell::Cell;
 use nk_values::{Field, Lit, Packet};
@@ -106,8 +106,8 @@ impl Assignments {
     }
 
     /// Whether a cell fixes none of these.
-    pub fn is_free_of(&self, cell: &Cell) -> bool
-        ensures free { IsTrue result ↔ IsFreeOf cell.now self.now }
+    pub fn is_disjoint_from(&self, cell: &Cell) -> bool
+        ensures disjoint { IsTrue result ↔ IsDisjointFrom cell.now self.now }
         ensures copy { IsCopy self.now }
     {
         none_fixed(self.lits.as_slice(), cell)

@@ -31,7 +31,7 @@ impl Model for Cell {
 
 /// What a cell knows of a literal: nothing, that each packet of it holds the number, or that none does.
 #[derive(Clone, Copy, PartialEq, Eq)]
-pub enum Known {
+pub enum Knowledge {
     Unset,
     Yes,
     No,
@@ -111,16 +111,16 @@ impl Cell {
     }
 
     /// What is known of a literal.
-    pub fn knows(&self, l: &Lit) -> Known
+    pub fn knows(&self, l: &Lit) -> Knowledge
         ensures { Knows self.now l.now result }
     {
         let fixed = self.fixed.get(l.field());
         if fixed == UNSET {
-            Known::Unset
+            Knowledge::Unset
         } else if fixed == l.value() {
-            Known::Yes
+            Knowledge::Yes
         } else {
-            Known::No
+            Knowledge::No
         }
     }
 

@@ -15,7 +15,7 @@ use std::marker::Model;
 
 mod copies;
 
-pub(crate) use copies::{are_free_of, made_by, makes};
+pub(crate) use copies::{are_disjoint_from, made_by, makes};
 use copies::{copied, is_rising, makes_all, place_for};
 
 /// The copies of a leaf, each once, in rising order. Clauses see the list of them.

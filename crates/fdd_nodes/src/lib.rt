@@ -16,7 +16,7 @@ mod path;
 
 pub use apart::parting;
 pub use assignments::Assignments;
-pub use cell::{Cell, Known};
+pub use cell::{Cell, Knowledge};
 pub use fdd::Fdd;
 pub use leaf::Leaf;
 pub use names::{are_few, are_few_behind, is_few_on};

@@ -9,7 +9,7 @@ ghost use Rattle.fdd_nodes.specs.Trees.{tree, IsOrdered};
 
 use crate::apart::parting;
 use crate::cell::Cell;
-use crate::leaf::are_free_of;
+use crate::leaf::are_disjoint_from;
 use crate::node::Node;
 use nk_values::Lit;
 
@@ -54,7 +54,7 @@ fn respects(a: &Node, cell: &Cell) -> bool
     ensures { IsTrue result ↔ Respects cell.now (tree a.now) }
 {
     match a {
-        Node::Leaf(leaf) => are_free_of(leaf.copies(), cell),
+        Node::Leaf(leaf) => are_disjoint_from(leaf.copies(), cell),
         Node::Test(l, t, e) => respects(t, &cell.with(l)) && respects(e, cell),
     }
 }

@@ -17,7 +17,7 @@ use Rattle.fdd_nodes.proofs.CellLaws.{lit_not_free}
 use Rattle.fdd_store.specs.Canonical.{AreProper, IsProper}
 use Rattle.fdd_store.proofs.MoveLaws.{one_leaf}
 use Rattle.fdd_split.specs.declared.bars.Bar.{Bar}
-use Rattle.fdd_split.specs.declared.bars.Bar.TheVariants.{Place, Literal}
+use Rattle.fdd_split.specs.declared.bars.Bar.TheVariants.{OfField, Literal}
 use Rattle.fdd_split.specs.Bars.{SomeBars}
 use Rattle.fdd_split.specs.Divides.{Divides}
 use Rattle.fdd_split.specs.Threats.{HasNoThreat}
@@ -33,7 +33,7 @@ record Caught (k : List Bar) (p : Packet) (f : Field) : Type 0 where
 
 caught_or : (k : List Bar) (p : Packet) (f : Field) → Caught k p f ⊎ ((y : Lit) → lit_field y ≡ f → Holds p y → ¬ SomeBars k y)
 caught_or [] p f = inr (λ y e h b. b)
-caught_or (Place n ∷ k) p f = elim (eqb_tells (place f) n) [
+caught_or (OfField n ∷ k) p f = elim (eqb_tells (place f) n) [
   | inl s ↦ inl (record { always = λ y e h. inl (ap place e ∙ s.1) })
   | inr d ↦ elim (caught_or k p f) [
     | inl c ↦ inl (record { always = λ y e h. inr (c.always y e h) })

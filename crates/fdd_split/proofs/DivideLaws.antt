@@ -9,7 +9,7 @@ use Rattle.fdd_store.specs.Canonical.{IsCanonical, IsLater}
 use Rattle.fdd_store.specs.Results.{Cuts}
 use Rattle.fdd_store.proofs.MadeLaws.{tests_from}
 use Rattle.fdd_split.specs.declared.bars.Bar.{Bar}
-use Rattle.fdd_split.specs.declared.bars.Bar.TheVariants.{Place, Literal}
+use Rattle.fdd_split.specs.declared.bars.Bar.TheVariants.{OfField, Literal}
 use Rattle.fdd_split.specs.Bars.{Narrows}
 use Rattle.fdd_split.specs.Divides.{Divides}
 use Rattle.fdd_split.specs.Threats.{Threat, HasNoThreat, ComesFirst}
@@ -18,7 +18,7 @@ pub divides_none : (k : List Bar) (a r : Tree) → HasNoThreat k a → r ≡ a �
 divides_none k a (Leaf cs) h e = (h, sym e)
 divides_none k a (Node l t e') h e = inl (h, sym e)
 
-pub divides_branches : (k i j : List Bar) (a y n t e : Tree) (l : Lit) → a ≡ Node l y n → ComesFirst k a l → Narrows k i (Place (place (lit_field l))) y → Narrows k j (Literal l) n → Divides i y t → Divides j n e → Divides k a (Node l t e)
+pub divides_branches : (k i j : List Bar) (a y n t e : Tree) (l : Lit) → a ≡ Node l y n → ComesFirst k a l → Narrows k i (OfField (place (lit_field l))) y → Narrows k j (Literal l) n → Divides i y t → Divides j n e → Divides k a (Node l t e)
 divides_branches k i j a y n t e l s f hy hn dt de = inr (inl (record {
   yes = y;
   no = n;
@@ -32,7 +32,7 @@ divides_branches k i j a y n t e l s f hy hn dt de = inr (inl (record {
   else_is = de;
 }))
 
-pub divides_doubles : (k i j : List Bar) (a u t e : Tree) (l : Lit) → Threat k a l → ComesFirst k a l → IsLater l a → IsCanonical u → Cuts l a u → Narrows k i (Place (place (lit_field l))) u → Narrows k j (Literal l) a → Divides i u t → Divides j a e → Divides k a (Node l t e)
+pub divides_doubles : (k i j : List Bar) (a u t e : Tree) (l : Lit) → Threat k a l → ComesFirst k a l → IsLater l a → IsCanonical u → Cuts l a u → Narrows k i (OfField (place (lit_field l))) u → Narrows k j (Literal l) a → Divides i u t → Divides j a e → Divides k a (Node l t e)
 divides_doubles k i j a u t e l h f b m c hy hn dt de = inr (inr (record {
   threat = h;
   first = f;

@@ -17,11 +17,11 @@ use Rattle.fdd_store.specs.Results.{Cuts}
 use Rattle.fdd_store.proofs.ForkLaws.{level, rank_small}
 use Rattle.fdd_store.proofs.MadeLaws.{tests_from}
 use Rattle.fdd_split.specs.declared.bars.Bar.{Bar}
-use Rattle.fdd_split.specs.declared.bars.Bar.TheVariants.{Place, Literal}
+use Rattle.fdd_split.specs.declared.bars.Bar.TheVariants.{OfField, Literal}
 use Rattle.fdd_split.specs.Bars.{SomeBars, Narrows}
 
 abbrev pub bars_by : Bar → Lit → Bool
-bars_by (Place n) l = place (lit_field l) == n
+bars_by (OfField n) l = place (lit_field l) == n
 bars_by (Literal m) l = rank m == rank l
 
 abbrev pub are_bars : List Bar → Lit → Bool
@@ -46,7 +46,7 @@ weight k t = pending k t + level t
 
 barred_or : (k : List Bar) (l : Lit) → ((are_bars k l ≡ true) × SomeBars k l) ⊎ ((are_bars k l ≡ false) × (¬ SomeBars k l))
 barred_or [] l = inr (refl, λ h. h)
-barred_or (Place n ∷ k) l = elim (eqb_tells (place (lit_field l)) n) [
+barred_or (OfField n ∷ k) l = elim (eqb_tells (place (lit_field l)) n) [
   | inl y ↦ inl (ap (λ b. cond b true (are_bars k l)) y.0, inl y.1)
   | inr n' ↦ elim (barred_or k l) [
     | inl w ↦ inl (ap (λ b. cond b true (are_bars k l)) n'.0 ∙ w.0, inr w.1)
@@ -141,7 +141,7 @@ level_within (Node l t e) (Node m y n) h s =
     let c = rank_small l in
     omega (arith, a, b, c)
 
-pub weight_of_part : (k i : List Bar) (l : Lit) (a u : Tree) → IsCanonical a → Cuts l a u → Narrows k i (Place (place (lit_field l))) u → Assigns a l → ¬ SomeBars k l → weight i u < weight k a
+pub weight_of_part : (k i : List Bar) (l : Lit) (a u : Tree) → IsCanonical a → Cuts l a u → Narrows k i (OfField (place (lit_field l))) u → Assigns a l → ¬ SomeBars k l → weight i u < weight k a
 weight_of_part k i l a u h c w s n =
     let p = pending_falls k i a u l c.assigns w.kept s n (λ z. w.has l z refl) in
     let v = level_within a u h c.tests in

@@ -8,7 +8,7 @@ use Rattle.fdd_nodes.specs.Trees.{Tree, Leaf, Node, Tests}
 use Rattle.fdd_store.specs.Canonical.{IsCanonical}
 use Rattle.fdd_store.proofs.MadeLaws.{made_then, made_else, then_beyond, else_later}
 use Rattle.fdd_split.specs.declared.bars.Bar.{Bar}
-use Rattle.fdd_split.specs.declared.bars.Bar.TheVariants.{Place, Literal}
+use Rattle.fdd_split.specs.declared.bars.Bar.TheVariants.{OfField, Literal}
 use Rattle.fdd_split.specs.Bars.{Narrows}
 use Rattle.fdd_split.specs.Pairs.{IsEarlier, IsFirstOf}
 use Rattle.fdd_split.specs.Threats.{Threat, TestsNoBarred}
@@ -22,7 +22,7 @@ pub leaf_first : (k : List Bar) (a : Tree) (cs ds : List (List Lit)) (o : Option
 leaf_first k a cs ds o e s h =
     subst (λ (z : Tree). IsFirstOf (Threat k z) o) (sym e) (subst (λ (z : List (List Lit)). IsFirstOf (Threat k (Leaf z)) o) s h)
 
-module _ (k i : List Bar) (l : Lit) (a t e : Tree) (is : a ≡ Node l t e) (made : IsCanonical a) (unbarred : TestsNoBarred k a) (y : Narrows k i (Place (place (lit_field l))) t) where
+module _ (k i : List Bar) (l : Lit) (a t e : Tree) (is : a ≡ Node l t e) (made : IsCanonical a) (unbarred : TestsNoBarred k a) (y : Narrows k i (OfField (place (lit_field l))) t) where
   h : IsCanonical (Node l t e)
   h = subst (λ (z : Tree). IsCanonical z) is made
 

@@ -21,7 +21,7 @@ use Rattle.fdd_store.specs.Results.{Cuts}
 use Rattle.fdd_store.proofs.MadeLaws.{made_then, made_else, then_beyond}
 use Rattle.fdd_store.proofs.MoveLaws.{leaf_assigns}
 use Rattle.fdd_split.specs.declared.bars.Bar.{Bar}
-use Rattle.fdd_split.specs.declared.bars.Bar.TheVariants.{Place}
+use Rattle.fdd_split.specs.declared.bars.Bar.TheVariants.{OfField}
 use Rattle.fdd_split.specs.Bars.{SomeBars, Narrows}
 use Rattle.fdd_split.specs.Threats.{Threat, IsAlone, IsClear, KeepsField}
 use Rattle.fdd_split.proofs.AnswerLaws.{holds_or, alone_assigned}
@@ -108,7 +108,7 @@ module _ (a : Tree) (p : Packet) (x : Lit) (c d c2 d2 : List Lit) (bare : get p 
   ])
 
 -- a threat of what is left is one of the whole, or tested there
-module _ (k bars : List Bar) (l : Lit) (a u : Tree) (x : Lit) (cut : Cuts l a u) (hu : IsCanonical u) (pa : AreProper a) (un : ¬ SomeBars k l) (w : Narrows k bars (Place (place (lit_field l))) u) where
+module _ (k bars : List Bar) (l : Lit) (a u : Tree) (x : Lit) (cut : Cuts l a u) (hu : IsCanonical u) (pa : AreProper a) (un : ¬ SomeBars k l) (w : Narrows k bars (OfField (place (lit_field l))) u) where
   -- the first copy assigns x, and the second leaves its field
   narrowed_by : (p : Packet) (c d : List Lit) → IsClear bars p → IsIn (leaf_at u p) c → IsIn (leaf_at u p) d → apply c p ≡ apply d p → IsIn c x → KeepsField d (lit_field x) → Threat k a x ⊎ Tests a x
   narrowed_by p c d clear hc hd one sets leaves =

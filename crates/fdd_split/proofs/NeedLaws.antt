@@ -21,7 +21,7 @@ use Rattle.fdd_store.proofs.MadeLaws.{tests_from, made_then, made_else, then_bey
 use Rattle.fdd_store.proofs.MoveLaws.{leaf_assigns, one_leaf, same_through}
 use Rattle.fdd_store.proofs.SameLaws.{same_trans, same_sym}
 use Rattle.fdd_split.specs.declared.bars.Bar.{Bar}
-use Rattle.fdd_split.specs.declared.bars.Bar.TheVariants.{Place, Literal}
+use Rattle.fdd_split.specs.declared.bars.Bar.TheVariants.{OfField, Literal}
 use Rattle.fdd_split.specs.Bars.{SomeBars}
 use Rattle.fdd_split.specs.Divides.{Divides, Doubles}
 use Rattle.fdd_split.specs.Laws.{IsLike}
@@ -76,8 +76,8 @@ made_needed : (a : Tree) (k : List Bar) (w : Way) → IsCanonical a → Reaches 
 made_needed (Leaf cs) k w h ra = tt
 made_needed (Node l y n) k w h ra = (
   not_idle w k l y n y n h ra (like_itself y y refl) (like_itself n n refl),
-  made_needed y (k ++ Place (place (lit_field l)) ∷ []) (with_true w l) (made_then l y n h)
-      (branch_yes w k _ l y n h ra (bars_kept k _) (λ x s e. bars_last k (Place (place (lit_field l))) x e) (bars_pushed k (Place (place (lit_field l))))),
+  made_needed y (k ++ OfField (place (lit_field l)) ∷ []) (with_true w l) (made_then l y n h)
+      (branch_yes w k _ l y n h ra (bars_kept k _) (λ x s e. bars_last k (OfField (place (lit_field l))) x e) (bars_pushed k (OfField (place (lit_field l))))),
   made_needed n (k ++ Literal l ∷ []) (with_false w l) (made_else l y n h)
       (branch_no w k _ l y n h ra (bars_kept k _) (λ x s e. bars_last k (Literal l) x e) (bars_pushed k (Literal l))),
 )

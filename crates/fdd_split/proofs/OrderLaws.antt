@@ -10,7 +10,7 @@ use Rattle.fdd_store.specs.Canonical.{IsCanonical, IsBeyond, IsLater, AreProper}
 use Rattle.fdd_store.specs.Results.{Cuts}
 use Rattle.fdd_store.proofs.MadeLaws.{tests_from, ordered_by, places_past, ranks_past, made_then, made_else, then_beyond, else_later}
 use Rattle.fdd_split.specs.declared.bars.Bar.{Bar}
-use Rattle.fdd_split.specs.declared.bars.Bar.TheVariants.{Place, Literal}
+use Rattle.fdd_split.specs.declared.bars.Bar.TheVariants.{OfField, Literal}
 use Rattle.fdd_split.specs.Bars.{SomeBars, Narrows}
 use Rattle.fdd_split.specs.Threats.{Threat, ComesFirst}
 use Rattle.fdd_split.specs.Divides.{Divides, Branches, Doubles}
@@ -44,7 +44,7 @@ pub record IsReady (k : List Bar) (a : Tree) (n : ℕ) : Type 0 where
 
 -- branches of the diagram itself
 module _ (k : List Bar) (l : Lit) (y n : Tree) (h : IsCanonical (Node l y n)) (u : IsUnbarred k (Node l y n)) (first : ComesFirst k (Node l y n) l) where
-  module _ (j : List Bar) (w : Narrows k j (Place (place (lit_field l))) y) where
+  module _ (j : List Bar) (w : Narrows k j (OfField (place (lit_field l))) y) where
     pub unbarred_then : IsUnbarred j y
     unbarred_then m t b = elim (w.only m b) [
       | inl z ↦ u m (inr (inl t)) z
@@ -92,7 +92,7 @@ module _ (k : List Bar) (l : Lit) (a : Tree) (h : IsCanonical a) (u : IsUnbarred
   pub ordered_then_of : (v : Tree) → IsCanonical v → Cuts l a v → IsOrderedFrom (step * (place (lit_field l) + 1)) v
   ordered_then_of v hv c = ordered_by v 0 _ hv.ordered (λ m t. ranks_past l m (c.beyond.past m t))
 
-  module _ (v : Tree) (hv : IsCanonical v) (c : Cuts l a v) (i : List Bar) (w : Narrows k i (Place (place (lit_field l))) v) where
+  module _ (v : Tree) (hv : IsCanonical v) (c : Cuts l a v) (i : List Bar) (w : Narrows k i (OfField (place (lit_field l))) v) where
     pub unbarred_then_of : IsUnbarred i v
     unbarred_then_of m t b = elim (w.only m b) [
       | inl z ↦ u m (c.tests m t) z

@@ -12,7 +12,7 @@ use Rattle.fdd_store.specs.Stores.{Kept, Has, Gives, Grows, tree_at}
 use Rattle.fdd_store.proofs.ForkLaws.{fall_then, fall_else}
 use Rattle.fdd_store.proofs.StoreLaws.{has_grown, tree_grown}
 use Rattle.fdd_split.specs.declared.bars.Bar.{Bar}
-use Rattle.fdd_split.specs.declared.bars.Bar.TheVariants.{Place, Literal}
+use Rattle.fdd_split.specs.declared.bars.Bar.TheVariants.{OfField, Literal}
 use Rattle.fdd_split.specs.Bars.{Narrows}
 use Rattle.fdd_split.specs.Divides.{Divides}
 use Rattle.fdd_split.specs.Pairs.{IsFirstOf}
@@ -31,7 +31,7 @@ IsStep j s u w = (weight j (tree_at s u) < w) × (Has s u × TestsNoBarred j (tr
 pub first_some : (T : Lit → Type 0) (o : Option Lit) (l : Lit) → o ≡ Some l → IsFirstOf T o → T l × ((x : Lit) → T x → rank l ≤ rank x)
 first_some T o l e h = subst (λ (z : Option Lit). IsFirstOf T z) e h
 
-module _ (k : List Bar) (old : Kept) (a : ℕ) (m : Lit) (t e : ℕ) (f : Forked old m t e (tree_at old a)) (made : IsCanonical (tree_at old a)) (u : TestsNoBarred k (tree_at old a)) (j : List Bar) (y : Narrows k j (Place (place (lit_field m))) (tree_at old t)) where
+module _ (k : List Bar) (old : Kept) (a : ℕ) (m : Lit) (t e : ℕ) (f : Forked old m t e (tree_at old a)) (made : IsCanonical (tree_at old a)) (u : TestsNoBarred k (tree_at old a)) (j : List Bar) (y : Narrows k j (OfField (place (lit_field m))) (tree_at old t)) where
   pub then_step : IsStep j old t (weight k (tree_at old a))
   then_step = (
     weight_of_branch k j (tree_at old a) (tree_at old t)
@@ -75,7 +75,7 @@ module _ (k : List Bar) (old : Kept) (a : ℕ) (l : Lit) (has : Has old a) (made
         ),
       )
 
-    module _ (i : List Bar) (mid : Kept) (v : ℕ) (w : Gives mid v (Cuts l (tree_at old a))) (y : Narrows k i (Place (place (lit_field l))) (tree_at mid v)) where
+    module _ (i : List Bar) (mid : Kept) (v : ℕ) (w : Gives mid v (Cuts l (tree_at old a))) (y : Narrows k i (OfField (place (lit_field l))) (tree_at mid v)) where
       pub part_step : IsStep i mid v (weight k (tree_at old a))
       part_step = (
         weight_of_part k i l (tree_at old a) (tree_at mid v) made w.is y (threat_assigned k (tree_at old a) l h) (threat_free k (tree_at old a) l made.proper h),

@@ -17,7 +17,7 @@ use Rattle.fdd_nodes.proofs.SplitLaws.{leaf_at-then, leaf_at-else}
 use Rattle.fdd_store.specs.Canonical.{AreProper, IsLater}
 use Rattle.fdd_store.proofs.MoveLaws.{one_leaf}
 use Rattle.fdd_split.specs.declared.bars.Bar.{Bar}
-use Rattle.fdd_split.specs.declared.bars.Bar.TheVariants.{Place, Literal}
+use Rattle.fdd_split.specs.declared.bars.Bar.TheVariants.{OfField, Literal}
 use Rattle.fdd_split.specs.Bars.{SomeBars, IsBarredBy}
 use Rattle.fdd_split.specs.Threats.{Threat, IsClear}
 use Rattle.fdd_split.proofs.AnswerLaws.{holds_or, alone_assigned}
@@ -46,7 +46,7 @@ clear_without k j p f h o y b w = elim (field_cases f (lit_field y)) [
 
 module _ (k j : List Bar) (m : Lit) (t e : Tree) (x : Lit) where
   -- a threat where a test holds
-  pub down_yes : AreProper t → ((n : Lit) → Tests t n → lit_field m ≢ lit_field n) → ¬ Assigns t m → ((y : Lit) → SomeBars j y → SomeBars k y ⊎ IsBarredBy (Place (place (lit_field m))) y) → (h : Threat k (Node m t e) x) → Holds h.packet m → Threat j t x
+  pub down_yes : AreProper t → ((n : Lit) → Tests t n → lit_field m ≢ lit_field n) → ¬ Assigns t m → ((y : Lit) → SomeBars j y → SomeBars k y ⊎ IsBarredBy (OfField (place (lit_field m))) y) → (h : Threat k (Node m t e) x) → Holds h.packet m → Threat j t x
   down_yes pr past clean only h y =
       let p : Packet = h.packet in
       let q : Packet = with_value p (lit_field m) unset in
@@ -86,7 +86,7 @@ module _ (k j : List Bar) (m : Lit) (t e : Tree) (x : Lit) where
       }
 
   -- a threat of the branch where a test holds is one of the whole
-  pub up_yes : AreProper t → ((n : Lit) → Tests t n → lit_field m ≢ lit_field n) → ¬ SomeBars k m → ((y : Lit) → SomeBars k y → SomeBars j y) → ((y : Lit) → Assigns t y → IsBarredBy (Place (place (lit_field m))) y → SomeBars j y) → Threat j t x → Threat k (Node m t e) x
+  pub up_yes : AreProper t → ((n : Lit) → Tests t n → lit_field m ≢ lit_field n) → ¬ SomeBars k m → ((y : Lit) → SomeBars k y → SomeBars j y) → ((y : Lit) → Assigns t y → IsBarredBy (OfField (place (lit_field m))) y → SomeBars j y) → Threat j t x → Threat k (Node m t e) x
   up_yes pr past un kept has h =
       let p : Packet = h.packet in
       let q : Packet = put m p in

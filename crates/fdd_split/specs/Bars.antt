@@ -5,11 +5,11 @@ use Rattle.nk_values.specs.Lits.{lit_field}
 use Rattle.nk_values.specs.Ranges.{place}
 use Rattle.fdd_nodes.specs.Trees.{Tree, Assigns}
 use Rattle.fdd_split.specs.declared.bars.Bar.{Bar}
-use Rattle.fdd_split.specs.declared.bars.Bar.TheVariants.{Place, Literal}
+use Rattle.fdd_split.specs.declared.bars.Bar.TheVariants.{OfField, Literal}
 
 -- all literals of a field, or one literal
 abbrev pub IsBarredBy : Bar → Lit → Type 0
-IsBarredBy (Place n) l = place (lit_field l) ≡ n
+IsBarredBy (OfField n) l = place (lit_field l) ≡ n
 IsBarredBy (Literal m) l = m ≡ l
 
 -- some of them bars the literal

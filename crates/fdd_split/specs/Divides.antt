@@ -7,7 +7,7 @@ use Rattle.fdd_nodes.specs.Trees.{Tree, Leaf, Node}
 use Rattle.fdd_store.specs.Canonical.{IsCanonical, IsLater}
 use Rattle.fdd_store.specs.Results.{Cuts}
 use Rattle.fdd_split.specs.declared.bars.Bar.{Bar}
-use Rattle.fdd_split.specs.declared.bars.Bar.TheVariants.{Place, Literal}
+use Rattle.fdd_split.specs.declared.bars.Bar.TheVariants.{OfField, Literal}
 use Rattle.fdd_split.specs.Bars.{Narrows}
 use Rattle.fdd_split.specs.Threats.{Threat, HasNoThreat, ComesFirst}
 
@@ -19,7 +19,7 @@ pub record Branches (k : List Bar) (a : Tree) (l : Lit) (T E : List Bar → Tree
   pub first : ComesFirst k a l
   pub yes_bars : List Bar
   pub no_bars : List Bar
-  pub yes_narrows : Narrows k yes_bars (Place (place (lit_field l))) yes
+  pub yes_narrows : Narrows k yes_bars (OfField (place (lit_field l))) yes
   pub no_narrows : Narrows k no_bars (Literal l) no
   pub then_is : T yes_bars yes
   pub else_is : E no_bars no
@@ -34,7 +34,7 @@ pub record Doubles (k : List Bar) (a : Tree) (l : Lit) (T E : List Bar → Tree 
   pub cuts : Cuts l a part
   pub yes_bars : List Bar
   pub no_bars : List Bar
-  pub yes_narrows : Narrows k yes_bars (Place (place (lit_field l))) part
+  pub yes_narrows : Narrows k yes_bars (OfField (place (lit_field l))) part
   pub no_narrows : Narrows k no_bars (Literal l) a
   pub then_is : T yes_bars part
   pub else_is : E no_bars a

@@ -26,7 +26,7 @@ pub(crate) fn are_barring(bars: &[Bar], l: &Lit) -> bool
 
 /// Whether some bar bars all literals of the field with this place in the order of fields.
 pub(crate) fn bar_field(bars: &[Bar], place: u64) -> bool
-    ensures { IsTrue result → (x : Lit) → IsBarredBy (bar.Place place) x → SomeBars bars.now x }
+    ensures { IsTrue result → (x : Lit) → IsBarredBy (bar.OfField place) x → SomeBars bars.now x }
 {
     for b in bars {
         if b.bars_field(place) {

@@ -10,7 +10,7 @@ use std::alloc::{AllocError, Global};
 /// order of fields, or a single one.
 #[derive(Clone, Copy, PartialEq, Eq, Hash)]
 pub enum Bar {
-    Place(u64),
+    OfField(u64),
     Literal(Lit),
 }
 
@@ -24,17 +24,17 @@ impl Bar {
         ensures { IsTrue result ↔ IsBarredBy self.now l.now }
     {
         match self {
-            Bar::Place(place) => l.field().place() == *place,
+            Bar::OfField(place) => l.field().place() == *place,
             Bar::Literal(m) => m.is(l),
         }
     }
 
     /// Whether it bars all literals of the field with this place.
     pub(crate) fn bars_field(&self, place: u64) -> bool
-        ensures { IsTrue result → (x : Lit) → IsBarredBy (bar.Place place) x → IsBarredBy self.now x }
+        ensures { IsTrue result → (x : Lit) → IsBarredBy (bar.OfField place) x → IsBarredBy self.now x }
     {
         match self {
-            Bar::Place(barred) => *barred == place,
+            Bar::OfField(barred) => *barred == place,
             Bar::Literal(_) => false,
         }
     }
@@ -44,7 +44,7 @@ impl Bar {
         ensures { IsTrue result → (x : Lit) → IsBarredBy other.now x → IsBarredBy self.now x }
     {
         match other {
-            Bar::Place(_) => false,
+            Bar::OfField(_) => false,
             Bar::Literal(l) => self.bars(l),
         }
     }

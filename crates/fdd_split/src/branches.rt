@@ -24,11 +24,18 @@ pub(crate) fn bars_then(
     branch: Id,
 ) -> Result<Vec<Bar>, AllocError>
     requires { Has store.now branch }
-    ensures { IfOk result (λ r. Narrows bars.now r.items (bar.Place (place (lit_field l.now)))
+    ensures { IfOk result (λ r. Narrows bars.now r.items (bar.OfField (place (lit_field l.now)))
         (tree_at store.now branch)) }
 {
     let field = l.field();
-    below(alloc, store, bars, Bar::Place(field.place()), field, branch)
+    below(
+        alloc,
+        store,
+        bars,
+        Bar::OfField(field.place()),
+        field,
+        branch,
+    )
 }
 
 /// The same on the packets that do not hold the literal.

@@ -4,7 +4,7 @@ use Rattle.std.proofs.Common.{Bor, rules, ◌≡◌, ℕ, Bool, true, Option, So
 use Rattle.nk_values.specs.declared.packet.Packet.{Packet}
 use Rattle.fdd_nodes.specs.Trees.{Tree, Leaf, leaf_at}
 use Rattle.fdd_star.specs.declared.keys.Key.{Key}
-use Rattle.fdd_star.specs.declared.found.Found.{Found}
+use Rattle.fdd_star.specs.declared.found.Findings.{Findings}
 use Rattle.fdd_star.specs.declared.visits.Visit.{Visit}
 use Rattle.fdd_star.specs.declared.visits.Visits.{Visits}
 use Rattle.fdd_star.specs.Asks.{AsksMore, ComesTo, IsVisitOf, IsVisitAt, AreVisits}
@@ -52,5 +52,5 @@ visit_grown old new key v g h =
 pub visits_grown : (old new : Kept) (v : Visits) → Grows old new → AreVisits old v → AreVisits new v
 visits_grown old new v g h = record { right = each_on (IsVisitAt old) (IsVisitAt new) v.known.entries (λ key w. visit_grown old new key w g) h.right }
 
-pub found_grown : (old new : Kept) (n : Found) → Grows old new → AreFound old n → AreFound new n
+pub found_grown : (old new : Kept) (n : Findings) → Grows old new → AreFound old n → AreFound new n
 found_grown old new n g h = record { visits = visits_grown old new n.visits g h.visits }

@@ -12,9 +12,9 @@ use Rattle.nk_values.specs.Packets.{get}
 use Rattle.nk_values.proofs.MemberLaws.{in-left, in-right, in-either}
 use Rattle.fdd_nodes.specs.Cells.{Agrees, IsUnset}
 use Rattle.fdd_nodes.specs.Known.{Knows}
-use Rattle.fdd_nodes.specs.contracts.cell.KnownPartialEq.TheImpl as known_impl
-use Rattle.fdd_nodes.specs.declared.cell.Known.{Known}
-use Rattle.fdd_nodes.specs.declared.cell.Known.TheVariants.{No, Yes}
+use Rattle.fdd_nodes.specs.contracts.cell.KnowledgePartialEq.TheImpl as known_impl
+use Rattle.fdd_nodes.specs.declared.cell.Knowledge.{Knowledge}
+use Rattle.fdd_nodes.specs.declared.cell.Knowledge.TheVariants.{No, Yes}
 use Rattle.fdd_nodes.specs.Names.{IsFew}
 use Rattle.fdd_nodes.specs.Trees.{Tree, Node, outcomes, answers, SameAnswers}
 use Rattle.fdd_nodes.proofs.SplitLaws.{leaf_at-then, leaf_at-else}
@@ -96,18 +96,18 @@ same_on g h = record { front = λ x k. h.front x (g.front x k); back = λ x k. g
 same_as : (xs : List Packet) (pk : Packet) {cs ds : List (List Lit)} → cs ≡ ds → SameAnswers xs (outcomes ds pk) → SameAnswers xs (outcomes cs pk)
 same_as xs pk e h = subst (λ (ys : List (List Lit)). SameAnswers xs (outcomes ys pk)) (sym e) h
 
-abbrev pub known_eq : Known → Known → Bool
+abbrev pub known_eq : Knowledge → Knowledge → Bool
 known_eq = known_impl.eq-value.it
 
-same_known : (x y : Known) → known_eq x y ≡ true → x ≡ y
+same_known : (x y : Knowledge) → known_eq x y ≡ true → x ≡ y
 same_known x y h = search rules
 
 -- the cells that do not know something of a literal, one by one
 
-pub but_none : (l : Lit) (known : Known) (ds : List Packet) → AreBut [] l known ds
+pub but_none : (l : Lit) (known : Knowledge) (ds : List Packet) → AreBut [] l known ds
 but_none l known ds = record { among = λ c h _. absurd h }
 
-module _ (cs ds : List Packet) (c : Packet) (l : Lit) (known here : Known) (knows : Knows c l here) (h : AreBut cs l known ds) where
+module _ (cs ds : List Packet) (c : Packet) (l : Lit) (known here : Knowledge) (knows : Knows c l here) (h : AreBut cs l known ds) where
   pub but_more : (es : List Packet) → es ≡ ds ++ c ∷ [] → AreBut (cs ++ c ∷ []) l known es
   but_more es e = record {
     among = λ d i n. in_same _ _ d (sym e) (elim (in-either cs (c ∷ []) d i) [ inl k ↦ in-left ds (c ∷ []) d (h.among d k n) | inr k ↦ in-right ds (c ∷ []) d k ]);

@@ -16,7 +16,7 @@ use Rattle.nk_values.specs.Ranks.{lit_eq}
 use Rattle.nk_values.proofs.MemberLaws.{in-either}
 use Rattle.fdd_nodes.specs.Cells.{IsUnset}
 use Rattle.fdd_nodes.specs.Trees.{Tree, Assigns}
-use Rattle.fdd_star.specs.declared.shared.Shared.{Shared}
+use Rattle.fdd_star.specs.declared.shared.SharedParts.{SharedParts}
 use Rattle.fdd_star.specs.Kept.{EachIs}
 use Rattle.fdd_star.specs.Reaches.{HoldsAll, StarBut}
 use Rattle.fdd_star.specs.Shared.{AreShared, IsLeft, IsShared, MovesTo}
@@ -37,10 +37,10 @@ shared_on old new first p c ls f q a g h = record {
   star = λ l e w. gives_grown old new a _ g (h.star l e (subst (CofactorOf l p) (tree_grown old new q g h.has) w));
 }
 
-pub shared_grown : (old new : Kept) (first : List Lit) (p : Tree) (c : Packet) (ls : List Lit) (s : Shared) → Grows old new → AreShared old first p c ls s → AreShared new first p c ls s
+pub shared_grown : (old new : Kept) (first : List Lit) (p : Tree) (c : Packet) (ls : List Lit) (s : SharedParts) → Grows old new → AreShared old first p c ls s → AreShared new first p c ls s
 shared_grown old new first p c ls s g h = each_on _ _ s.parts.entries (λ q a w. shared_on old new first p c ls s.field q a g w) h
 
-pub shared_none : (k : Kept) (first : List Lit) (p : Tree) (c : Packet) (ls : List Lit) (s : Shared) → s.parts.entries ≡ [] → AreShared k first p c ls s
+pub shared_none : (k : Kept) (first : List Lit) (p : Tree) (c : Packet) (ls : List Lit) (s : SharedParts) → s.parts.entries ≡ [] → AreShared k first p c ls s
 shared_none k first p c ls s e = subst (EachIs (IsShared k first p c ls s.field)) (sym e) tt
 
 -- when the last literal is missed no more, and a field's parts are kept at most
@@ -54,7 +54,7 @@ shared_on_move k first p c ls ms l q a e h = record {
   ]) x) (h.star j s w);
 }
 
-pub shared_moved : (k : Kept) (first : List Lit) (p : Tree) (c : Packet) (ls ms : List Lit) (l : Lit) (s t : Shared) → ls ≡ ms ++ l ∷ [] → MovesTo (lit_field l) s t → AreShared k first p c ls s → AreShared k first p c ms t
+pub shared_moved : (k : Kept) (first : List Lit) (p : Tree) (c : Packet) (ls ms : List Lit) (l : Lit) (s t : SharedParts) → ls ≡ ms ++ l ∷ [] → MovesTo (lit_field l) s t → AreShared k first p c ls s → AreShared k first p c ms t
 shared_moved k first p c ls ms l s t e turns h = elim turns.kept [
   | inl w ↦
       let old = subst (λ (f : Field). EachIs (IsShared k first p c ls f) s.parts.entries) w.0 h in
@@ -70,7 +70,7 @@ shared_of k first p c ls l q a held has w out unset o g = record {
   star = λ j e v. gives_as _ _ _ _ (λ r x. star_shared l j e first p (tree_at k q) c ls r held w.answer v.answer w.assigns out unset o x) g;
 }
 
-pub shared_kept : (k : Kept) (first : List Lit) (p : Tree) (c : Packet) (ls : List Lit) (s t : Shared) (q a : ℕ) → t.field ≡ s.field → t.parts.entries ≡ insert_entry id_eq s.parts.entries q a → AreShared k first p c ls s → IsShared k first p c ls s.field q a → AreShared k first p c ls t
+pub shared_kept : (k : Kept) (first : List Lit) (p : Tree) (c : Packet) (ls : List Lit) (s t : SharedParts) (q a : ℕ) → t.field ≡ s.field → t.parts.entries ≡ insert_entry id_eq s.parts.entries q a → AreShared k first p c ls s → IsShared k first p c ls s.field q a → AreShared k first p c ls t
 shared_kept k first p c ls s t q a e e' h w = subst (λ (f : Field). EachIs (IsShared k first p c ls f) t.parts.entries) (sym e) (subst (EachIs (IsShared k first p c ls s.field)) (sym e') (right_added id_eq same_id (IsShared k first p c ls s.field) q a s.parts.entries h w))
 
 -- tests that were asked, one by one

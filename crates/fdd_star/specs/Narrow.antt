@@ -4,7 +4,7 @@ use Rattle.nk_values.specs.declared.packet.Packet.{Packet}
 use Rattle.nk_values.specs.declared.lit.Lit.{Lit}
 use Rattle.nk_values.specs.Members.{IsIn}
 use Rattle.fdd_nodes.specs.Cells.{Agrees}
-use Rattle.fdd_nodes.specs.declared.cell.Known.{Known}
+use Rattle.fdd_nodes.specs.declared.cell.Knowledge.{Knowledge}
 use Rattle.fdd_nodes.specs.Known.{Knows}
 use Rattle.fdd_nodes.specs.Trees.{Tree, answers, SameAnswers}
 use Rattle.fdd_star.specs.Cells.{Among}
@@ -24,7 +24,7 @@ pub record IsOn (cs : List Packet) (t r : Tree) : Type 0 where
   pub names : IsNamedBy t r
 
 -- of the cells cs those that do not know this of the literal are among ds
-pub record AreBut (cs : List Packet) (l : Lit) (known : Known) (ds : List Packet) : Type 0 where
+pub record AreBut (cs : List Packet) (l : Lit) (known : Knowledge) (ds : List Packet) : Type 0 where
   pub among : (c : Packet) → IsIn cs c → ¬ Knows c l known → IsIn ds c
 
 -- the place is one of the store's, and its diagram has the property

@@ -7,7 +7,7 @@ use Rattle.nk_values.specs.Held.{put}
 use Rattle.nk_values.specs.Lits.{lit_field}
 use Rattle.nk_values.specs.Members.{IsIn}
 use Rattle.fdd_nodes.specs.Trees.{Tree}
-use Rattle.fdd_star.specs.declared.shared.Shared.{Shared}
+use Rattle.fdd_star.specs.declared.shared.SharedParts.{SharedParts}
 use Rattle.fdd_star.specs.Kept.{EachIs}
 use Rattle.fdd_star.specs.Reaches.{StarBut}
 use Rattle.fdd_store.specs.Operations.{CofactorOf}
@@ -21,14 +21,14 @@ pub record IsShared (k : Kept) (s : List Lit) (p : Tree) (c : Packet) (ls : List
     pub has : Has k q
     pub star : (l : Lit) → lit_field l ≡ f → CofactorOf l p (tree_at k q) → Gives k a (StarBut s p (put l c) ls)
 
-abbrev pub AreShared : Kept → List Lit → Tree → Packet → List Lit → Shared → Type 0
+abbrev pub AreShared : Kept → List Lit → Tree → Packet → List Lit → SharedParts → Type 0
 AreShared k s p c ls a = EachIs (IsShared k s p c ls a.field) a.parts.entries
 
 abbrev pub id_eq : ℕ → ℕ → Bool
 id_eq = id_impl.eq-value.it
 
 -- new has the field, and what old has of it
-pub record MovesTo (f : Field) (old new : Shared) : Type 0 where
+pub record MovesTo (f : Field) (old new : SharedParts) : Type 0 where
   pub field : new.field ≡ f
   pub kept : ((old.field ≡ f) × (new.parts.entries ≡ old.parts.entries)) ⊎ (new.parts.entries ≡ [])
 

@@ -6,7 +6,7 @@ ghost use Rattle.fdd_nodes.specs.Trees.{Leaf};
 ghost use Rattle.fdd_star.specs.Cells.{AllLead, AllLeadOn, IsClosed, LeadsOn};
 ghost use Rattle.fdd_store.specs.Stores.{Has, tree_at};
 
-use fdd_nodes::{Assignments, Cell, Known};
+use fdd_nodes::{Assignments, Cell, Knowledge};
 use fdd_store::{Id, Look, Store};
 use indexmap::IndexSet;
 use std::alloc::{AllocError, Global};
@@ -83,9 +83,9 @@ fn add_cells(
     match store.look(a) {
         Look::Leaf => add_copies(cells, here, store.leaf(a).copies())?,
         Look::Fork(l, yes, no) => match here.knows(&l) {
-            Known::Yes => add_cells(store, cells, done, here, yes)?,
-            Known::No => add_cells(store, cells, done, here, no)?,
-            Known::Unset => {
+            Knowledge::Yes => add_cells(store, cells, done, here, yes)?,
+            Knowledge::No => add_cells(store, cells, done, here, no)?,
+            Knowledge::Unset => {
                 add_cells(store, cells, done, here, yes)?;
                 add_cells(store, cells, done, here, no)?
             }

@@ -16,7 +16,7 @@ use crate::names::Names;
 use crate::progress::Progress;
 use crate::repetition::part_in;
 use crate::scope::Scope;
-use fdd_differ::{Listed, unnamed};
+use fdd_differ::{LiteralList, unnamed};
 use fdd_nodes::{Assignments, Cell};
 use fdd_store::{Id, Store};
 use nk_values::{Field, Lit};
@@ -44,7 +44,7 @@ pub fn ended_star(
     if names_field(named, l.field()) {
         return Ok(None);
     }
-    let other = unnamed(&Listed { lits: named });
+    let other = unnamed(&LiteralList { lits: named });
     let mut progress = Progress::new(alloc);
     let first = Assignments::one(alloc, *l)?;
     let cell = Cell::of(l);

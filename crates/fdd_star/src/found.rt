@@ -10,20 +10,20 @@ const FIRST_ALLOWANCE: usize = 1_048_576;
 /// What was found of the stars of a store's diagrams: where packets come to. And how many places of diagrams may still
 /// be gone through to narrow bodies.
 #[derive(Drop)]
-pub(crate) struct Found {
+pub(crate) struct Findings {
     pub(crate) visits: Visits,
     pub(crate) allowance: usize,
 }
 
-impl Found {
+impl Findings {
     ghost use Rattle.fdd_star.specs.Found.{AreFound};
     ghost use Rattle.fdd_store.specs.Stores.{Kept};
 
     /// Nothing yet.
-    pub(crate) fn new(alloc: Global) -> Found
+    pub(crate) fn new(alloc: Global) -> Findings
         ensures { (k : Kept) → AreFound k result }
     {
-        Found {
+        Findings {
             visits: Visits::new(alloc),
             allowance: FIRST_ALLOWANCE,
         }

@@ -3,7 +3,7 @@
 //! Layer: diagrams; private. Called by `parts`.
 ghost use Rattle.std.specs.Prelude.{IfOk};
 ghost use Rattle.fdd_nodes.specs.Names.{IsFew};
-ghost use Rattle.fdd_nodes.specs.declared.cell.Known.TheVariants.{No, Yes};
+ghost use Rattle.fdd_nodes.specs.declared.cell.Knowledge.TheVariants.{No, Yes};
 ghost use Rattle.fdd_star.specs.Narrow.{AreBut, IsDiagramAt, IsNarrowed, IsOn};
 ghost use Rattle.fdd_store.specs.Looks.{Forked};
 ghost use Rattle.fdd_store.specs.Canonical.{IsCanonical};
@@ -12,7 +12,7 @@ ghost use Rattle.fdd_store.specs.Stores.{Has, Grows, tree_at};
 use crate::cells::add_led_to;
 use crate::scope::Scope;
 use crate::shared::is_shared;
-use fdd_nodes::{Cell, Known};
+use fdd_nodes::{Cell, Knowledge};
 use fdd_store::{Id, Look, Store};
 use indexmap::IndexSet;
 use nk_values::Lit;
@@ -117,8 +117,8 @@ fn on_cells(alloc: Global, store: &mut Store, a: Id, cells: &[Cell]) -> Result<I
     match store.look(a) {
         Look::Leaf => Ok(a),
         Look::Fork(l, yes, no) => {
-            let there = cells_but(alloc, cells, &l, Known::No)?;
-            let away = cells_but(alloc, cells, &l, Known::Yes)?;
+            let there = cells_but(alloc, cells, &l, Knowledge::No)?;
+            let away = cells_but(alloc, cells, &l, Knowledge::Yes)?;
             let split = Split {
                 cells,
                 lit: l,
@@ -171,7 +171,12 @@ fn on_sides(
 }
 
 // The cells of some that do not know this of a literal.
-fn cells_but(alloc: Global, cells: &[Cell], l: &Lit, known: Known) -> Result<Vec<Cell>, AllocError>
+fn cells_but(
+    alloc: Global,
+    cells: &[Cell],
+    l: &Lit,
+    known: Knowledge,
+) -> Result<Vec<Cell>, AllocError>
     ensures { IfOk result (λ r. AreBut cells.now l.now known r.items) }
 {
     let mut left = Vec::new(alloc);

@@ -9,7 +9,7 @@ use crate::narrow::narrowed;
 use crate::progress::Progress;
 use crate::reach::Reach;
 use crate::scope::Scope;
-use crate::shared::Shared;
+use crate::shared::SharedParts;
 use fdd_nodes::Leaf;
 use fdd_store::{Id, Store};
 use indexmap::{IndexMap, IndexSet};
@@ -27,7 +27,7 @@ pub(crate) struct Parts {
     pub(crate) left: Vec<Lit>,
     /// Of which diagram they are the stars.
     pub(crate) body: Id,
-    pub(crate) shared: Shared,
+    pub(crate) shared: SharedParts,
 }
 
 impl Parts {
@@ -74,7 +74,7 @@ impl Parts {
             all,
             left,
             body,
-            shared: Shared {
+            shared: SharedParts {
                 field: Field::Sw,
                 parts: IndexMap::new(alloc),
             },

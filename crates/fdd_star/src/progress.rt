@@ -1,7 +1,7 @@
 //! How far a star is made.
 //!
 //! Layer: diagrams; private. Called by `ending`, `parts` and `repetition`.
-use crate::found::Found;
+use crate::found::Findings;
 use indexmap::IndexSet;
 use nk_values::Lit;
 use std::alloc::Global;
@@ -9,7 +9,7 @@ use std::alloc::Global;
 /// How far a star is made.
 #[derive(Drop)]
 pub(crate) struct Progress {
-    pub(crate) found: Found,
+    pub(crate) found: Findings,
     /// The literals that no packet of the next part holds.
     pub(crate) missed: IndexSet<Lit>,
 }
@@ -25,7 +25,7 @@ impl Progress {
         ensures missed { result.missed.keys ≡ [] }
     {
         Progress {
-            found: Found::new(alloc),
+            found: Findings::new(alloc),
             missed: IndexSet::new(alloc),
         }
     }

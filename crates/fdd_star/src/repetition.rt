@@ -24,8 +24,8 @@ use crate::names::Names;
 use crate::parts::Parts;
 use crate::progress::Progress;
 use crate::scope::Scope;
-use crate::shared::{Shared, is_shared};
-use fdd_differ::{Listed, unnamed};
+use crate::shared::{SharedParts, is_shared};
+use fdd_differ::{LiteralList, unnamed};
 use fdd_nodes::{Assignments, Cell};
 use fdd_store::{Id, Store};
 use nk_values::Lit;
@@ -48,7 +48,7 @@ pub fn star(alloc: Global, store: &mut Store, p: Id) -> Result<Id, StarError>
 {
     let none = Assignments::none(alloc)?;
     let names = Names::of(alloc, store, p)?;
-    let other = unnamed(&Listed {
+    let other = unnamed(&LiteralList {
         lits: names.named.as_slice(),
     });
     let mut progress = Progress::new(alloc);
@@ -108,7 +108,7 @@ fn part_of(
     alloc: Global,
     store: &mut Store,
     progress: &mut Progress,
-    shared: &mut Shared,
+    shared: &mut SharedParts,
     scope: &Scope<'_>,
     l: &Lit,
 ) -> Result<Id, StarError>

@@ -13,12 +13,12 @@ use std::alloc::AllocError;
 
 /// The stars where literals of one field hold, by what these leave of a body: its cofactors.
 #[derive(Drop)]
-pub(crate) struct Shared {
+pub(crate) struct SharedParts {
     pub(crate) field: Field,
     pub(crate) parts: IndexMap<Id, Id>,
 }
 
-impl Shared {
+impl SharedParts {
     ghost use Rattle.std.specs.Prelude.{◌≡◌, OnOk};
     ghost use Rattle.indexmap.specs.IndexMap.{insert_entry};
     ghost use Rattle.fdd_star.specs.Shared.{MovesTo, id_eq};

@@ -6,7 +6,7 @@ ghost use Rattle.fdd_star.specs.Asks.{IsVisitOf, Walks};
 ghost use Rattle.fdd_store.specs.Stores.{Has, Kept, tree_at};
 
 use crate::keys::Key;
-use fdd_nodes::{Cell, Known};
+use fdd_nodes::{Cell, Knowledge};
 use fdd_store::{Id, Look, Store};
 use indexmap::IndexMap;
 use nk_values::Lit;
@@ -92,9 +92,9 @@ fn walk(store: &Store, a: Id, here: &Cell, asked: &mut Vec<Lit>) -> Result<Id, A
     match store.look(a) {
         Look::Leaf => Ok(a),
         Look::Fork(l, t, e) => match here.knows(&l) {
-            Known::Yes => walk(store, t, here, asked),
-            Known::No => walk(store, e, here, asked),
-            Known::Unset => {
+            Knowledge::Yes => walk(store, t, here, asked),
+            Knowledge::No => walk(store, e, here, asked),
+            Knowledge::Unset => {
                 asked.push(l)?;
                 walk(store, e, here, asked)
             }

@@ -4,7 +4,7 @@ use Rattle.std.specs.List.{filter, flat_map}
 use Rattle.nk_values.specs.Members.{IsIn}
 use Rattle.packet_tracer.specs.declared.flight.Flight.{Flight}
 use Rattle.flow_index.proofs.Lists.{none-some, some-is}
-use Rattle.flight_queues.specs.declared.numbered.Numbered.{Numbered}
+use Rattle.flight_queues.specs.declared.numbered.NumberedFlight.{NumberedFlight}
 use Rattle.flight_queues.specs.declared.numbered.Mark.{Mark}
 use Rattle.flight_queues.specs.Merged.{Rises, found, queue_at, marked, merged, numbers_of, flights_of, mark_numbers, leads_to, switch_of, stands_at, IsKept}
 use Rattle.flight_queues.proofs.Lists.{decide, eq-same, eq-is, eq-other, eq-differ, passes, same-flat, filter-single}
@@ -12,14 +12,14 @@ use Rattle.flight_queues.proofs.Rising.{rises-bounds}
 use Rattle.flight_queues.proofs.Finding.{found-here, found-later}
 use Rattle.flight_queues.proofs.Merging.{singles, queue-rises}
 
-found-in : (n : ℕ) (es : List Numbered) (f : Flight) → found n es ≡ f ∷ [] → IsIn (flights_of es) f
+found-in : (n : ℕ) (es : List NumberedFlight) (f : Flight) → found n es ≡ f ∷ [] → IsIn (flights_of es) f
 found-in n [] f q = absurd (let none : [] ≡ f ∷ [] = q in cc)
 found-in n (e ∷ es) f q = elim (decide (nat_eq e.number n)) [
   | inl t ↦ inl (let same : e.flight ∷ [] ≡ f ∷ [] = sym (found-here n e es (eq-is e.number n t)) ∙ q in cc)
   | inr t ↦ inr (found-in n es f (sym (found-later n e es (eq-differ e.number n t)) ∙ q))
 ]
 
-self-found : (low high : ℕ) (es : List Numbered) → Rises low high (numbers_of es) → flat_map (λ n. found n es) (numbers_of es) ≡ flights_of es
+self-found : (low high : ℕ) (es : List NumberedFlight) → Rises low high (numbers_of es) → flat_map (λ n. found n es) (numbers_of es) ≡ flights_of es
 self-found low high [] r = refl
 self-found low high (e ∷ es) r =
     ap (λ (fs : List Flight). fs ++ flat_map (λ n. found n (e ∷ es)) (numbers_of es)) (found-here e.number e es refl)
@@ -41,7 +41,7 @@ same-tests a b c d f g = elim (decide (nat_eq c d)) [
   | inr t ↦ eq-other a b (λ q. eq-differ c d t (f q)) ∙ sym t
 ]
 
-module _ (place_of : ℕ → Option ℕ) (queues : List (List Numbered)) (marks : List Mark) (next : ℕ) (k : IsKept place_of queues marks next) (switch : ℕ) where
+module _ (place_of : ℕ → Option ℕ) (queues : List (List NumberedFlight)) (marks : List Mark) (next : ℕ) (k : IsKept place_of queues marks next) (switch : ℕ) where
   stands-marked : (m : Mark) (f : Flight) → marked queues m ≡ f ∷ [] → place_of (switch_of f) ≡ Some m.place
   stands-marked m f q = k.stands m.place f (found-in m.number (queue_at queues m.place) f q)
 

@@ -6,7 +6,7 @@ use Rattle.std.proofs.lemmas.List.Concat.{flat_map-append}
 use Rattle.std.proofs.lemmas.Bool.{cases_lt}
 use Rattle.nk_values.specs.Members.{IsIn}
 use Rattle.packet_tracer.specs.declared.flight.Flight.{Flight}
-use Rattle.flight_queues.specs.declared.numbered.Numbered.{Numbered}
+use Rattle.flight_queues.specs.declared.numbered.NumberedFlight.{NumberedFlight}
 use Rattle.flight_queues.specs.declared.numbered.Mark.{Mark}
 use Rattle.flight_queues.specs.Merged.{Rises, found, queue_at, marked, merged, numbers_of, flights_of, mark_numbers, leads_to, AreRising, AreMarked, is_other, without, renumbered, retold, in_place_of}
 use Rattle.flow_index.proofs.Lists.{none-some, some-is, at-in}
@@ -16,7 +16,7 @@ use Rattle.flight_queues.proofs.Finding.{found-one, found-other, flights-without
 
 -- ---- what marks tell
 
-module _ (queues : List (List Numbered)) (marks : List Mark) (next : ℕ) (a : AreMarked queues marks next) where
+module _ (queues : List (List NumberedFlight)) (marks : List Mark) (next : ℕ) (a : AreMarked queues marks next) where
   pub in-marked : (m : Mark) → IsIn marks m → IsIn (numbers_of (queue_at queues m.place)) m.number
   in-marked m h = subst (λ (ns : List ℕ). IsIn ns m.number) (sym (a.agree m.place)) (in-map (λ (x : Mark). x.number) (filter (leads_to m.place) marks) m (in-filter (leads_to m.place) marks m h (eq-same m.place m.place refl)))
 
@@ -32,7 +32,7 @@ module _ (queues : List (List Numbered)) (marks : List Mark) (next : ℕ) (a : A
   pub marked-within : (m : Mark) → IsIn marks m → m.place < length queues
   marked-within m h = elim (cases_lt m.place (length queues)) [
     | inl less ↦ less
-    | inr past ↦ absurd (let none : IsIn (numbers_of []) m.number = subst (λ (es : List Numbered). IsIn (numbers_of es) m.number) (get_or_past queues m.place [] past) (in-marked m h) in none)
+    | inr past ↦ absurd (let none : IsIn (numbers_of []) m.number = subst (λ (es : List NumberedFlight). IsIn (numbers_of es) m.number) (get_or_past queues m.place [] past) (in-marked m h) in none)
   ]
 
   pub merged-length : length (merged queues marks) ≡ length marks
@@ -40,7 +40,7 @@ module _ (queues : List (List Numbered)) (marks : List Mark) (next : ℕ) (a : A
 
 -- ---- a copy goes
 
-module _ (queues new : List (List Numbered)) (marks : List Mark) (next k : ℕ) (m : Mark) (a : AreMarked queues marks next) (at : slice_get marks k ≡ Some m)
+module _ (queues new : List (List NumberedFlight)) (marks : List Mark) (next k : ℕ) (m : Mark) (a : AreMarked queues marks next) (at : slice_get marks k ≡ Some m)
     (here : queue_at new m.place ≡ without (λ e. e.number) m.number (queue_at queues m.place))
     (others : (place : ℕ) → place ≢ m.place → queue_at new place ≡ queue_at queues place) where
   gone : remove marks k ≡ without (λ x. x.number) m.number marks
@@ -60,7 +60,7 @@ module _ (queues new : List (List Numbered)) (marks : List Mark) (next k : ℕ) 
 
       this : numbers_of (queue_at new m.place) ≡ mark_numbers (filter (leads_to m.place) (remove marks k))
       this =
-          ap numbers_of here ∙ filter-map (λ (e : Numbered). e.number) (λ n. not (nat_eq n m.number)) (queue_at queues m.place)
+          ap numbers_of here ∙ filter-map (λ (e : NumberedFlight). e.number) (λ n. not (nat_eq n m.number)) (queue_at queues m.place)
           ∙ ap (filter (λ n. not (nat_eq n m.number))) (a.agree m.place)
           ∙ sym (filter-map (λ (x : Mark). x.number) (λ n. not (nat_eq n m.number)) (filter (leads_to m.place) marks))
           ∙ ap mark_numbers (filter-swap (is_other (λ (x : Mark). x.number) m.number) (leads_to m.place) marks)
@@ -93,13 +93,13 @@ module _ (queues new : List (List Numbered)) (marks : List Mark) (next k : ℕ) 
   removed-flights place f h = elim (decide (nat_eq place m.place)) [
     | inl e ↦
         let same = eq-is place m.place e in
-        subst (λ (p : ℕ). IsIn (flights_of (queue_at queues p)) f) (sym same) (flights-without m.number (queue_at queues m.place) f (subst (λ (es : List Numbered). IsIn (flights_of es) f) (ap (queue_at new) same ∙ here) h))
-    | inr e ↦ subst (λ (es : List Numbered). IsIn (flights_of es) f) (others place (eq-differ place m.place e)) h
+        subst (λ (p : ℕ). IsIn (flights_of (queue_at queues p)) f) (sym same) (flights-without m.number (queue_at queues m.place) f (subst (λ (es : List NumberedFlight). IsIn (flights_of es) f) (ap (queue_at new) same ∙ here) h))
+    | inr e ↦ subst (λ (es : List NumberedFlight). IsIn (flights_of es) f) (others place (eq-differ place m.place e)) h
   ]
 
 -- ---- a copy comes
 
-module _ (queues new : List (List Numbered)) (marks : List Mark) (next place : ℕ) (f : Flight) (a : AreMarked queues marks next)
+module _ (queues new : List (List NumberedFlight)) (marks : List Mark) (next place : ℕ) (f : Flight) (a : AreMarked queues marks next)
     (here : queue_at new place ≡ queue_at queues place ++ record { number = next; flight = f } ∷ [])
     (others : (q : ℕ) → q ≢ place → queue_at new q ≡ queue_at queues q) where
   abbrev come : Mark
@@ -115,7 +115,7 @@ module _ (queues new : List (List Numbered)) (marks : List Mark) (next place : �
     where
       this : numbers_of (queue_at new place) ≡ mark_numbers (filter (leads_to place) (marks ++ come ∷ []))
       this =
-          ap numbers_of here ∙ map-append (λ (e : Numbered). e.number) (queue_at queues place) (record { number = next; flight = f } ∷ [])
+          ap numbers_of here ∙ map-append (λ (e : NumberedFlight). e.number) (queue_at queues place) (record { number = next; flight = f } ∷ [])
           ∙ ap (λ (ns : List ℕ). ns ++ next ∷ []) (a.agree place)
           ∙ sym (map-append (λ (x : Mark). x.number) (filter (leads_to place) marks) (come ∷ []))
           ∙ ap mark_numbers (sym (filter-end (leads_to place) marks come (eq-same place place refl)))
@@ -144,17 +144,17 @@ module _ (queues new : List (List Numbered)) (marks : List Mark) (next place : �
   pushed-flights q g h = elim (decide (nat_eq q place)) [
     | inl e ↦
         let same = eq-is q place e in
-        let there : IsIn (flights_of (queue_at queues place) ++ f ∷ []) g = subst (λ (fs : List Flight). IsIn fs g) (ap (λ (p : ℕ). flights_of (queue_at new p)) same ∙ ap flights_of here ∙ map-append (λ (x : Numbered). x.flight) (queue_at queues place) (record { number = next; flight = f } ∷ [])) h in
+        let there : IsIn (flights_of (queue_at queues place) ++ f ∷ []) g = subst (λ (fs : List Flight). IsIn fs g) (ap (λ (p : ℕ). flights_of (queue_at new p)) same ∙ ap flights_of here ∙ map-append (λ (x : NumberedFlight). x.flight) (queue_at queues place) (record { number = next; flight = f } ∷ [])) h in
         elim (in-end (flights_of (queue_at queues place)) f g there) [
           | inl k ↦ inl (subst (λ (p : ℕ). IsIn (flights_of (queue_at queues p)) g) (sym same) k)
           | inr k ↦ inr (same, k)
         ]
-    | inr e ↦ inl (subst (λ (es : List Numbered). IsIn (flights_of es) g) (others q (eq-differ q place e)) h)
+    | inr e ↦ inl (subst (λ (es : List NumberedFlight). IsIn (flights_of es) g) (others q (eq-differ q place e)) h)
   ]
 
 -- ---- a copy gets another number
 
-to-numbers : (n to : ℕ) (es : List Numbered) → numbers_of (renumbered n to es) ≡ map (in_place_of n to) (numbers_of es)
+to-numbers : (n to : ℕ) (es : List NumberedFlight) → numbers_of (renumbered n to es) ≡ map (in_place_of n to) (numbers_of es)
 to-numbers n to [] = refl
 to-numbers n to (e ∷ es) = λ i. by (nat_eq e.number n) i ∷ to-numbers n to es i
   where
@@ -195,7 +195,7 @@ at-number (x ∷ xs) (suc k) n q = at-number xs k n q
 counted-numbers : (i : ℕ) (marks : List Mark) → AreCountedMarks i marks → AreCounted 0 i (mark_numbers marks)
 counted-numbers i marks c k n l q = let there = at-number marks k n q in sym there.2 ∙ c k there.0 l there.1 ∙ sym (zero-add k)
 
-module _ (queues new : List (List Numbered)) (marks : List Mark) (next i : ℕ) (m : Mark) (a : AreMarked queues marks next) (at : slice_get marks i ≡ Some m)
+module _ (queues new : List (List NumberedFlight)) (marks : List Mark) (next i : ℕ) (m : Mark) (a : AreMarked queues marks next) (at : slice_get marks i ≡ Some m)
     (before : AreCountedMarks i marks) (here : queue_at new m.place ≡ renumbered m.number i (queue_at queues m.place))
     (others : (place : ℕ) → place ≢ m.place → queue_at new place ≡ queue_at queues place) where
   abbrev told : Mark
@@ -285,7 +285,7 @@ module _ (queues new : List (List Numbered)) (marks : List Mark) (next i : ℕ) 
       set-else (z ∷ zs) (suc j) (suc l) y n = set-else zs j l y (λ p. n (ap (λ (h : ℕ). suc h) p))
 
 -- once each has its place
-pub all-counted : (queues : List (List Numbered)) (marks : List Mark) (next i : ℕ) → AreMarked queues marks next → AreCountedMarks i marks → length marks ≡ i → AreMarked queues marks i
+pub all-counted : (queues : List (List NumberedFlight)) (marks : List Mark) (next i : ℕ) → AreMarked queues marks next → AreCountedMarks i marks → length marks ≡ i → AreMarked queues marks i
 all-counted queues marks next i a c q = record {
   rise = subst (λ (n : ℕ). Rises 0 n (mark_numbers marks)) (let long : 0 + length (mark_numbers marks) ≡ i = omega (arith, length-map marks (λ (x : Mark). x.number), q) in long)
       (rises-counted 0 next (mark_numbers marks) a.rise (subst (λ (n : ℕ). AreCounted 0 n (mark_numbers marks)) (let long : i ≡ length (mark_numbers marks) = omega (arith, length-map marks (λ (x : Mark). x.number), q) in long) (counted-numbers i marks c)));

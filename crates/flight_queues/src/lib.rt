@@ -10,5 +10,5 @@ mod queue;
 
 pub use copies::Copies;
 pub use flights::Flights;
-pub use numbered::{Mark, Numbered};
+pub use numbered::{Mark, NumberedFlight};
 pub use queue::Queue;

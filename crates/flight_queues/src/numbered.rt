@@ -5,7 +5,7 @@ use packet_tracer::Flight;
 
 /// A copy with its number: a later one has a greater number.
 #[derive(Debug, Drop)]
-pub struct Numbered {
+pub struct NumberedFlight {
     pub number: u64,
     pub flight: Flight,
 }

@@ -5,7 +5,7 @@ ghost use Rattle.std.specs.Prelude.{◌≡◌, ◌∷◌, ◌++◌, [], length, 
 ghost use Rattle.nk_values.specs.Members.{IsIn};
 ghost use Rattle.flight_queues.specs.Merged.{AreRising, HasNumber, found, numbers_of, renumbered, without};
 
-use crate::numbered::Numbered;
+use crate::numbered::NumberedFlight;
 use packet_tracer::Flight;
 use std::alloc::{AllocError, Global};
 use std::collections::VecDeque;
@@ -14,12 +14,12 @@ use std::marker::Model;
 /// Copies at one switch, by rising number. Clauses see them as a list.
 #[derive(Drop)]
 pub struct Queue {
-    copies: VecDeque<Numbered>,
+    copies: VecDeque<NumberedFlight>,
 }
 
 impl Model for Queue {
     ghost use Rattle.std.specs.Prelude.{List};
-    ghost use Rattle.flight_queues.specs.declared.numbered.Numbered.{Numbered as NumberedValue};
+    ghost use Rattle.flight_queues.specs.declared.numbered.NumberedFlight.{NumberedFlight as NumberedValue};
 
     ghost Value = { List NumberedValue };
 
@@ -44,7 +44,7 @@ impl Queue {
     }
 
     /// The copy at a place of the queue.
-    pub fn get(&self, place: usize) -> Option<&Numbered>
+    pub fn get(&self, place: usize) -> Option<&NumberedFlight>
         ensures { option_map (λ e. e.now) result ≡ slice_get self.now place }
     {
         self.copies.get(place)
@@ -87,7 +87,7 @@ impl Queue {
         ensures ok { OnOk result (self.new ≡ self.old ++ record { number = number; flight = flight } ∷ []) }
         ensures err { OnErr result (self.new ≡ self.old) }
     {
-        self.copies.push_back(Numbered { number, flight })?;
+        self.copies.push_back(NumberedFlight { number, flight })?;
         Ok(())
     }
 

@@ -2,7 +2,7 @@
 //!
 //! Layer: tests; private. Its tests are run by `rt test`.
 use flow_table::act;
-use nk_values::{Action, Header, IN_PORT, Sent, Tag};
+use nk_values::{Action, Header, IN_PORT, SentPacket, Tag};
 use std::alloc::{AllocError, Global};
 use std::test::Fail;
 
@@ -18,7 +18,11 @@ const HEADER: Header = Header {
 };
 
 // The packet of this place among those that actions send of one without a tag that came in by port 1.
-fn nth_sent(alloc: Global, actions: &[Action], place: usize) -> Result<Option<Sent>, AllocError> {
+fn nth_sent(
+    alloc: Global,
+    actions: &[Action],
+    place: usize,
+) -> Result<Option<SentPacket>, AllocError> {
     let sent = act(alloc, actions, 1, &HEADER, Tag::none())?;
     Ok(sent.get(place).copied())
 }
@@ -51,9 +55,9 @@ const STAMPING: [Action; 7] = [
 ];
 
 // The packet that leaves by a port with this address and tag.
-fn stamped(port: u16, eth_dst: u64, tag: Tag) -> Option<Sent> {
+fn stamped(port: u16, eth_dst: u64, tag: Tag) -> Option<SentPacket> {
     let header = Header { eth_dst, ..HEADER };
-    Some(Sent { port, header, tag })
+    Some(SentPacket { port, header, tag })
 }
 
 #[test]

@@ -2,7 +2,7 @@
 //!
 //! Layer: tests; private. Its tests are run by `rt test`.
 use outside_io::{
-    Failed, MemorySink, MemorySource, ReadError, Sink, Source, StdSink, StdSource, read_up_to,
+    Failure, MemorySink, MemorySource, ReadError, Sink, Source, StdSink, StdSource, read_up_to,
     write_all,
 };
 use std::alloc::Global;
@@ -14,7 +14,7 @@ fn gives<S: Source>(alloc: Global, source: &mut S, limit: usize) -> Result<Vec<u
 }
 
 // Writes two pieces.
-fn put<K: Sink>(sink: &mut K) -> Result<(), Failed> {
+fn put<K: Sink>(sink: &mut K) -> Result<(), Failure> {
     write_all(sink, b"ab")?;
     write_all(sink, b"c")
 }
@@ -33,7 +33,7 @@ fn memory(rt: HostRuntime) -> Result<(), Fail> {
         b"c".as_slice()
     );
     let mut sink = MemorySink::new(alloc, 9, [2].to_vec(alloc)?);
-    assert_eq!(rt; put(&mut sink), Err(Failed));
+    assert_eq!(rt; put(&mut sink), Err(Failure));
     assert_eq!(rt; sink.bytes(), b"ab".as_slice());
     Ok(())
 }

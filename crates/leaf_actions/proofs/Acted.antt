@@ -10,7 +10,7 @@ use Rattle.nk_values.specs.declared.packet.Header.{Header}
 use Rattle.nk_values.specs.declared.packet.Packet.{Packet}
 use Rattle.nk_values.specs.declared.rows.PortKind.{PortKind}
 use Rattle.nk_values.specs.declared.rows.PortKind.TheVariants.{Edge, Linked}
-use Rattle.nk_values.specs.declared.sent.Sent.{Sent}
+use Rattle.nk_values.specs.declared.sent.SentPacket.{SentPacket}
 use Rattle.nk_values.specs.Acts.{out_port, sent_to, acted}
 use Rattle.nk_values.specs.Members.{IsIn}
 use Rattle.nk_values.specs.Patterns.{Incoming}
@@ -164,4 +164,4 @@ acted_listed v x y p k (r ∷ rs) s a e f g c =
     ap (λ (o : Option ℕ). sent_to o (inc v.pt (fill (apply r.copy x) p).header (port_tag r.kind v.stamp)) ++ acted (listed v x (apply r.copy x) r.kind rs) (inc v.pt (fill (apply r.copy x) p).header (port_tag r.kind v.stamp)))
     (out_number v r.port (g r (inl refl)).0 (r.port == v.pt) refl) ∙
     ap (λ (q : Packet). record { port = r.port; header = q.header; tag = port_tag r.kind v.stamp } ∷ acted (listed v x (apply r.copy x) r.kind rs) (inc v.pt (fill (apply r.copy x) p).header (port_tag r.kind v.stamp))) now ∙
-    ap (λ (l : List Sent). sent_route v p r ∷ l) (acted_listed v x (apply r.copy x) p r.kind rs s a ez fz (λ t i. g t (inr i)) c.1)
+    ap (λ (l : List SentPacket). sent_route v p r ∷ l) (acted_listed v x (apply r.copy x) p r.kind rs s a ez fz (λ t i. g t (inr i)) c.1)

@@ -7,7 +7,7 @@ use Rattle.nk_values.specs.declared.field.Field.{Field}
 use Rattle.nk_values.specs.declared.field.Field.TheVariants.{Pt}
 use Rattle.nk_values.specs.declared.packet.Packet.{Packet}
 use Rattle.nk_values.specs.declared.lit.Lit.{Lit}
-use Rattle.nk_values.specs.declared.sent.Sent.{Sent}
+use Rattle.nk_values.specs.declared.sent.SentPacket.{SentPacket}
 use Rattle.nk_values.specs.Acts.{acted}
 use Rattle.nk_values.specs.Held.{put}
 use Rattle.nk_values.specs.Lits.{lit_field, lit_value}
@@ -90,7 +90,7 @@ acts_as x v cs as' t s ready = record {
       ap (λ (l : List Action). acted l (arriving v p)) ready.actions ∙
       ap (λ (q : Packet). acted (listed v x x v.kind ready.routes) (record { port = v.pt; header = q.header; tag = port_tag v.kind v.stamp })) (sym (fill_own x p a)) ∙
       known in
-      subst (λ (xs : List Sent). IsPermutation (sendings v cs p) xs) (sym now) (sent_listed v x p cs ready.routes d ready.listing.all);
+      subst (λ (xs : List SentPacket). IsPermutation (sendings v cs p) xs) (sym now) (sent_listed v x p cs ready.routes d ready.listing.all);
 }
 
 -- where the copies do not climb some two are apart

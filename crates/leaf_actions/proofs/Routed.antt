@@ -12,7 +12,7 @@ use Rattle.std.proofs.lemmas.List.Sorted.{Contains-permutation, IsPermutation-ma
 use Rattle.nk_values.specs.declared.packet.Packet.{Packet}
 use Rattle.nk_values.specs.declared.lit.Lit.{Lit}
 use Rattle.nk_values.specs.declared.field.Field.TheVariants.{Pt}
-use Rattle.nk_values.specs.declared.sent.Sent.{Sent}
+use Rattle.nk_values.specs.declared.sent.SentPacket.{SentPacket}
 use Rattle.nk_values.specs.Members.{IsIn}
 use Rattle.nk_values.specs.Packets.{with_value}
 use Rattle.nk_values.proofs.MemberLaws.{in-either}
@@ -104,7 +104,7 @@ pub listing_rises : (v : PortView) (x : Packet) (cs : List (List Lit)) (rs : Lis
 listing_rises v x cs rs l = all_rise x rs (λ r k. (listed_known v x cs rs l r k).count) l.sorted
 
 -- what a route's copy sends
-abbrev pub sent_route : PortView → Packet → Route → Sent
+abbrev pub sent_route : PortView → Packet → Route → SentPacket
 sent_route v p r = record { port = r.port; header = (apply r.copy p).header; tag = port_tag r.kind v.stamp }
 
 sent_one : (v : PortView) (x p : Packet) (c : List Lit) (o : Option SwitchPort) → map (sent_route v p) (route_by x c o) ≡ sent_by_port v (apply c p) o
@@ -118,9 +118,9 @@ sent_all : (v : PortView) (x p : Packet) (cs : List (List Lit)) → p.pt ≡ v.p
 sent_all v x p [] e = refl
 sent_all v x p (c ∷ cs) e =
     map-append (sent_route v p) (route_by x c (port_in v.ports (out_of v c))) (routes_of v x cs) ∙
-    ap (λ (l : List Sent). l ++ map (sent_route v p) (routes_of v x cs)) (sent_one v x p c (port_in v.ports (out_of v c)) ∙ ap (λ n. sent_by_port v (apply c p) (port_in v.ports n)) (sym (out_at v p c e))) ∙
-    ap (λ (l : List Sent). sent_by_port v (apply c p) (port_in v.ports (apply c p).pt) ++ l) (sent_all v x p cs e)
+    ap (λ (l : List SentPacket). l ++ map (sent_route v p) (routes_of v x cs)) (sent_one v x p c (port_in v.ports (out_of v c)) ∙ ap (λ n. sent_by_port v (apply c p) (port_in v.ports n)) (sym (out_at v p c e))) ∙
+    ap (λ (l : List SentPacket). sent_by_port v (apply c p) (port_in v.ports (apply c p).pt) ++ l) (sent_all v x p cs e)
 
 -- listed copies send what all of them send, in some order
 pub sent_listed : (v : PortView) (x p : Packet) (cs : List (List Lit)) (rs : List Route) → p.pt ≡ v.pt → IsPermutation (routes_of v x cs) rs → IsPermutation (sendings v cs p) (map (sent_route v p) rs)
-sent_listed v x p cs rs e h = subst (λ (l : List Sent). IsPermutation l (map (sent_route v p) rs)) (sent_all v x p cs e) (IsPermutation-map (sent_route v p) (routes_of v x cs) rs h)
+sent_listed v x p cs rs e h = subst (λ (l : List SentPacket). IsPermutation l (map (sent_route v p) rs)) (sent_all v x p cs e) (IsPermutation-map (sent_route v p) (routes_of v x cs) rs h)

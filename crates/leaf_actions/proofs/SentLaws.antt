@@ -4,7 +4,7 @@ use Rattle.std.proofs.lemmas.Bool.Decides.{Decides-eqb}
 use Rattle.std.specs.List.Sorted.{IsPermutation}
 use Rattle.nk_values.specs.declared.packet.Packet.{Packet}
 use Rattle.nk_values.specs.declared.lit.Lit.{Lit}
-use Rattle.nk_values.specs.declared.sent.Sent.{Sent}
+use Rattle.nk_values.specs.declared.sent.SentPacket.{SentPacket}
 use Rattle.nk_values.specs.Members.{IsIn, EachOnce}
 use Rattle.nk_values.proofs.PairLaws.{pairs-flat_map}
 use Rattle.nk_values.proofs.Permuted.{once-permuted}
@@ -23,16 +23,16 @@ found-number (p ∷ ps) n s e = split (p.pt == n) refl e (found-number ps n s)
     split false d k later = later k
 
 -- what is sent tells the packet's port and header
-record Tells (q : Packet) (x : Sent) : Type 0 where
+record Tells (q : Packet) (x : SentPacket) : Type 0 where
   port : x.port ≡ q.pt
   header : x.header ≡ q.header
 
-told : (v : PortView) (q : Packet) (x : Sent) → IsIn (sent_at v q) x → Tells q x
+told : (v : PortView) (q : Packet) (x : SentPacket) → IsIn (sent_at v q) x → Tells q x
 told v q x m = split (port_in v.ports q.pt) refl m
   where
     split : (o : Option SwitchPort) → port_in v.ports q.pt ≡ o → IsIn (sent_by_port v q o) x → Tells q x
     split None e k = absurd k
-    split (Some s) e (inl d) = record { port = ap (λ (y : Sent). y.port) (sym d) ∙ found-number v.ports q.pt s e; header = ap (λ (y : Sent). y.header) (sym d) }
+    split (Some s) e (inl d) = record { port = ap (λ (y : SentPacket). y.port) (sym d) ∙ found-number v.ports q.pt s e; header = ap (λ (y : SentPacket). y.header) (sym d) }
     split (Some s) e (inr k) = absurd k
 
 one-sent : (v : PortView) (q : Packet) → EachOnce (sent_at v q)
@@ -49,11 +49,11 @@ sendings-once v cs p stays once = pairs-flat_map (sent_at v) (λ q r. q ≢ r) (
     let a = told v q x i in
     let b = told v r y j in
     let sw : q.sw ≡ r.sw = stays q m ∙ sym (stays r n) in
-    let pt : q.pt ≡ r.pt = sym a.port ∙ ap (λ (z : Sent). z.port) same ∙ b.port in
-    let header = sym a.header ∙ ap (λ (z : Sent). z.header) same ∙ b.header in
+    let pt : q.pt ≡ r.pt = sym a.port ∙ ap (λ (z : SentPacket). z.port) same ∙ b.port in
+    let header = sym a.header ∙ ap (λ (z : SentPacket). z.header) same ∙ b.header in
     λ k. record { sw = sw k; pt = pt k; header = header k }
     ))
 
 -- and so they are sent once each, in whatever order
-pub sent-once : (v : PortView) (cs : List (List Lit)) (p : Packet) (sent : List Sent) → ((q : Packet) → IsIn (outcomes cs p) q → q.sw ≡ p.sw) → EachOnce (outcomes cs p) → IsPermutation (sendings v cs p) sent → EachOnce sent
-sent-once v cs p sent stays once moved = once-permuted Sent (sendings v cs p) sent moved (sendings-once v cs p stays once)
+pub sent-once : (v : PortView) (cs : List (List Lit)) (p : Packet) (sent : List SentPacket) → ((q : Packet) → IsIn (outcomes cs p) q → q.sw ≡ p.sw) → EachOnce (outcomes cs p) → IsPermutation (sendings v cs p) sent → EachOnce sent
+sent-once v cs p sent stays once moved = once-permuted SentPacket (sendings v cs p) sent moved (sendings-once v cs p stays once)

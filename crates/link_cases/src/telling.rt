@@ -12,7 +12,7 @@ pub fn tell(alloc: Global, case: &Case, text: &str) -> Result<String, AllocError
         return Ok(out);
     }
     if case.short {
-        put_lines(&mut out, text, Part::Outcome)?;
+        put_lines(&mut out, text, Section::Outcome)?;
         return Ok(out);
     }
     if case.switches.len() < 2 {
@@ -20,15 +20,15 @@ pub fn tell(alloc: Global, case: &Case, text: &str) -> Result<String, AllocError
         return Ok(out);
     }
     for sw in &case.switches {
-        put_lines(&mut out, text, Part::Switch(*sw))?;
+        put_lines(&mut out, text, Section::Switch(*sw))?;
     }
-    put_lines(&mut out, text, Part::Shared)?;
+    put_lines(&mut out, text, Section::Shared)?;
     Ok(out)
 }
 
 // Puts the phase of a run at the end, and how many packets came in.
 fn put_run(alloc: Global, out: &mut String, text: &str) -> Result<(), AllocError> {
-    put_lines(out, text, Part::Phase)?;
+    put_lines(out, text, Section::Phase)?;
     let count = text
         .lines()
         .filter(|line| line.starts_with("arrival "))
@@ -38,7 +38,7 @@ fn put_run(alloc: Global, out: &mut String, text: &str) -> Result<(), AllocError
 
 // Some lines of a text.
 #[derive(Clone, Copy)]
-enum Part {
+enum Section {
     // That of the phase.
     Phase,
     // Those of no event.
@@ -50,19 +50,19 @@ enum Part {
 }
 
 // Whether a line is in it.
-fn is_in(part: Part, line: &str) -> bool {
-    match part {
-        Part::Phase => line.starts_with("phase "),
-        Part::Outcome => !line.starts_with("e "),
-        Part::Switch(sw) => switch_of(line) == Some(sw),
-        Part::Shared => switch_of(line).is_none(),
+fn is_in(section: Section, line: &str) -> bool {
+    match section {
+        Section::Phase => line.starts_with("phase "),
+        Section::Outcome => !line.starts_with("e "),
+        Section::Switch(sw) => switch_of(line) == Some(sw),
+        Section::Shared => switch_of(line).is_none(),
     }
 }
 
-// Puts the lines of a part at the end.
-fn put_lines(out: &mut String, text: &str, part: Part) -> Result<(), AllocError> {
+// Puts the lines of a section at the end.
+fn put_lines(out: &mut String, text: &str, section: Section) -> Result<(), AllocError> {
     for line in text.lines() {
-        if is_in(part, line) {
+        if is_in(section, line) {
             out.push_str(line)?;
             out.push_str("\n")?;
         }

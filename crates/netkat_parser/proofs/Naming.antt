@@ -52,9 +52,9 @@ record IsNamed (inside : Bool) (before : Names) (p : Term) (after : Names) : Typ
   roomy : IsRoomy before → IsRoomy after
   pure : inside ≡ true → IsPure p
 
-abbrev Named : Bool → Spot → Got Term → Type 0
-Named inside s (Read p t) = IsNamed inside s.named p t.named
-Named inside s (Bad e at) = Unit {0}
+abbrev NamedPairs : Bool → Spot → Got Term → Type 0
+NamedPairs inside s (Read p t) = IsNamed inside s.named p t.named
+NamedPairs inside s (Bad e at) = Unit {0}
 
 record AreNamed (inside : Bool) (before : Names) (ps : List Term) (after : Names) : Type 0 where
   names : after ≡ terms_named (term_row ps) before
@@ -102,7 +102,7 @@ record IsMade (inside : Bool) (f : Field) (make : ℕ → Term) : Type 0 where
   pure : inside ≡ true → (n : ℕ) → IsPure (make n)
 
 literal-by : (inside : Bool) (f : Field) (make : ℕ → Term) (s : Spot) (n : ℕ) (b : Bool) → is_too_many s.named f n ≡ b → IsMade inside f make
-    → Named inside s (cond b (Bad fault.TooManyValues s.text) (Read (make n) (record { text = past_run s.text; named = with_pair s.named f n })))
+    → NamedPairs inside s (cond b (Bad fault.TooManyValues s.text) (Read (make n) (record { text = past_run s.text; named = with_pair s.named f n })))
 literal-by inside f make s n true e m = tt
 literal-by inside f make s n false e m = record {
   names = m.names n s.named;
@@ -110,18 +110,18 @@ literal-by inside f make s n false e m = record {
   pure = λ i. m.pure i n;
 }
 
-literal-named : (inside : Bool) (f : Field) (make : ℕ → Term) (s : Spot) (n : ℕ) → IsMade inside f make → Named inside s (literal f make s n)
+literal-named : (inside : Bool) (f : Field) (make : ℕ → Term) (s : Spot) (n : ℕ) → IsMade inside f make → NamedPairs inside s (literal f make s n)
 literal-named inside f make s n m = literal-by inside f make s n (is_too_many s.named f n) refl m
 
-along : (inside : Bool) (s : Spot) (o o' : Got Term) → o ≡ o' → Named inside s o' → Named inside s o
-along inside s o o' e h = subst (Named inside s) (sym e) h
+along : (inside : Bool) (s : Spot) (o o' : Got Term) → o ≡ o' → NamedPairs inside s o' → NamedPairs inside s o
+along inside s o o' e h = subst (NamedPairs inside s) (sym e) h
 
-number-named : (inside : Bool) (f : Field) (make : ℕ → Term) (s : Spot) (n : Option ℕ) (o : Got Term) → IsMade inside f make → IsNumber f make s n o → Named inside s o
+number-named : (inside : Bool) (f : Field) (make : ℕ → Term) (s : Spot) (n : Option ℕ) (o : Got Term) → IsMade inside f make → IsNumber f make s n o → NamedPairs inside s o
 number-named inside f make s None o m h = along inside s o _ h tt
 number-named inside f make s (Some n) o m (inl h) = along inside s o _ h.1 (literal-named inside f make s n m)
 number-named inside f make s (Some n) o m (inr h) = along inside s o _ h.1 tt
 
-run-named : (depth : ℕ) (inside : Bool) (f : Field) (make : ℕ → Term) (s : Spot) (r : List ℕ) (o : Got Term) → IsMade inside f make → IsRun depth f make s r o → Named inside s o
+run-named : (depth : ℕ) (inside : Bool) (f : Field) (make : ℕ → Term) (s : Spot) (r : List ℕ) (o : Got Term) → IsMade inside f make → IsRun depth f make s r o → NamedPairs inside s o
 run-named depth inside f make s [] o m h = along inside s o _ h tt
 run-named depth inside f make s (b ∷ bs) o m h = number-named inside f make s (number f (b ∷ bs)) o m h
 
@@ -131,7 +131,7 @@ made-test inside f = record { names = λ n named. refl; pure = λ i n. tt }
 made-assign : (f : Field) → IsMade false f (Assign f)
 made-assign f = record { names = λ n named. refl; pure = λ i n. absurd (cc) }
 
-pair-named : (depth : ℕ) (inside : Bool) (f : Field) (s : Spot) (t : Sign) (o : Got Term) → IsPair depth inside f s t o → Named inside s o
+pair-named : (depth : ℕ) (inside : Bool) (f : Field) (s : Spot) (t : Sign) (o : Got Term) → IsPair depth inside f s t o → NamedPairs inside s o
 pair-named depth false f s sign.Equals o h = run-named depth false f (λ n. Filter (Test f n)) (step s) (run (past s.text)) o (made-test false f) h
 pair-named depth true f s sign.Equals o h = run-named depth true f (λ n. Filter (Test f n)) (step s) (run (past s.text)) o (made-test true f) h
 pair-named depth false f s sign.Becomes o h = run-named depth false f (Assign f) (step s) (run (past s.text)) o (made-assign f) h
@@ -139,7 +139,7 @@ pair-named depth true f s sign.Becomes o h = along true s o _ h tt
 pair-named depth false f s t o h = along false s o _ h tt
 pair-named depth true f s t o h = along true s o _ h tt
 
-leaf-named : (depth : ℕ) (inside : Bool) (s : Spot) (t : Sign) (o : Got Term) → IsLeaf depth inside s t o → Named inside s o
+leaf-named : (depth : ℕ) (inside : Bool) (s : Spot) (t : Sign) (o : Got Term) → IsLeaf depth inside s t o → NamedPairs inside s o
 leaf-named depth false s sign.Skip o h = along false s o _ h (record { names = refl; roomy = λ r. r; pure = λ i. tt })
 leaf-named depth true s sign.Skip o h = along true s o _ h (record { names = refl; roomy = λ r. r; pure = λ i. tt })
 leaf-named depth false s sign.Drop o h = along false s o _ h (record { names = refl; roomy = λ r. r; pure = λ i. tt })
@@ -150,25 +150,25 @@ leaf-named depth true s (sign.Name f) o h = pair-named depth true f (step s) (si
 leaf-named depth false s t o h = along false s o _ h tt
 leaf-named depth true s t o h = along true s o _ h tt
 
-closed-by : (inside : Bool) (s : Spot) (depth : ℕ) (p : Term) (t : Spot) (m : Sign) → IsNamed inside s.named p t.named → Named inside s (closed_by depth p t m)
+closed-by : (inside : Bool) (s : Spot) (depth : ℕ) (p : Term) (t : Spot) (m : Sign) → IsNamed inside s.named p t.named → NamedPairs inside s (closed_by depth p t m)
 closed-by inside s depth p t sign.Close h = h
 closed-by inside s depth p t m h = tt
 
-closed-named : (inside : Bool) (s : Spot) (depth : ℕ) (o : Got Term) → Named inside s o → Named inside s (closed depth o)
+closed-named : (inside : Bool) (s : Spot) (depth : ℕ) (o : Got Term) → NamedPairs inside s o → NamedPairs inside s (closed depth o)
 closed-named inside s depth (Read p t) h = closed-by inside s depth p t (signs.sign t.text) h
 closed-named inside s depth (Bad e at) h = tt
 
-starred-by : (inside : Bool) (s : Spot) (p : Term) (t : Spot) (m : Sign) → IsNamed inside s.named p t.named → Named inside s (starred_by inside p t m)
+starred-by : (inside : Bool) (s : Spot) (p : Term) (t : Spot) (m : Sign) → IsNamed inside s.named p t.named → NamedPairs inside s (starred_by inside p t m)
 starred-by false s p t sign.Star h = record { names = h.names; roomy = h.roomy; pure = λ i. absurd (cc) }
 starred-by true s p t sign.Star h = tt
 starred-by false s p t m h = h
 starred-by true s p t m h = h
 
-starred-named : (inside : Bool) (s : Spot) (o : Got Term) → Named inside s o → Named inside s (starred inside o)
+starred-named : (inside : Bool) (s : Spot) (o : Got Term) → NamedPairs inside s o → NamedPairs inside s (starred inside o)
 starred-named inside s (Read p t) h = starred-by inside s p t (signs.sign t.text) h
 starred-named inside s (Bad e at) h = tt
 
-negated-named : (inside : Bool) (s : Spot) (o : Got Term) → Named true (step s) o → Named inside s (gathered negated o)
+negated-named : (inside : Bool) (s : Spot) (o : Got Term) → NamedPairs true (step s) o → NamedPairs inside s (gathered negated o)
 negated-named inside s (Read p t) h = record {
   names = h.names ∙ sym (pure-named p s.named (h.pure refl));
   roomy = h.roomy;
@@ -176,7 +176,7 @@ negated-named inside s (Read p t) h = record {
 }
 negated-named inside s (Bad e at) h = tt
 
-one-named : (inside : Bool) (s : Spot) (o : Got Term) → Named inside s o → AllNamed inside s (gathered (λ p. p ∷ []) o)
+one-named : (inside : Bool) (s : Spot) (o : Got Term) → NamedPairs inside s o → AllNamed inside s (gathered (λ p. p ∷ []) o)
 one-named inside s (Read p t) h = record { names = h.names; roomy = h.roomy; pure = λ i. (h.pure i, tt) }
 one-named inside s (Bad e at) h = tt
 
@@ -189,46 +189,46 @@ more-named inside s p t (Read ps u) h k = record {
 }
 more-named inside s p t (Bad e at) h k = tt
 
-sum-named : (inside : Bool) (s : Spot) (o : Got (List Term)) → AllNamed inside s o → Named inside s (gathered sum_of o)
+sum-named : (inside : Bool) (s : Spot) (o : Got (List Term)) → AllNamed inside s o → NamedPairs inside s (gathered sum_of o)
 sum-named inside s (Read [] t) h = record { names = h.names; roomy = h.roomy; pure = h.pure }
 sum-named inside s (Read (p ∷ []) t) h = record { names = h.names; roomy = h.roomy; pure = λ i. (h.pure i).0 }
 sum-named inside s (Read (p ∷ q ∷ ps) t) h = record { names = h.names; roomy = h.roomy; pure = h.pure }
 sum-named inside s (Bad e at) h = tt
 
-seq-named : (inside : Bool) (s : Spot) (o : Got (List Term)) → AllNamed inside s o → Named inside s (gathered seq_of o)
+seq-named : (inside : Bool) (s : Spot) (o : Got (List Term)) → AllNamed inside s o → NamedPairs inside s (gathered seq_of o)
 seq-named inside s (Read [] t) h = record { names = h.names; roomy = h.roomy; pure = h.pure }
 seq-named inside s (Read (p ∷ []) t) h = record { names = h.names; roomy = h.roomy; pure = λ i. (h.pure i).0 }
 seq-named inside s (Read (p ∷ q ∷ ps) t) h = record { names = h.names; roomy = h.roomy; pure = h.pure }
 seq-named inside s (Bad e at) h = tt
 
 mutual
-  policy-named : (depth : ℕ) (inside : Bool) (s : Spot) (o : Got Term) → IsPolicy depth inside s o → Named inside s o
+  policy-named : (depth : ℕ) (inside : Bool) (s : Spot) (o : Got Term) → IsPolicy depth inside s o → NamedPairs inside s o
   policy-named depth inside s o (sum d i t q h) = sum-named i t q (summands-named d i t q h)
 
   summands-named : (depth : ℕ) (inside : Bool) (s : Spot) (o : Got (List Term)) → AreSummands depth inside s o → AllNamed inside s o
   summands-named depth inside s o (last_summand d i t q h e) = one-named i t q (sequence-named d i t q h)
   summands-named depth inside s o (more_summands d i t p u q h e k) = more-named i t p u q (sequence-named d i t (Read p u) h) (summands-named d i (step u) q k)
 
-  sequence-named : (depth : ℕ) (inside : Bool) (s : Spot) (o : Got Term) → IsSequence depth inside s o → Named inside s o
+  sequence-named : (depth : ℕ) (inside : Bool) (s : Spot) (o : Got Term) → IsSequence depth inside s o → NamedPairs inside s o
   sequence-named depth inside s o (sequence d i t q h) = seq-named i t q (factors-named d i t q h)
 
   factors-named : (depth : ℕ) (inside : Bool) (s : Spot) (o : Got (List Term)) → AreFactors depth inside s o → AllNamed inside s o
   factors-named depth inside s o (last_factor d i t q h e) = one-named i t q (unary-named d i t q h)
   factors-named depth inside s o (more_factors d i t p u q h e k) = more-named i t p u q (unary-named d i t (Read p u) h) (factors-named d i (step u) q k)
 
-  unary-named : (depth : ℕ) (inside : Bool) (s : Spot) (o : Got Term) → IsUnary depth inside s o → Named inside s o
+  unary-named : (depth : ℕ) (inside : Bool) (s : Spot) (o : Got Term) → IsUnary depth inside s o → NamedPairs inside s o
   unary-named depth inside s o (negation d i t q n h) = negated-named i t q (unary-named (d + 1) true (step t) q h)
   unary-named depth inside s o (post d i t q n h) = starred-named i t q (atom-named d i t q h)
 
-  atom-named : (depth : ℕ) (inside : Bool) (s : Spot) (o : Got Term) → IsAtom depth inside s o → Named inside s o
+  atom-named : (depth : ℕ) (inside : Bool) (s : Spot) (o : Got Term) → IsAtom depth inside s o → NamedPairs inside s o
   atom-named depth inside s o (bracket d i t q n h) = closed-named i t (d + 1) q (policy-named (d + 1) i (step t) q h)
   atom-named depth inside s o (leaf d i t q n h) = leaf-named d i t (signs.sign t.text) q h
 
-ended-by : (s : Spot) (p : Term) (t : Spot) (m : Sign) → IsNamed false s.named p t.named → Named false s (ended_by p t m)
+ended-by : (s : Spot) (p : Term) (t : Spot) (m : Sign) → IsNamed false s.named p t.named → NamedPairs false s (ended_by p t m)
 ended-by s p t sign.End h = h
 ended-by s p t m h = tt
 
-ended-named : (s : Spot) (o : Got Term) → Named false s o → Named false s (ended o)
+ended-named : (s : Spot) (o : Got Term) → NamedPairs false s o → NamedPairs false s (ended o)
 ended-named s (Read p t) h = ended-by s p t (signs.sign t.text) h
 ended-named s (Bad e at) h = tt
 
@@ -238,5 +238,5 @@ nothing-roomy = record { pairs = omega arith; protos = omega arith }
 pub text-few : (text : List ℕ) (p : Term) → IsText text p → IsRoomy (term_named p [])
 text-few text p h =
     let whole = policy-named 0 false (first_spot text) h.1.0 h.1.1 in
-    let all : Named false (first_spot text) (Read p h.0) = along false (first_spot text) (Read p h.0) _ h.1.2 (ended-named (first_spot text) h.1.0 whole) in
+    let all : NamedPairs false (first_spot text) (Read p h.0) = along false (first_spot text) (Read p h.0) _ h.1.2 (ended-named (first_spot text) h.1.0 whole) in
     subst IsRoomy all.names (all.roomy nothing-roomy)

@@ -20,16 +20,16 @@ const MOST_PROTOS: usize = 100;
 
 /// Pairs of field and value, each once, in the order in which they were first named.
 #[derive(Drop)]
-pub struct Named {
+pub struct NamedPairs {
     lits: IndexSet<Lit>,
 }
 
-impl Named {
+impl NamedPairs {
     /// None.
-    pub fn new(alloc: Global) -> Named
+    pub fn new(alloc: Global) -> NamedPairs
         ensures { pairs result ≡ [] }
     {
-        Named {
+        NamedPairs {
             lits: IndexSet::new(alloc),
         }
     }

@@ -11,7 +11,7 @@ ghost use Rattle.netkat_parser.specs.declared.sign.Sign.{Sign};
 ghost use Rattle.netkat_parser.specs.Pairs.{pairs};
 
 use crate::chain::Chain;
-use crate::named::Named;
+use crate::named::NamedPairs;
 use crate::sign::Sign;
 use crate::stage::Stage;
 use crate::stray::stray;
@@ -52,7 +52,7 @@ impl From<AllocError> for Halt {
 /// open, whether a `not` is, and the operands inside the innermost bracket.
 #[derive(Drop)]
 pub struct Reading {
-    pub named: Named,
+    pub named: NamedPairs,
     pub stage: Stage,
     pub levels: Vec<Level>,
     pub inside: bool,
@@ -66,7 +66,7 @@ impl Reading {
         ensures named { pairs result.named ≡ [] }
     {
         Reading {
-            named: Named::new(alloc),
+            named: NamedPairs::new(alloc),
             stage: Stage::Operand,
             levels: Vec::new(alloc),
             inside: false,

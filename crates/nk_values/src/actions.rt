@@ -15,7 +15,7 @@ use std::sync::Arc;
 /// several share them.
 #[derive(Debug)]
 pub struct Actions {
-    held: Held,
+    held: ActionStore,
 }
 
 impl Drop for Actions {
@@ -26,7 +26,7 @@ impl Drop for Actions {
 
 // How many actions there are, and where they lie.
 #[derive(Debug, Drop)]
-enum Held {
+enum ActionStore {
     None,
     One(Action),
     Several(Arc<List<Action>>),
@@ -47,7 +47,9 @@ impl Actions {
     pub fn none() -> Actions
         ensures { result ≡ [] }
     {
-        Actions { held: Held::None }
+        Actions {
+            held: ActionStore::None,
+        }
     }
 
     /// One action.
@@ -55,7 +57,7 @@ impl Actions {
         ensures { result ≡ action ∷ [] }
     {
         Actions {
-            held: Held::One(action),
+            held: ActionStore::One(action),
         }
     }
 
@@ -64,9 +66,9 @@ impl Actions {
         ensures { IfOk result (λ a. a ≡ list) }
     {
         let held = match list.as_slice() {
-            [] => Held::None,
-            [action] => Held::One(*action),
-            _ => Held::Several(Arc::new(alloc, list)?),
+            [] => ActionStore::None,
+            [action] => ActionStore::One(*action),
+            _ => ActionStore::Several(Arc::new(alloc, list)?),
         };
         Ok(Actions { held })
     }
@@ -76,9 +78,9 @@ impl Actions {
         ensures { IfOk result (λ a. a ≡ self.now) }
     {
         let held = match &self.held {
-            Held::None => Held::None,
-            Held::One(action) => Held::One(*action),
-            Held::Several(list) => Held::Several(Arc::try_clone(list)?),
+            ActionStore::None => ActionStore::None,
+            ActionStore::One(action) => ActionStore::One(*action),
+            ActionStore::Several(list) => ActionStore::Several(Arc::try_clone(list)?),
         };
         Ok(Actions { held })
     }
@@ -88,9 +90,9 @@ impl Actions {
         ensures { result.now ≡ self.now }
     {
         match &self.held {
-            Held::None => &[],
-            Held::One(action) => slice::from_ref(action),
-            Held::Several(list) => list.as_slice(),
+            ActionStore::None => &[],
+            ActionStore::One(action) => slice::from_ref(action),
+            ActionStore::Several(list) => list.as_slice(),
         }
     }
 

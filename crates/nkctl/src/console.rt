@@ -1,7 +1,7 @@
 //! What is shown on standard error while a run or a drive goes on.
 //!
 //! Layer: the program; private. Called by the root of the crate.
-use controller_program::{Onlooker, Seen};
+use controller_program::{Onlooker, Sighting};
 use report_text::put_phase;
 use std::alloc::{AllocError, Global};
 use std::env::Env;
@@ -41,7 +41,7 @@ impl<R: Eprint> Onlooker for Console<R> {
         self.shows
     }
 
-    fn told(&self, seen: Seen) {
+    fn told(&self, seen: Sighting) {
         // What cannot be shown is left out: the answer does not have it.
         if let Ok(line) = line_of(self.alloc, seen) {
             let _ = eprintln!(self.rt; "{}", line.as_str());
@@ -50,7 +50,7 @@ impl<R: Eprint> Onlooker for Console<R> {
 }
 
 // The phase and the number of events, as `flip 2 1, 340 events`.
-fn line_of(alloc: Global, seen: Seen) -> Result<String, AllocError> {
+fn line_of(alloc: Global, seen: Sighting) -> Result<String, AllocError> {
     let mut line = String::new(alloc);
     // What is seen has no stamps, so a policy that is swept is not named.
     put_phase(&mut line, &[], seen.phase)?;

@@ -1,7 +1,7 @@
 //! Calls of the program over sources, sinks and links in memory.
 //!
 //! Layer: tests; private. Called by many modules.
-use crate::holding::Holding;
+use crate::holding::HoldGate;
 use controller_program::{Status, nkctl, nkctl_plain};
 use outside_io::{MemorySink, MemorySource};
 use outside_net::{MemoryNet, MemoryReporter, RefusingSpawner, ThreadSpawner, Trouble};
@@ -22,7 +22,7 @@ pub struct Outcome {
 /// How many bytes a read or a write moves at most, and what is to fail. Reads, writes, pairs of ends and starts of
 /// threads go by their numbers from 1, so that 0 is none. Messages on links go by what becomes of them.
 #[derive(Drop)]
-pub struct Failing {
+pub struct Failures {
     pub piece: usize,
     pub reads: Vec<u64>,
     pub writes: Vec<u64>,
@@ -31,10 +31,10 @@ pub struct Failing {
     pub links: Vec<Trouble>,
 }
 
-impl Failing {
+impl Failures {
     /// Nothing is to fail.
-    pub fn nothing(alloc: Global) -> Failing {
-        Failing {
+    pub fn nothing(alloc: Global) -> Failures {
+        Failures {
             piece: usize::MAX,
             reads: Vec::new(alloc),
             writes: Vec::new(alloc),
@@ -78,17 +78,17 @@ pub fn call<R: Wait + Clock + Threads + Copy + Clone + Drop + Send + Sync + 'sta
     alloc: Global,
     words: &[String],
     document: &str,
-    failing: Failing,
-    gate: Arc<Holding<R>>,
+    failures: Failures,
+    gate: Arc<HoldGate<R>>,
 ) -> Result<Outcome, AllocError> {
-    let Failing {
+    let Failures {
         piece,
         reads,
         writes,
         pairs,
         threads,
         links,
-    } = failing;
+    } = failures;
     let mut source = source_of(alloc, document, piece, reads)?;
     let mut sink = MemorySink::new(alloc, piece, writes);
     let mut host = Host {
@@ -114,11 +114,11 @@ pub fn run<R: Wait + Clock + Threads + Copy + Clone + Drop + Send + Sync + 'stat
     rt: R,
     alloc: Global,
     document: &str,
-    failing: Failing,
+    failures: Failures,
 ) -> Result<Outcome, AllocError> {
     let words = words(alloc, "run")?;
-    let gate = Arc::new(alloc, Holding::new(rt, None))?;
-    call(rt, alloc, &words, document, failing, gate)
+    let gate = Arc::new(alloc, HoldGate::new(rt, None))?;
+    call(rt, alloc, &words, document, failures, gate)
 }
 
 /// A call of a command without threads.
@@ -126,16 +126,16 @@ pub fn call_plain(
     alloc: Global,
     words: &[String],
     document: &str,
-    failing: Failing,
+    failures: Failures,
 ) -> Result<Outcome, AllocError> {
-    let Failing {
+    let Failures {
         piece,
         reads,
         writes,
         pairs: _pairs,
         threads: _threads,
         links: _links,
-    } = failing;
+    } = failures;
     let mut source = source_of(alloc, document, piece, reads)?;
     let mut sink = MemorySink::new(alloc, piece, writes);
     let status = nkctl_plain(alloc, words, &mut source, &mut sink);
@@ -145,5 +145,5 @@ pub fn call_plain(
 /// A call of a command without threads, in which nothing fails.
 pub fn plain(alloc: Global, command: &str, document: &str) -> Result<Outcome, AllocError> {
     let words = words(alloc, command)?;
-    call_plain(alloc, &words, document, Failing::nothing(alloc))
+    call_plain(alloc, &words, document, Failures::nothing(alloc))
 }

@@ -1,9 +1,9 @@
 //! One case: the words, the document, and what is to fail.
 //!
 //! Layer: tests; private. Called by the root of the crate.
-use crate::calls::{Failing, Outcome, call, call_plain};
+use crate::calls::{Failures, Outcome, call, call_plain};
 use crate::expanding::push_expanded;
-use crate::holding::Holding;
+use crate::holding::HoldGate;
 use crate::shown::{shown, shown_run};
 use crate::trouble::trouble_of;
 use std::alloc::{AllocError, Global};
@@ -17,7 +17,7 @@ pub struct Case {
     head: String,
     words: Vec<String>,
     has_threads: bool,
-    failing: Failing,
+    failures: Failures,
     document: String,
 }
 
@@ -28,7 +28,7 @@ impl Case {
             head: head.to_string(alloc)?,
             words: Vec::new(alloc),
             has_threads: true,
-            failing: Failing::nothing(alloc),
+            failures: Failures::nothing(alloc),
             document: String::new(alloc),
         };
         case.take_head(alloc, head)?;
@@ -50,19 +50,19 @@ impl Case {
     // Takes what is to fail.
     fn take_part(&mut self, alloc: Global, part: &str) -> Result<(), AllocError> {
         if let Some(most) = part.strip_prefix("pieces of ") {
-            self.failing.piece = most.parse::<usize>().unwrap_or(1);
+            self.failures.piece = most.parse::<usize>().unwrap_or(1);
         } else if let Some(number) = call_of(part, "read ") {
-            self.failing.reads.push(number)?;
+            self.failures.reads.push(number)?;
         } else if let Some(number) = call_of(part, "write ") {
-            self.failing.writes.push(number)?;
+            self.failures.writes.push(number)?;
         } else if let Some(number) = call_of(part, "pair ") {
-            self.failing.pairs.push(number)?;
+            self.failures.pairs.push(number)?;
         } else if let Some(number) = call_of(part, "thread ") {
-            self.failing.threads.push(number)?;
+            self.failures.threads.push(number)?;
         } else if part == "no threads" {
             self.has_threads = false;
         } else if let Some(trouble) = trouble_of(alloc, part)? {
-            self.failing.links.push(trouble)?;
+            self.failures.links.push(trouble)?;
         }
         Ok(())
     }
@@ -96,15 +96,15 @@ impl Case {
             head: _head,
             words,
             has_threads: _has_threads,
-            failing,
+            failures,
             document,
         } = self;
         if runs {
-            let gate = Arc::new(alloc, Holding::new(rt, None))?;
-            let outcome = call(rt, alloc, &words, &document, failing, gate)?;
+            let gate = Arc::new(alloc, HoldGate::new(rt, None))?;
+            let outcome = call(rt, alloc, &words, &document, failures, gate)?;
             return shown_run(alloc, &outcome);
         }
-        let outcome = call_plain(alloc, &words, &document, failing)?;
+        let outcome = call_plain(alloc, &words, &document, failures)?;
         shown(alloc, &outcome)
     }
 }

@@ -24,7 +24,7 @@ pub struct Hold {
 
 // What has passed.
 #[derive(Clone, Copy, Drop)]
-struct Seen {
+struct Passage {
     own: u32,
     other: u32,
     held: bool,
@@ -33,19 +33,19 @@ struct Seen {
 
 /// Holds a worker for at most 10,000,000 turns, or nobody.
 #[derive(Drop)]
-pub struct Holding<R> {
+pub struct HoldGate<R> {
     rt: R,
     hold: Option<Hold>,
-    seen: Mutex<Seen>,
+    seen: Mutex<Passage>,
 }
 
-impl<R: Wait> Holding<R> {
+impl<R: Wait> HoldGate<R> {
     /// Nobody was held.
-    pub fn new(rt: R, hold: Option<Hold>) -> Holding<R> {
-        Holding {
+    pub fn new(rt: R, hold: Option<Hold>) -> HoldGate<R> {
+        HoldGate {
             rt,
             hold,
-            seen: Mutex::new(Seen {
+            seen: Mutex::new(Passage {
                 own: 0,
                 other: 0,
                 held: false,
@@ -84,9 +84,9 @@ impl<R: Wait> Holding<R> {
     }
 }
 
-impl<R: Wait + Drop> Onlooker for Holding<R> {}
+impl<R: Wait + Drop> Onlooker for HoldGate<R> {}
 
-impl<R: Wait + Drop> Gate for Holding<R> {
+impl<R: Wait + Drop> Gate for HoldGate<R> {
     fn pass(&self, worker: usize, moment: Moment) {
         let Some(hold) = self.hold else {
             return;

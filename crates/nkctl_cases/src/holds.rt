@@ -2,8 +2,8 @@
 //! Workers 1 and 2 are the sessions, 3 and 4 the switches, 5 brings the first packet in.
 //!
 //! Layer: tests; private. Called by the root of the crate.
-use crate::calls::{Failing, call, words};
-use crate::holding::{Hold, Holding, Times};
+use crate::calls::{Failures, call, words};
+use crate::holding::{Hold, HoldGate, Times};
 use crate::links::LINE;
 use crate::report::{count_of, line_of};
 use controller_program::Status;
@@ -64,9 +64,9 @@ fn passes<R: Wait + Clock + Threads + Copy + Clone + Drop + Send + Sync + 'stati
     hold: Hold,
 ) -> Result<bool, AllocError> {
     let words = words(alloc, "run")?;
-    let gate = Arc::new(alloc, Holding::new(rt, Some(hold)))?;
+    let gate = Arc::new(alloc, HoldGate::new(rt, Some(hold)))?;
     let again = Arc::try_clone(&gate)?;
-    let outcome = call(rt, alloc, &words, LINE, Failing::nothing(alloc), gate)?;
+    let outcome = call(rt, alloc, &words, LINE, Failures::nothing(alloc), gate)?;
     let text = outcome.text.as_str();
     let done = outcome.status == Status::Done && line_of(text, "phase ") == "phase idle 3";
     Ok(done && count_of(text, "arrival ") == 10 && again.was_in_time())

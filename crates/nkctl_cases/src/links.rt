@@ -1,7 +1,7 @@
 //! Runs of one document in which calls of the outside fail.
 //!
 //! Layer: tests; private. Called by `holds` and `returns`.
-use crate::calls::{Failing, Outcome, run};
+use crate::calls::{Failures, Outcome, run};
 use crate::meaning::{Wiring, meanings};
 use crate::report::{have_one_policy, line_of, tells_of_loss};
 use controller_program::Status;
@@ -48,9 +48,9 @@ pub fn links<R: Wait + Clock + Threads + AllocGlobal + Copy + Clone + Drop + Sen
     let alloc = rt.alloc();
     let mut done = 0u32;
     for call in 1..MOST_CALLS {
-        let mut failing = Failing::nothing(alloc);
-        failing.links.push(Trouble::Call(call))?;
-        let outcome = run(rt, alloc, LINE, failing)?;
+        let mut failures = Failures::nothing(alloc);
+        failures.links.push(Trouble::Call(call))?;
+        let outcome = run(rt, alloc, LINE, failures)?;
         if !has_ended(&outcome) || !line_has_one_policy(alloc, &outcome.text)? {
             return Ok(Some(call as usize));
         }

@@ -1,7 +1,7 @@
 //! Commands without threads whose reads or writes fail, and an update that is cut off.
 //!
 //! Layer: tests; private. Called by the root of the crate.
-use crate::calls::{Failing, Outcome, call_plain, plain, words};
+use crate::calls::{Failures, Outcome, call_plain, plain, words};
 use crate::meaning::{Wiring, meanings};
 use crate::report::{have_one_policy, line_of, tells_of_loss};
 use controller_program::Status;
@@ -30,12 +30,12 @@ const PIECE: usize = 16;
 
 // A trace of the packet in pieces. A read and a write fail by their numbers, from 1, or none does at 0.
 fn trace(alloc: Global, read: u64, write: u64) -> Result<Outcome, AllocError> {
-    let mut failing = Failing::nothing(alloc);
-    failing.piece = PIECE;
-    failing.reads.push(read)?;
-    failing.writes.push(write)?;
+    let mut failures = Failures::nothing(alloc);
+    failures.piece = PIECE;
+    failures.reads.push(read)?;
+    failures.writes.push(write)?;
     let words = words(alloc, "trace")?;
-    call_plain(alloc, &words, PAIR, failing)
+    call_plain(alloc, &words, PAIR, failures)
 }
 
 /// Each read of a document fails, one a call, until none is left that could.

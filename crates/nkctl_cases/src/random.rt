@@ -1,7 +1,7 @@
 //! Runs over links that fail at random.
 //!
 //! Layer: tests; private. Called by the root of the crate.
-use crate::calls::{Failing, plain, run};
+use crate::calls::{Failures, plain, run};
 use crate::returns::{document, is_done};
 use outside_net::Trouble;
 use std::alloc::{AllocError, Global};
@@ -30,16 +30,16 @@ impl Runs {
     }
 
     // What fails in the next one.
-    fn failing(&mut self, alloc: Global) -> Result<Failing, AllocError> {
-        let mut failing = Failing::nothing(alloc);
+    fn failures(&mut self, alloc: Global) -> Result<Failures, AllocError> {
+        let mut failures = Failures::nothing(alloc);
         for _ in 0..self.case % 7 {
             self.number = next_number(self.number);
-            failing
+            failures
                 .links
                 .push(Trouble::Call(1 + (self.number >> 33) % 260))?;
         }
         self.case = self.case.wrapping_add(1);
-        Ok(failing)
+        Ok(failures)
     }
 }
 
@@ -52,7 +52,7 @@ pub fn random<
     let document = document(alloc, 1_000)?;
     let mut runs = Runs::new();
     for case in 0..count {
-        let outcome = run(rt, alloc, &document, runs.failing(alloc)?)?;
+        let outcome = run(rt, alloc, &document, runs.failures(alloc)?)?;
         if !is_done(alloc, &outcome)? || !replays(alloc, &document, &outcome.text)? {
             return Ok(Some(case));
         }
@@ -69,7 +69,7 @@ pub fn reports<
     let mut text = document.to_string(alloc)?;
     let mut runs = Runs::new();
     for _ in 0..count {
-        let outcome = run(rt, alloc, &document, runs.failing(alloc)?)?;
+        let outcome = run(rt, alloc, &document, runs.failures(alloc)?)?;
         text.push_str("run\n")?;
         text.push_str(&outcome.text)?;
     }

@@ -7,7 +7,7 @@ use std::alloc::{AllocError, Global};
 // What a report tells of a packet that came in: the policies of which one handles it, its finished histories, and
 // whether a copy is on its way.
 #[derive(Drop)]
-struct Told<'a> {
+struct ArrivalReport<'a> {
     first: usize,
     second: usize,
     done: Vec<&'a str>,
@@ -15,12 +15,12 @@ struct Told<'a> {
 }
 
 // The packets of a report, in order.
-fn arrivals<'a>(alloc: Global, report: &'a str) -> Result<Vec<Told<'a>>, AllocError> {
-    let mut all: Vec<Told<'a>> = Vec::new(alloc);
+fn arrivals<'a>(alloc: Global, report: &'a str) -> Result<Vec<ArrivalReport<'a>>, AllocError> {
+    let mut all: Vec<ArrivalReport<'a>> = Vec::new(alloc);
     for line in report.lines() {
         if line.starts_with("arrival ") {
             let (first, second) = entry(line);
-            all.push(Told {
+            all.push(ArrivalReport {
                 first,
                 second,
                 done: Vec::new(alloc),
@@ -49,7 +49,7 @@ fn number(word: &str) -> usize {
     word.parse::<usize>().unwrap_or(0)
 }
 
-impl Told<'_> {
+impl ArrivalReport<'_> {
     // Whether it is on its way, or has the histories of one policy of its entry; they are listed by policies, from 0.
     fn is_of_one(&self, by_policy: &[Vec<Text>]) -> bool {
         self.open || self.is_of(by_policy, self.first) || self.is_of(by_policy, self.second)

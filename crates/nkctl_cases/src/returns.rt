@@ -1,7 +1,7 @@
 //! Runs in which lost switches return.
 //!
 //! Layer: tests; private. Called by `random`.
-use crate::calls::{Failing, Outcome, run};
+use crate::calls::{Failures, Outcome, run};
 use crate::links::line_has_one_policy;
 use crate::report::{count_of, line_of};
 use controller_program::Status;
@@ -41,9 +41,9 @@ pub fn returns<
     let document = document(alloc, 1_000)?;
     let mut whole = 0u32;
     for call in 1..2_000 {
-        let mut failing = Failing::nothing(alloc);
-        failing.links.push(Trouble::Call(call))?;
-        let outcome = run(rt, alloc, &document, failing)?;
+        let mut failures = Failures::nothing(alloc);
+        failures.links.push(Trouble::Call(call))?;
+        let outcome = run(rt, alloc, &document, failures)?;
         if !is_done(alloc, &outcome)? {
             return Ok(Some(call as usize));
         }

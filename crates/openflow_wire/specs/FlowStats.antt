@@ -39,7 +39,7 @@ pub record IsCounted (bytes : List ℕ) (e : FlowStats) : Type 0 where
   pub packets_is : number_at 8 72 bytes ≡ e.packets
   pub bytes_is : number_at 8 80 bytes ≡ e.bytes
 
--- the bytes begin with this entry; its pads are free
+-- the bytes begin with this entry; its pads are ignored
 pub record IsEntry (bytes : List ℕ) (e : FlowStats) : Type 0 where
   pub size : number_at 2 0 bytes ≡ entry_len e
   pub within : entry_len e ≤ length bytes

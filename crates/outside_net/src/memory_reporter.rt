@@ -3,7 +3,7 @@
 //! Layer: runs; public. Called by link_cases and nkctl_cases.
 ghost use Rattle.outside_net.specs.Causes.{ReportCause};
 
-use crate::reporter::{Receipt, ReportFailed, Reporter};
+use crate::reporter::{Receipt, ReportFailure, Reporter};
 
 /// A report in memory.
 #[derive(Drop)]
@@ -43,13 +43,13 @@ impl MemoryReporter {
     }
 
     // One call more, which may be one that fails.
-    fn call(&mut self) -> Result<(), ReportFailed>
+    fn call(&mut self) -> Result<(), ReportFailure>
         ensures { ReportCause self.old.faults self.new.faults result }
     {
         self.calls = self.calls.saturating_add(1);
         if self.failing.contains(&self.calls) {
             self.faults = self.faults.saturating_add(1);
-            return Err(ReportFailed);
+            return Err(ReportFailure);
         }
         Ok(())
     }
@@ -60,11 +60,11 @@ impl Reporter for MemoryReporter {
 
     ghost faults = { λ r. r.faults };
 
-    fn listen(&mut self, _port: u16) -> Result<(), ReportFailed> {
+    fn listen(&mut self, _port: u16) -> Result<(), ReportFailure> {
         self.call()
     }
 
-    fn wait(&mut self, stamp: u16) -> Result<Option<MemoryReceipt>, ReportFailed> {
+    fn wait(&mut self, stamp: u16) -> Result<Option<MemoryReceipt>, ReportFailure> {
         self.call()?;
         if self.asked < self.early {
             self.asked += 1;

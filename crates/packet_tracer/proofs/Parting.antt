@@ -2,7 +2,7 @@
 use Rattle.std.proofs.Common.{◌≡◌, ◌≢◌, ℕ, suc, inl, inr, List, [], ◌∷◌, length, sym, ◌∙◌, ap, subst, Option, Some, None, arith}
 use Rattle.nk_values.specs.declared.packet.Packet.{Packet}
 use Rattle.nk_values.specs.declared.row.Row.{Row}
-use Rattle.nk_values.specs.declared.sent.Sent.{Sent}
+use Rattle.nk_values.specs.declared.sent.SentPacket.{SentPacket}
 use Rattle.nk_values.specs.Acts.{acted}
 use Rattle.nk_values.specs.Members.{IsIn, Pairs}
 use Rattle.nk_values.specs.Trails.{Trail, packets, IsPast, HaveParted}
@@ -10,7 +10,7 @@ use Rattle.nk_values.proofs.MemberLaws.{from-flat_map}
 use Rattle.nk_values.proofs.PairLaws.{pairs-weaker, pairs-flat_map, pairs-one}
 use Rattle.nk_values.proofs.PastLaws.{first-same, past-more, past-same, past-length}
 use Rattle.nk_syntax.specs.Terms.{Term}
-use Rattle.history_meaning.specs.Network.{Place}
+use Rattle.history_meaning.specs.Network.{Location}
 use Rattle.history_meaning.proofs.Runs.{from-filter}
 use Rattle.topology_model.specs.Layouts.{Layout, far_end, is_edge, wiring}
 use Rattle.topology_model.proofs.Ranges.{edges_apart}
@@ -20,11 +20,11 @@ use Rattle.packet_tracer.specs.Hops.{ended, carried, arriving, next_flight, ends
 use Rattle.packet_tracer.specs.Laws.{ComesApart, HopsPart}
 
 -- what is sent, as packets of a switch
-abbrev Differ : ℕ → Sent → Sent → Type 0
+abbrev Differ : ℕ → SentPacket → SentPacket → Type 0
 Differ sw x y = sent_packet sw x ≢ sent_packet sw y
 
 -- a packet is sent with one tag
-same-sent : (t : Layout) (p : Term) (stamp : ℕ) (rows : List Row) (tag : Option ℕ) (pk : Packet) (n : AnswersPolicy (wiring t) p stamp rows tag pk) (x y : Sent) →
+same-sent : (t : Layout) (p : Term) (stamp : ℕ) (rows : List Row) (tag : Option ℕ) (pk : Packet) (n : AnswersPolicy (wiring t) p stamp rows tag pk) (x y : SentPacket) →
     IsIn (acted n.row.actions (incoming pk tag)) x → IsIn (acted n.row.actions (incoming pk tag)) y → sent_packet pk.sw x ≡ sent_packet pk.sw y → x ≡ y
 same-sent t p stamp rows tag pk n x y k l e =
     let port : x.port ≡ y.port = ap (λ (q : Packet). q.pt) e in
@@ -33,10 +33,10 @@ same-sent t p stamp rows tag pk n x y k l e =
     let same : x.tag ≡ y.tag = elim (n.tags x k) [
       | inl a ↦ elim (n.tags y l) [
         | inl b ↦ a.1 ∙ sym b.1
-        | inr b ↦ absurd (edges_apart t (standing (sent_packet pk.sw y)) b.0 (subst (λ (z : Place). IsIn (wiring t).edges z) here a.0) b.1)
+        | inr b ↦ absurd (edges_apart t (standing (sent_packet pk.sw y)) b.0 (subst (λ (z : Location). IsIn (wiring t).edges z) here a.0) b.1)
       ]
       | inr a ↦ elim (n.tags y l) [
-        | inl b ↦ absurd (edges_apart t (standing (sent_packet pk.sw x)) a.0 (subst (λ (z : Place). IsIn (wiring t).edges z) (sym here) b.0) a.1)
+        | inl b ↦ absurd (edges_apart t (standing (sent_packet pk.sw x)) a.0 (subst (λ (z : Location). IsIn (wiring t).edges z) (sym here) b.0) a.1)
         | inr b ↦ a.2 ∙ sym b.2
       ]
     ] in
@@ -47,35 +47,35 @@ sent-differ t p stamp rows tag pk n =
     pairs-weaker (λ x y. x ≢ y) (Differ pk.sw) (acted n.row.actions (incoming pk tag)) (λ x y k l d e. d (same-sent t p stamp rows tag pk n x y k l e)) n.once
 
 -- what a sent packet finishes, and what it sends on
-end-is : (t : Layout) (f : Flight) (x : Sent) (e : Trail) → IsIn (ends_of t f x) e → ended f.history (sent_packet f.history.newest.sw x) ≡ e
+end-is : (t : Layout) (f : Flight) (x : SentPacket) (e : Trail) → IsIn (ends_of t f x) e → ended f.history (sent_packet f.history.newest.sw x) ≡ e
 end-is t f x e m =
     let q = sent_packet f.history.newest.sw x in
     (from-filter (is_edge t (standing q)) (ended f.history q) e m).1
 
-next-is : (t : Layout) (f : Flight) (x : Sent) (g : Flight) → IsIn (flights_of t f x) g → (b : Place) × (g.history ≡ carried f.history (sent_packet f.history.newest.sw x) b)
+next-is : (t : Layout) (f : Flight) (x : SentPacket) (g : Flight) → IsIn (flights_of t f x) g → (b : Location) × (g.history ≡ carried f.history (sent_packet f.history.newest.sw x) b)
 next-is t f x g m = split (far_end t.links (standing (sent_packet f.history.newest.sw x))) m
   where
-    split : (o : Option Place) → IsIn (next_flight f (sent_packet f.history.newest.sw x) x.tag o) g → (b : Place) × (g.history ≡ carried f.history (sent_packet f.history.newest.sw x) b)
+    split : (o : Option Location) → IsIn (next_flight f (sent_packet f.history.newest.sw x) x.tag o) g → (b : Location) × (g.history ≡ carried f.history (sent_packet f.history.newest.sw x) b)
     split None k = absurd k
     split (Some b) (inl e) = (b, ap (λ (c : Flight). c.history) (sym e))
     split (Some b) (inr k) = absurd k
 
 -- one sent packet makes one copy at most
-one-flight : (t : Layout) (f : Flight) (x : Sent) (R : Flight → Flight → Type 0) → Pairs R (flights_of t f x)
+one-flight : (t : Layout) (f : Flight) (x : SentPacket) (R : Flight → Flight → Type 0) → Pairs R (flights_of t f x)
 one-flight t f x R = split (far_end t.links (standing (sent_packet f.history.newest.sw x)))
   where
-    split : (o : Option Place) → Pairs R (next_flight f (sent_packet f.history.newest.sw x) x.tag o)
+    split : (o : Option Location) → Pairs R (next_flight f (sent_packet f.history.newest.sw x) x.tag o)
     split None = tt
     split (Some b) = ((λ y m. absurd m), tt)
 
 -- copies of different packets have parted
-carried-apart : (h : Trail) (q r : Packet) (a b : Place) (g k : Trail) → q ≢ r → g ≡ carried h q a → k ≡ carried h r b → ¬ IsPast g k
+carried-apart : (h : Trail) (q r : Packet) (a b : Location) (g k : Trail) → q ≢ r → g ≡ carried h q a → k ≡ carried h r b → ¬ IsPast g k
 carried-apart h q r a b g k n d e p =
     let same : length g.older ≡ length k.older = ap (λ (x : Trail). length x.older) d ∙ sym (ap (λ (x : Trail). length x.older) e) in
     let z : g ≡ k = past-same g k p same in
     n (first-same q r (packets h) (packets h) (ap (λ (x : Trail). x.older) (sym d ∙ z ∙ e)))
 
-pub parts : (t : Layout) (f : Flight) (sent : List Sent) → Pairs (Differ f.history.newest.sw) sent → ComesApart t f sent
+pub parts : (t : Layout) (f : Flight) (sent : List SentPacket) → Pairs (Differ f.history.newest.sw) sent → ComesApart t f sent
 parts t f sent differ = let sw = f.history.newest.sw in record {
   finished = pairs-flat_map (ends_of t f) (Differ sw) (λ e k. e ≢ k) sent differ
       (λ x m. pairs-one (λ e k. e ≢ k) (is_edge t (standing (sent_packet sw x))) (ended f.history (sent_packet sw x)))

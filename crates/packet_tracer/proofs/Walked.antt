@@ -3,7 +3,7 @@ use Rattle.std.proofs.Common.{◌≡◌, ◌≢◌, ℕ, zero, suc, inl, inr, Li
 use Rattle.std.specs.List.{flat_map}
 use Rattle.nk_values.specs.declared.packet.Packet.{Packet}
 use Rattle.nk_values.specs.declared.rows.Rows.{Rows}
-use Rattle.nk_values.specs.declared.sent.Sent.{Sent}
+use Rattle.nk_values.specs.declared.sent.SentPacket.{SentPacket}
 use Rattle.nk_values.specs.Members.{IsIn, EachOnce, Pairs}
 use Rattle.nk_values.specs.Packets.{IsWellShaped}
 use Rattle.nk_values.specs.Trails.{Trail, one_packet, IsPast, HaveParted}
@@ -28,7 +28,7 @@ module _ (rows : Rows) (p : Term) (t : Layout) (sound : IsSound t) (mean : RowsM
   placed-parts : (f : Flight) → IsPlaced t rows.stamp f → ComesApart t f (sent_on rows.ports f)
   placed-parts f placed =
       let n = answered rows p t f mean placed in
-      subst (λ (xs : List Sent). ComesApart t f xs) (sym (sent-is rows p t sound mean f n)) (hops-part t p rows.stamp (rows_at rows.ports (standing f.history.newest)) f n)
+      subst (λ (xs : List SentPacket). ComesApart t f xs) (sym (sent-is rows p t sound mean f n)) (hops-part t p rows.stamp (rows_at rows.ports (standing f.history.newest)) f n)
 
   -- the copies after k hops have parted, and from what was finished too
   record Parted (f : Flight) (k : ℕ) : Type 0 where

@@ -5,7 +5,7 @@ use Rattle.nk_values.specs.Members.{IsIn}
 use Rattle.nk_values.specs.Packets.{IsWellShaped}
 use Rattle.nk_values.specs.Trails.{Trail, one_packet, packets}
 use Rattle.nk_syntax.specs.Terms.{Term}
-use Rattle.history_meaning.specs.Network.{Place}
+use Rattle.history_meaning.specs.Network.{Location}
 use Rattle.history_meaning.specs.Plain.{IsPlain}
 use Rattle.topology_model.specs.Layouts.{Layout, wiring}
 use Rattle.topology_model.specs.Wired.{IsSound}
@@ -28,7 +28,7 @@ ways pk h s = record { begins = s.begins; ranged = λ q m. (s.shaped q m).in_ran
 ended-shaped : (pk : Packet) (h : Trail) (q : Packet) → IsWellShaped q → Shaped pk h → Shaped pk (ended h q)
 ended-shaped pk h q k s = record { begins = s.begins; shaped = λ x m. elim m [ inl e ↦ subst (λ (z : Packet). IsWellShaped z) e k | inr n ↦ s.shaped x n ] }
 
-carried-shaped : (pk : Packet) (h : Trail) (q : Packet) (b : Place) → IsWellShaped q → IsWellShaped (moved q b) → Shaped pk h → Shaped pk (carried h q b)
+carried-shaped : (pk : Packet) (h : Trail) (q : Packet) (b : Location) → IsWellShaped q → IsWellShaped (moved q b) → Shaped pk h → Shaped pk (carried h q b)
 carried-shaped pk h q b k l s = record {
   begins = s.begins;
   shaped = λ x m. elim m [ inl e ↦ subst (λ (z : Packet). IsWellShaped z) e l | inr n ↦ elim n [ inl e ↦ subst (λ (z : Packet). IsWellShaped z) e k | inr o ↦ s.shaped x o ] ];

@@ -11,7 +11,7 @@ mod ordered;
 mod sending;
 mod walking;
 
-pub use flight::{Flight, Hopped, Walk};
+pub use flight::{Flight, HopResult, Walk};
 pub use hopping::hop;
 pub use laws::{hops_keep_futures, hops_part, walks_are_ways};
 pub use ordered::OrderedRows;

@@ -8,7 +8,7 @@ ghost use Rattle.packet_tracer.specs.Orders.{IsStart};
 ghost use Rattle.packet_tracer.specs.Advances.{sent_by};
 
 use flow_index::{act, hits};
-use nk_values::{Header, Pattern, Row, Sent, Tag};
+use nk_values::{Header, Pattern, Row, SentPacket, Tag};
 use std::alloc::{AllocError, Global};
 
 // What a row sends of a packet that came in by a port, if there is one.
@@ -18,7 +18,7 @@ pub(crate) fn sent_by(
     port: u16,
     header: &Header,
     tag: Tag,
-) -> Result<Vec<Sent>, AllocError>
+) -> Result<Vec<SentPacket>, AllocError>
     ensures { IfOk result (λ v. v.items ≡ sent_by (option_map (λ r. r.now) row.entry)
         (record { port = port; header = header.now; tag = tag })) }
 {

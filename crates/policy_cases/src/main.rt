@@ -1,6 +1,6 @@
 //! Reads cases of policies from standard input, one a line, and prints what is told of each.
 //!
-//! A line that begins with `===` begins a part: policies that are read, paths of diagrams, or diagrams of policies.
+//! A line that begins with `===` begins a section: policies that are read, paths of diagrams, or diagrams of policies.
 //! Each part's file says what its lines are. A line that begins with `==` is a heading.
 //!
 //! Layer: tests; nothing calls it.
@@ -16,21 +16,21 @@ use crate::diagrams::Diagrams;
 use std::alloc::{AllocError, Global};
 use std::io;
 
-// What the lines of a part are.
+// What the lines of a section are.
 #[derive(Clone, Copy)]
-enum Part {
+enum Section {
     Policies,
     Paths,
     Diagrams,
 }
 
-impl Part {
-    // The part that a heading begins.
-    fn named(heading: &str) -> Part {
+impl Section {
+    // The section that a heading begins.
+    fn named(heading: &str) -> Section {
         match heading {
-            "=== Paths of diagrams" => Part::Paths,
-            "=== Diagrams of policies" => Part::Diagrams,
-            _ => Part::Policies,
+            "=== Paths of diagrams" => Section::Paths,
+            "=== Diagrams of policies" => Section::Diagrams,
+            _ => Section::Policies,
         }
     }
 }
@@ -39,16 +39,16 @@ fn main(rt: HostRuntime) -> io::Result<()> {
     let alloc = rt.alloc();
     let text = io::read_to_string(alloc, rt.stdin())?;
     let mut diagrams = Diagrams::new(alloc);
-    let mut part = Part::Policies;
+    let mut section = Section::Policies;
     for line in text.lines() {
         if line.starts_with("===") {
-            part = Part::named(line);
+            section = Section::named(line);
             println!(rt; "{line}")?;
         } else if line.starts_with("==") {
             diagrams.begin();
             println!(rt; "{line}")?;
         } else {
-            println!(rt; "{}", answer(alloc, &mut diagrams, part, line)?)?;
+            println!(rt; "{}", answer(alloc, &mut diagrams, section, line)?)?;
         }
     }
     Ok(())
@@ -58,12 +58,12 @@ fn main(rt: HostRuntime) -> io::Result<()> {
 fn answer(
     alloc: Global,
     diagrams: &mut Diagrams,
-    part: Part,
+    section: Section,
     line: &str,
 ) -> Result<String, AllocError> {
-    match part {
-        Part::Policies => reading::answer(alloc, line),
-        Part::Paths => String::from_str(alloc, paths::answer(alloc, line)?),
-        Part::Diagrams => diagrams.answer(alloc, line),
+    match section {
+        Section::Policies => reading::answer(alloc, line),
+        Section::Paths => String::from_str(alloc, paths::answer(alloc, line)?),
+        Section::Diagrams => diagrams.answer(alloc, line),
     }
 }

@@ -1,7 +1,7 @@
 //! Answers of diagrams, and faults, as they are printed.
 //!
 //! Layer: tests; private. Called by `diagrams`.
-use fdd_compile::{CompileError, CompileFault, Compiled, Compiler, names_few};
+use fdd_compile::{CompileError, CompileFault, CompiledPolicy, Compiler, names_few};
 use fdd_nodes::Node;
 use netkat_parser::{ParseError, parse_policy};
 use nk_syntax::Pol;
@@ -50,7 +50,7 @@ fn compiled(
 // How many tests the diagram has, and what it makes of the packets.
 fn told(
     alloc: Global,
-    done: &Compiled,
+    done: &CompiledPolicy,
     asked: &[Packet],
     tests: Tests,
 ) -> Result<String, AllocError> {

@@ -15,7 +15,7 @@ use Rattle.fdd_nodes.specs.Trees.{Tree}
 use Rattle.fdd_nodes.proofs.NameLaws.{count_within}
 use Rattle.fdd_star.specs.Named.{Gains}
 use Rattle.fdd_differ.specs.Unnamed.{AreFewNames}
-use Rattle.fdd_apart.specs.declared.finding.Apart.{Apart}
+use Rattle.fdd_apart.specs.declared.finding.Difference.{Difference}
 use Rattle.fdd_apart.specs.declared.finding.Side.{Side}
 use Rattle.fdd_apart.specs.declared.finding.Side.TheVariants.{First, Second}
 use Rattle.fdd_apart.specs.Aparts.{AreAlikeShaped, AreNamesOf, IsApart}
@@ -67,20 +67,20 @@ alone-by : (s : Side) (p q : Term) (a b : Tree) (pk x : Packet) → DiagramOf p 
 alone-by First p q a b pk x d e shaped (i, n) = record { given = d.made pk x i; missing = λ r. n (e.all pk x shaped.in_range r) }
 alone-by Second p q a b pk x d e shaped (i, n) = record { given = e.made pk x i; missing = λ r. n (d.all pk x shaped.in_range r) }
 
-apart-by : (p q : Term) (a b : Tree) (x : Apart) → DiagramOf p a → DiagramOf q b → IsApart a b x → AreApartBy p q x
+apart-by : (p q : Term) (a b : Tree) (x : Difference) → DiagramOf p a → DiagramOf q b → IsApart a b x → AreApartBy p q x
 apart-by p q a b x d e h = record { shaped = h.shaped; alone = alone-by x.side p q a b x.packet x.output d e h.shaped h.alone }
 
 not-same-by : (s : Side) (p q : Term) (pk x : Packet) → IsWellShaped pk → GivesAlone s p q pk x → ¬ HaveSameResults p q
 not-same-by First p q pk x shaped g same = g.missing (same.there pk x shaped g.given)
 not-same-by Second p q pk x shaped g same = g.missing (same.back pk x shaped g.given)
 
-pub equal-told : (p q : Term) (a b : Tree) (o : Option Apart) → MeaningOf p a → MeaningOf q b → MatchOption o (AreAlikeShaped a b) (IsApart a b) → (o ≡ None) ↔ HaveSameResults p q
+pub equal-told : (p q : Term) (a b : Tree) (o : Option Difference) → MeaningOf p a → MeaningOf q b → MatchOption o (AreAlikeShaped a b) (IsApart a b) → (o ≡ None) ↔ HaveSameResults p q
 equal-told p q a b None m n h = (λ _. same-results p q a b m.built.diagram n.built.diagram h, λ _. refl)
 equal-told p q a b (Some x) m n h =
     let apart = apart-by p q a b x m.built.diagram n.built.diagram h in
     (λ e. absurd (cc), λ same. absurd (not-same-by x.side p q x.packet x.output apart.shaped apart.alone same))
 
-pub apart-told : (p q : Term) (a b : Tree) (o : Option Apart) → MeaningOf p a → MeaningOf q b → MatchOption o (AreAlikeShaped a b) (IsApart a b) → IfSome o (AreApartBy p q)
+pub apart-told : (p q : Term) (a b : Tree) (o : Option Difference) → MeaningOf p a → MeaningOf q b → MatchOption o (AreAlikeShaped a b) (IsApart a b) → IfSome o (AreApartBy p q)
 apart-told p q a b None m n h = tt
 apart-told p q a b (Some x) m n h = apart-by p q a b x m.built.diagram n.built.diagram h
 

@@ -8,7 +8,7 @@ use Rattle.nk_syntax.specs.Terms.{Term}
 use Rattle.history_meaning.specs.Network.{Wiring, IsComplete, IsOpen}
 use Rattle.history_meaning.specs.Plain.{HasResult}
 use Rattle.topology_model.specs.Wired.{IsWiring}
-use Rattle.fdd_apart.specs.declared.finding.Apart.{Apart}
+use Rattle.fdd_apart.specs.declared.finding.Difference.{Difference}
 use Rattle.fdd_apart.specs.declared.finding.Side.{Side}
 use Rattle.fdd_apart.specs.declared.finding.Side.TheVariants.{First, Second}
 use Rattle.fdd_compile.specs.Meanings.{HasMeaning, LacksMeaning}
@@ -26,7 +26,7 @@ GivesAlone First p q = IsLoneResult p q
 GivesAlone Second p q = IsLoneResult q p
 
 -- A well-shaped packet, and a result of it that just one of the policies gives.
-pub record AreApartBy (p q : Term) (x : Apart) : Type 0 where
+pub record AreApartBy (p q : Term) (x : Difference) : Type 0 where
   pub shaped : IsWellShaped x.packet
   pub alone : GivesAlone x.side p q x.packet x.output
 

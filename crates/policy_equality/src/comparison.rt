@@ -13,7 +13,7 @@ ghost use Rattle.policy_equality.specs.Comparisons.{AreApartBy, HaveMeaning, Hav
 
 use crate::fault::CompareError;
 use crate::names::names_of_both;
-use fdd_apart::{Apart, Side, apart_in};
+use fdd_apart::{Difference, Side, apart_in};
 use fdd_compile::{CompileError, meaning};
 use fdd_store::{Id, Store};
 use nk_syntax::Pol;
@@ -25,7 +25,7 @@ use std::alloc::Global;
 ///
 /// Whether a switch can follow the policies is not asked. A policy is refused for a `dup`, or else for its first star
 /// that is deep, the first policy before the second.
-pub fn compare(alloc: Global, p: &Pol, q: &Pol) -> Result<Option<Apart>, CompareError>
+pub fn compare(alloc: Global, p: &Pol, q: &Pol) -> Result<Option<Difference>, CompareError>
     requires few_p { AreFewNamed (TermNames (term_of p.now)) }
     requires few_q { AreFewNamed (TermNames (term_of q.now)) }
     ensures equal { IfOk result (λ o. (o ≡ None) ↔ HaveSameResults (term_of p.now) (term_of q.now)) }

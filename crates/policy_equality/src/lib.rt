@@ -9,4 +9,4 @@ mod names;
 
 pub use comparison::compare;
 pub use fault::CompareError;
-pub use fdd_apart::{Apart, Side};
+pub use fdd_apart::{Difference, Side};

@@ -10,7 +10,7 @@ use Rattle.nk_values.specs.declared.rows.PortKind.{PortKind}
 use Rattle.nk_values.specs.declared.rows.PortKind.TheVariants.{Edge, Linked}
 use Rattle.nk_values.specs.declared.rows.PortRows.{PortRows}
 use Rattle.nk_values.specs.declared.rows.Rows.{Rows}
-use Rattle.nk_values.specs.declared.sent.Sent.{Sent}
+use Rattle.nk_values.specs.declared.sent.SentPacket.{SentPacket}
 use Rattle.nk_values.specs.Acts.{acted}
 use Rattle.nk_values.specs.Members.{IsIn, EachOnce}
 use Rattle.nk_values.specs.Packets.{IsWellShaped}
@@ -18,24 +18,24 @@ use Rattle.nk_values.specs.Patterns.{Incoming, any, vlan_number}
 use Rattle.nk_values.specs.Tables.{first}
 use Rattle.nk_values.specs.Tags.{IsVlanId}
 use Rattle.nk_syntax.specs.Terms.{Term}
-use Rattle.history_meaning.specs.Network.{Place, Wiring}
+use Rattle.history_meaning.specs.Network.{Location, Wiring}
 use Rattle.history_meaning.specs.Plain.{HasResult, IsPlain}
-use Rattle.topology_model.specs.Layouts.{Layout, place_of, same_place, is_linked, places_at, wiring}
+use Rattle.topology_model.specs.Layouts.{Layout, location_of, same_location, is_linked, locations_at, wiring}
 
 -- the port at which a packet stands
-abbrev pub standing : Packet → Place
-standing pk = place_of (pk.sw, pk.pt)
+abbrev pub standing : Packet → Location
+standing pk = location_of (pk.sw, pk.pt)
 
 -- a packet with a tag, as its switch sees it
 abbrev pub incoming : Packet → Option ℕ → Incoming
 incoming pk tag = record { port = pk.pt; header = pk.header; tag = tag }
 
 -- what switch sw sends, as a packet at the port by which it leaves
-abbrev pub sent_packet : ℕ → Sent → Packet
+abbrev pub sent_packet : ℕ → SentPacket → Packet
 sent_packet sw x = record { sw = sw; pt = x.port; header = x.header }
 
 -- a packet, sent with a tag
-abbrev pub sent_as : Packet → Option ℕ → Sent
+abbrev pub sent_as : Packet → Option ℕ → SentPacket
 sent_as q tag = record { port = q.pt; header = q.header; tag = tag }
 
 -- The first row that hits pk sends exactly the policy's results at declared ports: untagged at edge ports, with the
@@ -44,13 +44,13 @@ pub record AnswersPolicy (w : Wiring) (p : Term) (stamp : ℕ) (rows : List Row)
   where
     pub row : Row
     pub found : first (incoming pk tag) rows ≡ Some row
-    pub results : (x : Sent) → IsIn (acted row.actions (incoming pk tag)) x → HasResult p pk (sent_packet pk.sw x)
-    pub tags : (x : Sent) → IsIn (acted row.actions (incoming pk tag)) x →
+    pub results : (x : SentPacket) → IsIn (acted row.actions (incoming pk tag)) x → HasResult p pk (sent_packet pk.sw x)
+    pub tags : (x : SentPacket) → IsIn (acted row.actions (incoming pk tag)) x →
         (IsIn w.edges (standing (sent_packet pk.sw x)) × (x.tag ≡ None)) ⊎
-        ((b : Place) × IsIn w.links (standing (sent_packet pk.sw x), b) × (x.tag ≡ Some stamp))
+        ((b : Location) × IsIn w.links (standing (sent_packet pk.sw x), b) × (x.tag ≡ Some stamp))
     pub leaves : (q : Packet) → HasResult p pk q → IsIn w.edges (standing q) →
         IsIn (acted row.actions (incoming pk tag)) (sent_as q None)
-    pub goes : (q : Packet) (b : Place) → HasResult p pk q → IsIn w.links (standing q, b) →
+    pub goes : (q : Packet) (b : Location) → HasResult p pk q → IsIn w.links (standing q, b) →
         IsIn (acted row.actions (incoming pk tag)) (sent_as q (Some stamp))
     pub once : EachOnce (acted row.actions (incoming pk tag))
 
@@ -78,7 +78,7 @@ pub record EndsWith (pattern : Pattern) (rows : List Row) : Type 0 where
   pub last_pattern : last.pattern ≡ pattern
 
 -- The rows of port a stand for the policy there, for packets with this tag.
-pub record PortMeans (w : Wiring) (p : Term) (stamp top : ℕ) (a : Place) (tag : Option ℕ) (rows : List Row) : Type 0
+pub record PortMeans (w : Wiring) (p : Term) (stamp top : ℕ) (a : Location) (tag : Option ℕ) (rows : List Row) : Type 0
   where
     pub fixed : (r : Row) → IsIn rows r → FixesPort a.pt tag r.pattern
     pub ranked : Ranked top rows
@@ -97,23 +97,23 @@ port_tag Edge stamp = None
 port_tag Linked stamp = Some stamp
 
 -- whether a declared port has a link
-abbrev pub kind_at : Layout → Place → PortKind
+abbrev pub kind_at : Layout → Location → PortKind
 kind_at t a = if is_linked t a then Linked else Edge
 
 -- the declared ports, in their order, each with its kind
-abbrev pub declared_ports : Layout → List (Place × PortKind)
-declared_ports t = map (λ a. (a, kind_at t a)) (flat_map places_at t.switches)
+abbrev pub declared_ports : Layout → List (Location × PortKind)
+declared_ports t = map (λ a. (a, kind_at t a)) (flat_map locations_at t.switches)
 
-abbrev pub port_place : PortRows → Place
-port_place port = place_of (port.sw, port.pt)
+abbrev pub port_place : PortRows → Location
+port_place port = location_of (port.sw, port.pt)
 
-abbrev pub port_of : PortRows → Place × PortKind
+abbrev pub port_of : PortRows → Location × PortKind
 port_of port = (port_place port, port.kind)
 
 -- the rows of a port, none where it has no list
-abbrev pub rows_at : List PortRows → Place → List Row
+abbrev pub rows_at : List PortRows → Location → List Row
 rows_at [] a = []
-rows_at (port ∷ ports) a = if same_place (port_place port) a then port.rows else rows_at ports a
+rows_at (port ∷ ports) a = if same_location (port_place port) a then port.rows else rows_at ports a
 
 -- The rows stand for a plain policy in this topology: there is one list for each declared port, in their order, and
 -- each stands for the policy at its port.

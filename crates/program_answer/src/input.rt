@@ -12,7 +12,7 @@ ghost use Rattle.program_answer.specs.Versions.{AreVersions};
 
 use crate::answer::AnswerError;
 use crate::reading::read_source;
-use crate::ready::{Apart, ReadyDocument};
+use crate::ready::{ReadyDocument, SplitDocument};
 use crate::versions::versions;
 use outside_io::Source;
 use policy_rows::Version;
@@ -39,7 +39,7 @@ pub fn read_input<S: Source>(alloc: Global, source: &mut S) -> Result<Input, Ans
     ensures at_most { TakesAtMost 4194305 (S.left source.old) (S.left source.new) }
 {
     let read = read_source(alloc, source)?;
-    let Apart { document, policies } = ReadyDocument::apart(alloc, read.document)?;
+    let SplitDocument { document, policies } = ReadyDocument::apart(alloc, read.document)?;
     let versions = versions(alloc, document.topology(), document.settings(), policies)?;
     Ok(Input { document, versions })
 }

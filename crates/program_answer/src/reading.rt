@@ -15,7 +15,7 @@ use crate::answer::AnswerError;
 use crate::lines::LineCount;
 use document_text::{DocFault, DocReader, Document, DocumentError};
 use nk_values::MOST_DOCUMENT_BYTES;
-use outside_io::{Failed, Source};
+use outside_io::{Failure, Source};
 use report_text::Fault;
 use std::alloc::Global;
 
@@ -87,7 +87,7 @@ fn feed_from<S: Source>(
         let count = match source.read(piece) {
             Ok(0) => return Ok(()),
             Ok(count) => count,
-            Err(Failed) => return Err(AnswerError::Fault(Fault::Read)),
+            Err(Failure) => return Err(AnswerError::Fault(Fault::Read)),
         };
         if let Err(_) = reader.feed(alloc, &piece[..count]) {
             return Err(AnswerError::Memory);

@@ -52,14 +52,14 @@ pub struct Parts {
 
 // A document, and its policies apart.
 #[derive(Drop)]
-pub(crate) struct Apart {
+pub(crate) struct SplitDocument {
     pub(crate) document: ReadyDocument,
     pub(crate) policies: Vec<Pol>,
 }
 
 impl ReadyDocument {
     // Takes the policies out of a document.
-    pub(crate) fn apart(alloc: Global, document: Document) -> Result<Apart, AllocError>
+    pub(crate) fn apart(alloc: Global, document: Document) -> Result<SplitDocument, AllocError>
         ensures document { IfOk result (λ a. doc_of a.document ≡ doc_of document) }
         ensures policies { IfOk result (λ a. a.document.policies.items ≡ a.policies.items) }
     {
@@ -78,7 +78,7 @@ impl ReadyDocument {
             settings,
             schedule,
         };
-        Ok(Apart { document, policies })
+        Ok(SplitDocument { document, policies })
     }
 
     /// The topology.

@@ -9,7 +9,7 @@ use world_core::{ControllerEvent, Event, SwitchEvent, World};
 
 // What happens between a loss and the return.
 #[derive(Clone, Copy, Debug, PartialEq, Eq)]
-enum Meanwhile {
+enum Interlude {
     Nothing,
     // The switch applies what is pending.
     Applies,
@@ -18,11 +18,11 @@ enum Meanwhile {
 }
 
 // Another one after each event.
-fn between(behind: u32) -> Meanwhile {
+fn between(behind: u32) -> Interlude {
     match behind % 3 {
-        0 => Meanwhile::Nothing,
-        1 => Meanwhile::Applies,
-        _ => Meanwhile::GoesOn,
+        0 => Interlude::Nothing,
+        1 => Interlude::Applies,
+        _ => Interlude::GoesOn,
     }
 }
 
@@ -31,20 +31,20 @@ fn lose_and_return(
     alloc: Global,
     world: &mut World,
     place: usize,
-    meanwhile: Meanwhile,
+    meanwhile: Interlude,
 ) -> Option<u32> {
     if !does_at(alloc, world, ControllerEvent::Lost(place)) {
         return None;
     }
     match meanwhile {
-        Meanwhile::Nothing => {}
-        Meanwhile::Applies => {
+        Interlude::Nothing => {}
+        Interlude::Applies => {
             let apply = Event::Switch(SwitchEvent::Apply(place, 0));
             for _ in 0..100 {
                 let _pending = does(alloc, world, &apply);
             }
         }
-        Meanwhile::GoesOn => {
+        Interlude::GoesOn => {
             let _others = run(alloc, world, 10_000)?;
         }
     }

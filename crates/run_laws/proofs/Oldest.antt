@@ -3,10 +3,10 @@ use Rattle.std.proofs.Common.{◌≡◌, ℕ, ◌+◌, ◌<◌, inl, inr, List, 
 use Rattle.std.proofs.lemmas.List.{length-append, length-set}
 use native.Mathlib.Decide.{ℕ_discrete}
 use Rattle.nk_values.specs.declared.packet.Packet.{Packet}
-use Rattle.nk_values.specs.declared.sent.Sent.{Sent}
+use Rattle.nk_values.specs.declared.sent.SentPacket.{SentPacket}
 use Rattle.nk_values.specs.Members.{IsIn}
 use Rattle.nk_values.proofs.MemberLaws.{in-either, from-flat_map}
-use Rattle.history_meaning.specs.Network.{Place}
+use Rattle.history_meaning.specs.Network.{Location}
 use Rattle.topology_model.specs.Layouts.{Layout, far_end}
 use Rattle.policy_rows.specs.Means.{standing, sent_packet}
 use Rattle.packet_tracer.specs.declared.flight.Flight.{Flight}
@@ -27,10 +27,10 @@ use Rattle.world_core.specs.Worlds.{WorldValue}
 use Rattle.world_core.specs.Steps.{first_copy, Arrives, Hops, Runs, Step}
 
 -- what goes on has the oldest packet of its copy
-own-oldest : (t : Layout) (f : Flight) (sent : List Sent) (g : Flight) → IsIn (all_flights t f sent) g → oldest g.history ≡ oldest f.history
+own-oldest : (t : Layout) (f : Flight) (sent : List SentPacket) (g : Flight) → IsIn (all_flights t f sent) g → oldest g.history ≡ oldest f.history
 own-oldest t f sent g m = let r = from-flat_map (flights_of t f) sent g m in next (far_end t.links (standing (sent_packet f.history.newest.sw r.0))) (sent_packet f.history.newest.sw r.0) r.0.tag r.2
   where
-    next : (o : Option Place) (q : Packet) (tag : Option ℕ) → IsIn (next_flight f q tag o) g → oldest g.history ≡ oldest f.history
+    next : (o : Option Location) (q : Packet) (tag : Option ℕ) → IsIn (next_flight f q tag o) g → oldest g.history ≡ oldest f.history
     next None q tag m = absurd m
     next (Some b) q tag (inl e) = ap (λ (z : Flight). oldest z.history) (sym e)
     next (Some b) q tag (inr m) = absurd m
@@ -45,7 +45,7 @@ BeginIn w = Begin w.flights w.arrivals
 
 -- ---- Arrive
 
-arrive-begin : (t : Layout) (f : Flight) (a : Arrived) (sent : List Sent) (flights : List Flight) (arrivals : List Arrived) → f.arrival ≡ length arrivals → oldest f.history ≡ a.packet → Begin flights arrivals → Begin (flights ++ all_flights t f sent) (arrivals ++ a ∷ [])
+arrive-begin : (t : Layout) (f : Flight) (a : Arrived) (sent : List SentPacket) (flights : List Flight) (arrivals : List Arrived) → f.arrival ≡ length arrivals → oldest f.history ≡ a.packet → Begin flights arrivals → Begin (flights ++ all_flights t f sent) (arrivals ++ a ∷ [])
 arrive-begin t f a sent flights arrivals number first h = record {
   known = λ g m. elim (in-either flights (all_flights t f sent) g m) [
     | inl x ↦ omega (arith, h.known g x, more)
@@ -75,7 +75,7 @@ arrives-begin pk tag w v s h =
 
 -- ---- Hop
 
-hop-begin : (t : Layout) (k : ℕ) (f : Flight) (a b : Arrived) (sent : List Sent) (flights : List Flight) (arrivals : List Arrived) → slice_get flights k ≡ Some f → slice_get arrivals f.arrival ≡ Some a → b.packet ≡ a.packet → Begin flights arrivals →
+hop-begin : (t : Layout) (k : ℕ) (f : Flight) (a b : Arrived) (sent : List SentPacket) (flights : List Flight) (arrivals : List Arrived) → slice_get flights k ≡ Some f → slice_get arrivals f.arrival ≡ Some a → b.packet ≡ a.packet → Begin flights arrivals →
     Begin (remove flights k ++ all_flights t f sent) (slice_set arrivals f.arrival b)
 hop-begin t k f a b sent flights arrivals there of same h = record {
   known = λ g m. elim (in-either (remove flights k) (all_flights t f sent) g m) [

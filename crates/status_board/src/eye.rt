@@ -13,7 +13,7 @@ use update_coordinator::Phase;
 
 /// What a read says: a post, and whether it stood on the board.
 #[derive(Clone, Copy, Debug, PartialEq, Eq)]
-pub struct Seen {
+pub struct Sighting {
     /// The number of events.
     pub count: u64,
     /// The phase of the updates after them.
@@ -53,7 +53,7 @@ impl<J: BoardName> Eye<J> {
 
     /// Reads the board: the newest post that the eye knows by now. It takes no lock and no memory, and waits for
     /// nobody.
-    pub fn read(&mut self) -> Seen
+    pub fn read(&mut self) -> Sighting
         ensures post { post_of result ≡ newest self.new }
         ensures later { IsPrefix self.old self.new }
         ensures rises { (newest self.old).count ≤ result.count }
@@ -62,7 +62,7 @@ impl<J: BoardName> Eye<J> {
     {
         let fresh = self.look();
         let post = self.known.post();
-        Seen {
+        Sighting {
             count: post.count,
             phase: post.phase,
             halted: post.halted,

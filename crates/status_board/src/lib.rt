@@ -11,7 +11,7 @@ mod pen;
 mod post;
 
 pub use board::Board;
-pub use eye::{Eye, Seen};
+pub use eye::{Eye, Sighting};
 pub use history::BoardName;
 pub use note::Note;
 pub use pen::Pen;

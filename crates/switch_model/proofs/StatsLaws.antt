@@ -181,7 +181,7 @@ none-told rows xid table change answer n a = record {
   replies = a;
 }
 
--- ---- one step of the filling
+-- ---- one step of a series of replies
 
 pub step-tells : (xid size : ℕ) (full : List Message) (entries : List FlowStats) (r : Row) (now : List Message) (next after : List FlowStats) → size ≡ entry_len (entry_of r) → size ≤ 60088
     → HasEntryRoom xid size full entries now next → after ≡ next ++ entry_of r ∷ [] → TellsMore xid full entries r now after

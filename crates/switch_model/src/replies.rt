@@ -23,31 +23,31 @@ pub fn replies(alloc: Global, xid: u32, rows: &[Row]) -> Result<Vec<Message>, Al
     requires { (r : RowValue) → IsIn rows.now r → actions_len r.actions ≤ 60000 }
     ensures { IfOk result (λ v. AreReplies xid rows.now v.items) }
 {
-    let mut filling = Filling::new(alloc, xid);
+    let mut series = ReplySeries::new(alloc, xid);
     for row in rows {
-        filling.add(alloc, row)?;
+        series.add(alloc, row)?;
     }
-    filling.finish()
+    series.finish()
 }
 
 // Replies that are full, and the next one: its entries, and how many bytes it takes so far.
 #[derive(Drop)]
-struct Filling {
+struct ReplySeries {
     xid: u32,
     full: Vec<Message>,
     entries: List<FlowStats>,
     len: usize,
 }
 
-impl Filling {
-    fn new(alloc: Global, xid: u32) -> Filling
+impl ReplySeries {
+    fn new(alloc: Global, xid: u32) -> ReplySeries
         ensures xid { result.xid ≡ xid }
         ensures len { result.len ≡ reply_len result.entries }
         ensures few { result.len ≤ LONGEST }
         ensures full { result.full.items ≡ [] }
         ensures entries { result.entries ≡ [] }
     {
-        Filling {
+        ReplySeries {
             xid,
             full: Vec::new(alloc),
             entries: List::new(alloc),
@@ -100,7 +100,7 @@ impl Filling {
     fn finish(self) -> Result<Vec<Message>, AllocError>
         ensures { IfOk result (λ v. v.items ≡ self.full.items ++ to.FlowStatsReply self.xid false self.entries ∷ []) }
     {
-        let Filling {
+        let ReplySeries {
             xid,
             mut full,
             entries,

@@ -4,7 +4,7 @@
 use crate::messages::waiting;
 use openflow_wire::Message;
 use std::test::Fail;
-use switch_model::{NotReady, NotTaken, TakeError, TakeFault};
+use switch_model::{NotReady, RejectedMessage, TakeError, TakeFault};
 
 #[test]
 fn answers_once_both_are_applied(rt: HostRuntime) -> Result<(), Fail> {
@@ -29,7 +29,7 @@ fn takes_nothing_before(rt: HostRuntime) -> Result<(), Fail> {
     assert!(rt;
         matches!(
             answer,
-            Err(NotTaken {
+            Err(RejectedMessage {
                 error: TakeError::Fault(TakeFault::Waiting),
                 message: Message::FeaturesRequest { xid: 4 }
             })

@@ -8,7 +8,7 @@ use Rattle.nk_values.specs.Members.{IsIn, Pairs}
 use Rattle.nk_values.specs.Tables.{Distinct}
 use Rattle.nk_values.proofs.MemberLaws.{in-flat_map, from-flat_map}
 use Rattle.nk_values.proofs.PairLaws.{pairs-append, pairs-flat_map}
-use Rattle.topology_model.specs.Layouts.{Layout, is_linked, places_at}
+use Rattle.topology_model.specs.Layouts.{Layout, is_linked, locations_at}
 use Rattle.topology_model.specs.Wired.{IsTopology}
 use Rattle.policy_rows.specs.declared.version.Version.{Version}
 use Rattle.update_plan.specs.Batches.{internal_rows}
@@ -84,7 +84,7 @@ module _ (t : Layout) (vs : List Version) (limit capacity : ℕ) (overlap : Opti
 
 inner-apart : (t : Layout) (vs : List Version) (limit capacity : ℕ) (overlap : Option ℕ) → IsTopology t → AreVersions t vs overlap → (v sw : ℕ) → Pairs Apart (inner (setting_of t vs limit capacity overlap) v sw)
 inner-apart t vs limit capacity overlap k a v sw =
-    pairs-flat_map (λ b. c.rows_at v (spot sw b)) (λ m n. m ≢ n) Apart (c.linked sw) (ports-once sw (filter (is_linked t) (flat_map places_at t.switches)) (kept-once (is_linked t) (flat_map places_at t.switches) (places-once t k.sound)))
+    pairs-flat_map (λ b. c.rows_at v (spot sw b)) (λ m n. m ≢ n) Apart (c.linked sw) (ports-once sw (filter (is_linked t) (flat_map locations_at t.switches)) (kept-once (is_linked t) (flat_map locations_at t.switches) (places-once t k.sound)))
     (λ pt m. port-apart c q v sw pt (q.all_linked sw pt m))
     (λ b d r s m n differ i j same. differ (some-is b d
     (sym (in-port c q v sw b r (q.all_linked sw b m) i) ∙ sym (ap (λ (p : Pattern). p.in_port) same.same_pattern) ∙ in-port c q v sw d s (q.all_linked sw d n) j)))

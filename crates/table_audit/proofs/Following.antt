@@ -11,7 +11,7 @@ use Rattle.topology_model.specs.Wired.{IsTopology}
 use Rattle.policy_rows.specs.declared.version.Version.{Version}
 use Rattle.openflow_wire.specs.declared.message.Message.{Message}
 use Rattle.update_coordinator.specs.SessionState.TheVariants as state
-use Rattle.switch_model.specs.declared.pending.Pending.{Pending}
+use Rattle.switch_model.specs.declared.pending.PendingMod.{PendingMod}
 use Rattle.update_coordinator.specs.declared.cause.Cause.{Cause}
 use Rattle.update_coordinator.specs.Batches.{planned, staying, internal_of}
 use Rattle.update_coordinator.specs.Controls.{orders_of}
@@ -317,7 +317,7 @@ over-line c swept ph l i up unsent there pending errors =
     reached = elim i.standing.state [ inl e ↦ absurd (cc) | inr e ↦ sym up ∙ e ]
 
     none-held : (m : FlowMod) → IsIn i.held m → ⊥
-    none-held m n = subst (λ (ms : List FlowMod). IsIn ms m) (sym i.pending ∙ ap (map (λ (p : Pending). p.change)) pending) n
+    none-held m n = subst (λ (ms : List FlowMod). IsIn ms m) (sym i.pending ∙ ap (map (λ (p : PendingMod). p.change)) pending) n
 
     no-error : i.errors ≡ []
     no-error = no-errors i.errors i.voice.before i.voice.said i.voice.behind l.back i.full i.voice.parts i.voice.is errors

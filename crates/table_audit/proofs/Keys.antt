@@ -13,9 +13,9 @@ use Rattle.nk_values.specs.Members.{IsIn, Pairs, EachOnce}
 use Rattle.nk_values.specs.Tables.{SameKey, Distinct}
 use Rattle.nk_values.proofs.MemberLaws.{in-map, from-map, in-either}
 use Rattle.nk_values.proofs.PairLaws.{pairs-append, pairs-map, pairs-weaker, pairs-flat_map}
-use Rattle.topology_model.specs.Network.{Place}
+use Rattle.topology_model.specs.Network.{Location}
 use Rattle.topology_model.specs.declared.line.DeclaredSwitch.{DeclaredSwitch}
-use Rattle.topology_model.specs.Layouts.{Layout, place_of, places_at}
+use Rattle.topology_model.specs.Layouts.{Layout, location_of, locations_at}
 use Rattle.topology_model.specs.Wired.{IsSound, IsTopology}
 use Rattle.policy_rows.specs.declared.version.Version.{Version}
 use Rattle.policy_rows.specs.Means.{Ranked, kind_at}
@@ -61,16 +61,16 @@ from-mapped : {X Y : Type 0} (f : X → Y) (xs : List X) → EachOnce (map f xs)
 from-mapped f [] h = tt
 from-mapped f (x ∷ xs) h = ((λ z m. h.0 (f z) (in-map f xs z m)), from-mapped f xs h.1)
 
-at-site : (s : DeclaredSwitch) (a : Place) → IsIn (places_at s) a → a.sw ≡ s.sw
-at-site s a m = let r = from-map (λ n. place_of (s.sw, n)) s.ports a m in ap (λ (b : Place). b.sw) (sym r.2)
+at-site : (s : DeclaredSwitch) (a : Location) → IsIn (locations_at s) a → a.sw ≡ s.sw
+at-site s a m = let r = from-map (λ n. location_of (s.sw, n)) s.ports a m in ap (λ (b : Location). b.sw) (sym r.2)
 
-pub places-once : (t : Layout) → IsSound t → EachOnce (flat_map places_at t.switches)
-places-once t k = pairs-flat_map places_at (λ a b. a.sw ≢ b.sw) (λ a b. a ≢ b) t.switches (from-mapped (λ (s : DeclaredSwitch). s.sw) t.switches k.differ)
-    (λ s m. pairs-map (λ n. place_of (s.sw, n)) (λ a b. a ≢ b) s.ports
-    (pairs-weaker (λ m n. m ≢ n) (λ m n. place_of (s.sw, m) ≢ place_of (s.sw, n)) s.ports (λ m n i j differ same. differ (ap (λ (a : Place). a.pt) same)) (k.sites s m).differ))
-    (λ a b x y m n differ i j same. differ (sym (at-site a x i) ∙ ap (λ (p : Place). p.sw) same ∙ at-site b y j))
+pub places-once : (t : Layout) → IsSound t → EachOnce (flat_map locations_at t.switches)
+places-once t k = pairs-flat_map locations_at (λ a b. a.sw ≢ b.sw) (λ a b. a ≢ b) t.switches (from-mapped (λ (s : DeclaredSwitch). s.sw) t.switches k.differ)
+    (λ s m. pairs-map (λ n. location_of (s.sw, n)) (λ a b. a ≢ b) s.ports
+    (pairs-weaker (λ m n. m ≢ n) (λ m n. location_of (s.sw, m) ≢ location_of (s.sw, n)) s.ports (λ m n i j differ same. differ (ap (λ (a : Location). a.pt) same)) (k.sites s m).differ))
+    (λ a b x y m n differ i j same. differ (sym (at-site a x i) ∙ ap (λ (p : Location). p.sw) same ∙ at-site b y j))
 
-from-ports : (sw n : ℕ) (places : List Place) → IsIn (ports_in places sw) n → IsIn places (spot sw n)
+from-ports : (sw n : ℕ) (places : List Location) → IsIn (ports_in places sw) n → IsIn places (spot sw n)
 from-ports sw n [] m = absurd m
 from-ports sw n (a ∷ as') m = split (λ k. from-ports sw n as' k) (a.sw == sw) refl m
   where
@@ -88,7 +88,7 @@ kept-once {X} p (x ∷ xs) h = split (p x) refl (kept-once p xs h.1)
     split true d k = rw d ((λ y m. h.0 y (from-kept p xs y m).0), k)
     split false d k = rw d k
 
-pub ports-once : (sw : ℕ) (places : List Place) → EachOnce places → EachOnce (ports_in places sw)
+pub ports-once : (sw : ℕ) (places : List Location) → EachOnce places → EachOnce (ports_in places sw)
 ports-once sw [] h = tt
 ports-once sw (a ∷ as') h = split (a.sw == sw) refl (ports-once sw as' h.1)
   where
@@ -121,7 +121,7 @@ some-is m n e = cc
 part-apart : (t : Layout) (vs : List Version) (limit capacity : ℕ) (overlap : Option ℕ) → IsTopology t → AreVersions t vs overlap → (part : ℕ → ℕ) (v sw : ℕ) → Pairs Apart (have vs part v sw)
 part-apart t vs limit capacity overlap k a part v sw =
     subst (λ (rs : List Row). Pairs Apart rs) (sym (parts-are t vs overlap k a part v sw))
-    (pairs-flat_map at_port (λ m n. m ≢ n) Apart (c.ports sw) (ports-once sw (flat_map places_at t.switches) (places-once t k.sound))
+    (pairs-flat_map at_port (λ m n. m ≢ n) Apart (c.ports sw) (ports-once sw (flat_map locations_at t.switches) (places-once t k.sound))
     (λ pt m. cut-apart part (band_by (odd v)) (kind_at t (spot sw pt)) (c.rows_at v (spot sw pt)) (port-apart c q v sw pt m))
     (λ b d r s m n differ i j same. differ (some-is b d
     (sym (in-port c q v sw b r m (cut-in part (band_by (odd v)) (kind_at t (spot sw b)) (c.rows_at v (spot sw b)) r i))

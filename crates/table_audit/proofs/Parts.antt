@@ -12,8 +12,8 @@ use Rattle.nk_values.specs.Fitting.{IsWritable}
 use Rattle.nk_values.specs.Members.{IsIn}
 use Rattle.nk_values.proofs.MemberLaws.{in-left, in-flat_map, from-flat_map}
 use Rattle.nk_syntax.specs.Views.{term_of}
-use Rattle.topology_model.specs.Network.{Place}
-use Rattle.topology_model.specs.Layouts.{Layout, same_place, places_at}
+use Rattle.topology_model.specs.Network.{Location}
+use Rattle.topology_model.specs.Layouts.{Layout, same_location, locations_at}
 use Rattle.topology_model.specs.Wired.{IsTopology}
 use Rattle.policy_rows.specs.declared.version.Version.{Version}
 use Rattle.policy_rows.specs.Limits.{AreWritable}
@@ -41,16 +41,16 @@ there t vs overlap a zero x e = absurd (cc)
 there t vs overlap a (suc k) x e = record { mean = a.means k x e; writable = a.writable k x e; band = banded t vs overlap a k x e }
 
 -- a row of a list is a port's
-from-lists : (ports : List PortRows) (a : Place) (r : Row) → IsIn (rows_at ports a) r → (p : PortRows) × IsIn ports p × IsIn p.rows r
+from-lists : (ports : List PortRows) (a : Location) (r : Row) → IsIn (rows_at ports a) r → (p : PortRows) × IsIn ports p × IsIn p.rows r
 from-lists [] a r m = absurd m
-from-lists (x ∷ xs) a r m = split (λ n. from-lists xs a r n) (same_place (port_place x) a) m
+from-lists (x ∷ xs) a r m = split (λ n. from-lists xs a r n) (same_location (port_place x) a) m
   where
     split : (IsIn (rows_at xs a) r → (p : PortRows) × IsIn xs p × IsIn p.rows r) → (b : Bool) → IsIn (if b then x.rows else rows_at xs a) r → (p : PortRows) × IsIn (x ∷ xs) p × IsIn p.rows r
     split later true n = (x, inl refl, n)
     split later false n = let h = later n in (h.0, inr h.1, h.2)
 
 -- each row of a version can be written
-pub writable-rows : (t : Layout) (vs : List Version) (overlap : Option ℕ) → AreVersions t vs overlap → (v : ℕ) (a : Place) (r : Row) → IsIn (rows_at (lists_in (version_at vs v)) a) r → IsWritable r
+pub writable-rows : (t : Layout) (vs : List Version) (overlap : Option ℕ) → AreVersions t vs overlap → (v : ℕ) (a : Location) (r : Row) → IsIn (rows_at (lists_in (version_at vs v)) a) r → IsWritable r
 writable-rows t vs overlap k v a r m = of (version_at vs v) refl m
   where
     of : (o : Option Version) → version_at vs v ≡ o → IsIn (rows_at (lists_in o) a) r → IsWritable r
@@ -90,7 +90,7 @@ cut-nothing part Low kind = no-more (part 0) []
 -- ---- its rows at a switch
 
 pub all_ports : Layout → ℕ → List ℕ
-all_ports t sw = ports_in (flat_map places_at t.switches) sw
+all_ports t sw = ports_in (flat_map locations_at t.switches) sw
 
 -- a part of a version's rows, port by port
 abbrev pub part_of : (ℕ → ℕ) → Option Rows → ℕ → List Row
@@ -100,7 +100,7 @@ abbrev pub have : List Version → (ℕ → ℕ) → ℕ → ℕ → List Row
 have vs part v sw = part_of part (rows_in (version_at vs v)) sw
 
 abbrev pub by_ports : Layout → (ℕ → ℕ) → ℕ → ℕ → Option Version → List Row
-by_ports t part v sw o = flat_map (λ b. cut part (band_by (odd v)) (kind_at t (spot sw b)) (rows_at (lists_in o) (spot sw b))) (ports_in (flat_map places_at t.switches) sw)
+by_ports t part v sw o = flat_map (λ b. cut part (band_by (odd v)) (kind_at t (spot sw b)) (rows_at (lists_in o) (spot sw b))) (ports_in (flat_map locations_at t.switches) sw)
 
 flat-none : (g : ℕ → List Row) → ((b : ℕ) → g b ≡ []) → (bs : List ℕ) → flat_map g bs ≡ []
 flat-none g h [] = refl
@@ -110,11 +110,11 @@ pub parts-are : (t : Layout) (vs : List Version) (overlap : Option ℕ) → IsTo
 parts-are t vs overlap k a part v sw = of (version_at vs v) refl
   where
     of : (o : Option Version) → version_at vs v ≡ o → part_of part (rows_in o) sw ≡ by_ports t part v sw o
-    of None e = sym (flat-none (λ b. cut part (band_by (odd v)) (kind_at t (spot sw b)) []) (λ b. cut-nothing part (band_by (odd v)) (kind_at t (spot sw b))) (ports_in (flat_map places_at t.switches) sw))
+    of None e = sym (flat-none (λ b. cut part (band_by (odd v)) (kind_at t (spot sw b)) []) (λ b. cut-nothing part (band_by (odd v)) (kind_at t (spot sw b))) (ports_in (flat_map locations_at t.switches) sw))
     of (Some x) e =
         let h = there t vs overlap a v x e in
-        by_place t (cut part x.rows.band) sw x.rows.ports x.rows.ports (flat_map places_at t.switches) (owned t x.rows (term_of x.pol) k.sound h.mean) h.mean.ports
-        ∙ ap (λ (band : Band). flat_map (λ b. cut part band (kind_at t (spot sw b)) (rows_at x.rows.ports (spot sw b))) (ports_in (flat_map places_at t.switches) sw)) h.band
+        by_place t (cut part x.rows.band) sw x.rows.ports x.rows.ports (flat_map locations_at t.switches) (owned t x.rows (term_of x.pol) k.sound h.mean) h.mean.ports
+        ∙ ap (λ (band : Band). flat_map (λ b. cut part band (kind_at t (spot sw b)) (rows_at x.rows.ports (spot sw b))) (ports_in (flat_map locations_at t.switches) sw)) h.band
 
 -- ---- internal and ingress rows
 

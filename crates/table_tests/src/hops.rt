@@ -12,7 +12,7 @@ use nk_values::{
     ANY_PORT, Action, Actions, FlowCommand, FlowMod, Header, History, IN_PORT, List, Packet,
     Pattern, Tag, in_range,
 };
-use packet_tracer::{Flight, Hopped, hop};
+use packet_tracer::{Flight, HopResult, hop};
 use std::alloc::{AllocError, Global};
 use std::process::Abort;
 use std::test::Fail;
@@ -78,7 +78,7 @@ fn hopped_by<R: Abort>(
     change: &mut FlowMod,
     topology: &Topology,
     flight: &Flight,
-) -> Result<Hopped, ChangeError>
+) -> Result<HopResult, ChangeError>
     requires { change.old.command ≡ FlowCommand.Add }
 {
     let table = table(alloc, change)?;
@@ -88,7 +88,7 @@ fn hopped_by<R: Abort>(
 }
 
 // What it makes of the copy.
-fn hopped(rt: &impl Abort, alloc: Global, hops: u64) -> Option<Hopped> {
+fn hopped(rt: &impl Abort, alloc: Global, hops: u64) -> Option<HopResult> {
     let two = Net {
         switches: &[(1, &[1, 2]), (2, &[1, 2])],
         links: &[((1, 2), (2, 1))],

@@ -8,6 +8,6 @@ mod kept;
 mod run;
 mod watch;
 
-pub use fleet_workers::{Onlooker, Seen};
+pub use fleet_workers::{Onlooker, Sighting};
 pub use run::run_answer;
 pub use watch::watch_answer;

@@ -4,8 +4,8 @@ use Rattle.std.specs.List.{flat_map, slice_get}
 use Rattle.std.proofs.lemmas.List.{append-nil, take_all}
 use Rattle.std.proofs.lemmas.Bool.{cases_lt}
 use Rattle.std.proofs.lemmas.Option.{slice_get-get_or}
-use Rattle.history_meaning.specs.Network.{Place}
-use Rattle.topology_model.specs.Layouts.{Layout, place_of}
+use Rattle.history_meaning.specs.Network.{Location}
+use Rattle.topology_model.specs.Layouts.{Layout, location_of}
 use Rattle.topology_model.specs.Lines.{sites_in, links_in, layout_of, with_line, line_fault, fault_from, fault_at, IsFaultless}
 use Rattle.topology_model.specs.declared.line.TopoLine.{TopoLine}
 use Rattle.topology_model.specs.Causes.{IsLineCause, IsEndCause, IsCause, at_place}
@@ -60,6 +60,6 @@ pub found : (lines : List TopoLine) (i : ℕ) (l : TopoLine) → i < length line
 found lines i l h e = slice_get-get_or lines i l h ∙ ap (λ (x : TopoLine). Some x) (sym e)
 
 -- a list made of some that are there
-pub some_place : (es : List (ℕ × ℕ)) (ps : List Place) → map place_of es ≡ ps → 0 < length es → ps ≢ []
+pub some_place : (es : List (ℕ × ℕ)) (ps : List Location) → map location_of es ≡ ps → 0 < length es → ps ≢ []
 some_place [] ps e h = absurd (omega arith)
-some_place (x ∷ xs) ps e h = λ d. let k : map place_of (x ∷ xs) ≡ [] = e ∙ d in cc
+some_place (x ∷ xs) ps e h = λ d. let k : map location_of (x ∷ xs) ≡ [] = e ∙ d in cc

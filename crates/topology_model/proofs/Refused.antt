@@ -1,7 +1,7 @@
 -- What is known of a line without a fault.
 use Rattle.std.proofs.Common.{◌≡◌, ℕ, ◌<◌, ◌≤◌, Bool, true, false, cond, not, nat_le, nat_lt, ◌&&◌, ◌||◌, List, length, refl, Option, Some, None, is_some, arith}
 use Rattle.std.proofs.lemmas.Bool.Decides.{nat_tests}
-use Rattle.topology_model.specs.Layouts.{Layout, place_of, has_switch, has_port, same_place, far_end}
+use Rattle.topology_model.specs.Layouts.{Layout, location_of, has_switch, has_port, same_location, far_end}
 use Rattle.topology_model.specs.Lines.{line_fault, has_repeat}
 use Rattle.topology_model.specs.declared.line.TopoLine.TheVariants.{Switch, Link}
 use Rattle.nk_values.specs.declared.text_fault.TextFault.{TextFault}
@@ -40,11 +40,11 @@ pub record IsNewSwitch (t : Layout) (sw : ℕ) (ports : List ℕ) : Type 0 where
   pub differ : has_repeat ports ≡ false
 
 pub record IsNewLink (t : Layout) (a b : ℕ × ℕ) : Type 0 where
-  pub from : has_port t.switches (place_of a) ≡ true
-  pub to : has_port t.switches (place_of b) ≡ true
-  pub free_from : is_some (far_end t.links (place_of a)) ≡ false
-  pub free_to : is_some (far_end t.links (place_of b)) ≡ false
-  pub apart : same_place (place_of a) (place_of b) ≡ false
+  pub from : has_port t.switches (location_of a) ≡ true
+  pub to : has_port t.switches (location_of b) ≡ true
+  pub free_from : is_some (far_end t.links (location_of a)) ≡ false
+  pub free_to : is_some (far_end t.links (location_of b)) ≡ false
+  pub apart : same_location (location_of a) (location_of b) ≡ false
 
 pub new_switch : (t : Layout) (sw : ℕ) (ports : List ℕ) → line_fault t (Switch sw ports) ≡ None → IsNewSwitch t sw ports
 new_switch t sw ports e =

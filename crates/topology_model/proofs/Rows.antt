@@ -5,7 +5,7 @@ use Rattle.std.specs.declared.alloc.Global.{Global}
 use Rattle.std.specs.List.{flat_map}
 use Rattle.std.proofs.lemmas.List.{take_all}
 use Rattle.history_meaning.specs.Network.{at, along, edge_term, link_term}
-use Rattle.topology_model.specs.Layouts.{Layout, place_of, both_ways, edges_of, wiring}
+use Rattle.topology_model.specs.Layouts.{Layout, location_of, both_ways, edges_of, wiring}
 use Rattle.nk_syntax.specs.Terms as to
 use Rattle.nk_syntax.specs.Views.{term_of, terms_of, term_row}
 use Rattle.nk_syntax.specs.declared.pol.Pol.{Pol}
@@ -25,10 +25,10 @@ pub seq_of-row : (v : Vec Pol Global) → term_of (pol.Seq (roll-Pols (record { 
 seq_of-row v = term_of-seq (roll-Pols (record { items = v })) ∙ ap to.Seq (row_of v)
 
 -- of all edge ports, and of all links
-pub edge_sum : (v : Vec Pol Global) (t : Layout) (es : List (ℕ × ℕ)) (i : ℕ) → map term_of v.items ≡ map at (map place_of (take i es)) → length es ≤ i → map place_of es ≡ edges_of t →
+pub edge_sum : (v : Vec Pol Global) (t : Layout) (es : List (ℕ × ℕ)) (i : ℕ) → map term_of v.items ≡ map at (map location_of (take i es)) → length es ≤ i → map location_of es ≡ edges_of t →
     term_of (pol.Sum (roll-Pols (record { items = v }))) ≡ edge_term (wiring t)
 edge_sum v t es i h le e =
-    sum_of-row v ∙ ap (λ (ts : List to.Term). to.Sum (term_row ts)) (h ∙ ap (λ (xs : List (ℕ × ℕ)). map at (map place_of xs)) (take_all i es le) ∙ ap (map at) e)
+    sum_of-row v ∙ ap (λ (ts : List to.Term). to.Sum (term_row ts)) (h ∙ ap (λ (xs : List (ℕ × ℕ)). map at (map location_of xs)) (take_all i es le) ∙ ap (map at) e)
 
 pub link_sum : (v : Vec Pol Global) (t : Layout) (ls : List ((ℕ × ℕ) × (ℕ × ℕ))) (i : ℕ) → map term_of v.items ≡ map along (flat_map both_ways (take i ls)) → length ls ≤ i →
     flat_map both_ways ls ≡ t.links → term_of (pol.Sum (roll-Pols (record { items = v }))) ≡ link_term (wiring t)

@@ -11,9 +11,9 @@ use Rattle.nk_values.specs.Members.{IsIn, EachOnce}
 use Rattle.nk_values.specs.Ranges.{IsValue}
 use Rattle.nk_values.proofs.MemberLaws.{in-left, in-either}
 use Rattle.nk_values.proofs.PairLaws.{pairs-append}
-use Rattle.history_meaning.specs.Network.{Place}
+use Rattle.history_meaning.specs.Network.{Location}
 use Rattle.history_meaning.proofs.Runs.{only}
-use Rattle.topology_model.specs.Layouts.{Layout, place_of, place_in, has_switch, has_port, far_end}
+use Rattle.topology_model.specs.Layouts.{Layout, location_of, place_in, has_switch, has_port, far_end}
 use Rattle.topology_model.specs.Lines.{IsLineInRange, has_repeat}
 use Rattle.topology_model.specs.Wired.{IsSite, IsSound}
 use Rattle.topology_model.specs.declared.line.DeclaredSwitch.{DeclaredSwitch}
@@ -32,18 +32,18 @@ placed sites sw ports m n new old now q = now q ∙ split (sw == q) refl
     split true e = sym (position-new (λ s. s.sw == q) sites (site sw ports) e (subst (λ (k : ℕ). has_switch sites k ≡ false) ((Decides-eqb sw q).0 e) new))
     split false e = old q ∙ sym (position-other (λ s. s.sw == q) sites (site sw ports) e)
 
-pub no_port : (sites : List DeclaredSwitch) (sw pt : ℕ) → has_switch sites sw ≡ false → has_port sites (place_of (sw, pt)) ≡ false
+pub no_port : (sites : List DeclaredSwitch) (sw pt : ℕ) → has_switch sites sw ≡ false → has_port sites (location_of (sw, pt)) ≡ false
 no_port [] sw pt e = refl
 no_port (s ∷ ss) sw pt e = split (s.sw == sw) e (no_port ss sw pt)
   where
-    split : (b : Bool) → (b || has_switch ss sw) ≡ false → (has_switch ss sw ≡ false → has_port ss (place_of (sw, pt)) ≡ false) → (b && list_any (λ n. n == pt) s.ports || has_port ss (place_of (sw, pt))) ≡ false
+    split : (b : Bool) → (b || has_switch ss sw) ≡ false → (has_switch ss sw ≡ false → has_port ss (location_of (sw, pt)) ≡ false) → (b && list_any (λ n. n == pt) s.ports || has_port ss (location_of (sw, pt))) ≡ false
     split true d f = absurd (cc)
     split false d f = f d
 
-pub live : (sites : List DeclaredSwitch) (sw : ℕ) (ports : List ℕ) (m n : ℕ × ℕ → Option (Option (ℕ × ℕ))) → ((e : ℕ × ℕ) → is_some (m e) ≡ has_port sites (place_of e)) →
-    ((e : ℕ × ℕ) → n e ≡ cond (sw == e.0 && list_any (λ k. k == e.1) ports) (Some None) (m e)) → (e : ℕ × ℕ) → is_some (n e) ≡ has_port (sites ++ site sw ports ∷ []) (place_of e)
+pub live : (sites : List DeclaredSwitch) (sw : ℕ) (ports : List ℕ) (m n : ℕ × ℕ → Option (Option (ℕ × ℕ))) → ((e : ℕ × ℕ) → is_some (m e) ≡ has_port sites (location_of e)) →
+    ((e : ℕ × ℕ) → n e ≡ cond (sw == e.0 && list_any (λ k. k == e.1) ports) (Some None) (m e)) → (e : ℕ × ℕ) → is_some (n e) ≡ has_port (sites ++ site sw ports ∷ []) (location_of e)
 live sites sw ports m n old now e =
-    ap is_some (now e) ∙ split (sw == e.0 && list_any (λ k. k == e.1) ports) (has_port sites (place_of e)) (old e)
+    ap is_some (now e) ∙ split (sw == e.0 && list_any (λ k. k == e.1) ports) (has_port sites (location_of e)) (old e)
     ∙ sym (list_any-append (λ s. s.sw == e.0 && list_any (λ k. k == e.1) s.ports) sites (site sw ports ∷ []))
   where
     split : (b c : Bool) → is_some (m e) ≡ c → is_some (cond b (Some None) (m e)) ≡ (c || (b || false))
@@ -52,16 +52,16 @@ live sites sw ports m n old now e =
     split false true h = h
     split false false h = h
 
-pub far : (sites : List DeclaredSwitch) (sw : ℕ) (ports : List ℕ) (links : List (Place × Place)) (m n : ℕ × ℕ → Option (Option (ℕ × ℕ))) → has_switch sites sw ≡ false →
-    ((e : ℕ × ℕ) → is_some (m e) ≡ has_port sites (place_of e)) → ((e : ℕ × ℕ) → option_map place_of (option_flatten (m e)) ≡ far_end links (place_of e)) →
-    ((e : ℕ × ℕ) → n e ≡ cond (sw == e.0 && list_any (λ k. k == e.1) ports) (Some None) (m e)) → (e : ℕ × ℕ) → option_map place_of (option_flatten (n e)) ≡ far_end links (place_of e)
-far sites sw ports links m n new has old now e = ap (λ o. option_map place_of (option_flatten o)) (now e) ∙ split (sw == e.0) (list_any (λ k. k == e.1) ports) refl
+pub far : (sites : List DeclaredSwitch) (sw : ℕ) (ports : List ℕ) (links : List (Location × Location)) (m n : ℕ × ℕ → Option (Option (ℕ × ℕ))) → has_switch sites sw ≡ false →
+    ((e : ℕ × ℕ) → is_some (m e) ≡ has_port sites (location_of e)) → ((e : ℕ × ℕ) → option_map location_of (option_flatten (m e)) ≡ far_end links (location_of e)) →
+    ((e : ℕ × ℕ) → n e ≡ cond (sw == e.0 && list_any (λ k. k == e.1) ports) (Some None) (m e)) → (e : ℕ × ℕ) → option_map location_of (option_flatten (n e)) ≡ far_end links (location_of e)
+far sites sw ports links m n new has old now e = ap (λ o. option_map location_of (option_flatten o)) (now e) ∙ split (sw == e.0) (list_any (λ k. k == e.1) ports) refl
   where
-    gone : (o : Option (Option (ℕ × ℕ))) → is_some o ≡ false → option_map place_of (option_flatten o) ≡ None
+    gone : (o : Option (Option (ℕ × ℕ))) → is_some o ≡ false → option_map location_of (option_flatten o) ≡ None
     gone None h = refl
     gone (Some x) h = absurd (cc)
 
-    split : (b c : Bool) → (sw == e.0) ≡ b → option_map place_of (option_flatten (cond (b && c) (Some None) (m e))) ≡ far_end links (place_of e)
+    split : (b c : Bool) → (sw == e.0) ≡ b → option_map location_of (option_flatten (cond (b && c) (Some None) (m e))) ≡ far_end links (location_of e)
     split true true d =
         sym (gone (m e) (has e ∙ no_port sites e.0 e.1 (subst (λ (k : ℕ). has_switch sites k ≡ false) ((Decides-eqb sw e.0).0 d) new))) ∙ old e
     split true false d = old e

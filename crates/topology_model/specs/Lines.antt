@@ -4,8 +4,8 @@ use Rattle.std.specs.Prelude.{length, take, slice_get, Option, Some, None, if◌
 use Rattle.std.specs.List.{flat_map, list_any}
 use Rattle.nk_values.specs.declared.field.Field.TheVariants.{Sw, Pt}
 use Rattle.nk_values.specs.Ranges.{IsValue}
-use Rattle.history_meaning.specs.Network.{Place}
-use Rattle.topology_model.specs.Layouts.{Layout, place_of, both_ways, has_switch, has_port, same_place, is_linked}
+use Rattle.history_meaning.specs.Network.{Location}
+use Rattle.topology_model.specs.Layouts.{Layout, location_of, both_ways, has_switch, has_port, same_location, is_linked}
 use Rattle.topology_model.specs.Layouts.{edges_of}
 use Rattle.topology_model.specs.declared.line.DeclaredSwitch.{DeclaredSwitch}
 use Rattle.topology_model.specs.declared.line.TopoLine.{TopoLine}
@@ -28,7 +28,7 @@ abbrev pub sites_in : TopoLine → List DeclaredSwitch
 sites_in (Switch sw ports) = record { sw = sw; ports = ports } ∷ []
 sites_in (Link a b) = []
 
-abbrev pub links_in : TopoLine → List (Place × Place)
+abbrev pub links_in : TopoLine → List (Location × Location)
 links_in (Switch sw ports) = []
 links_in (Link a b) = both_ways (a, b)
 
@@ -54,8 +54,8 @@ line_fault t (Switch sw ports) =
     else None))
 line_fault t (Link a b) =
     if not (has_switch t.switches a.0 && has_switch t.switches b.0) then Some UnknownSwitch
-    else (if not (has_port t.switches (place_of a) && has_port t.switches (place_of b)) then Some UnknownPort
-    else (if is_linked t (place_of a) || is_linked t (place_of b) || same_place (place_of a) (place_of b) then Some
+    else (if not (has_port t.switches (location_of a) && has_port t.switches (location_of b)) then Some UnknownPort
+    else (if is_linked t (location_of a) || is_linked t (location_of b) || same_location (location_of a) (location_of b) then Some
     PortUsedTwice
     else None))
 
@@ -64,7 +64,7 @@ abbrev pub fault_from : Layout → Option TopoLine → Option TextFault
 fault_from t (Some l) = line_fault t l
 fault_from t None = no_edge (edges_of t)
   where
-    no_edge : List Place → Option TextFault
+    no_edge : List Location → Option TextFault
     no_edge [] = Some NoEdge
     no_edge (a ∷ as') = None
 

@@ -3,8 +3,8 @@
 //! Layer: values and policies; public. Called by `building` and `topology` here, and by document_text.
 ghost use Rattle.std.specs.Prelude.{◌≡◌, ◌&&◌, ◌++◌, IfOk, OnOk, Option, option_map, not, map, filter};
 ghost use Rattle.std.specs.List.{flat_map};
-ghost use Rattle.topology_model.specs.Layouts.{place_of, place_in, has_switch, has_port, far_end, is_linked, is_edge};
-ghost use Rattle.topology_model.specs.Layouts.{places_at, edges_of};
+ghost use Rattle.topology_model.specs.Layouts.{location_of, place_in, has_switch, has_port, far_end, is_linked, is_edge};
+ghost use Rattle.topology_model.specs.Layouts.{locations_at, edges_of};
 
 use crate::line::{DeclaredSwitch, PortRef};
 use std::alloc::{AllocError, Global};
@@ -92,35 +92,35 @@ impl Draft {
 
     /// Whether a port is declared.
     pub fn has_port(&self, end: PortRef) -> bool
-        ensures { result ≡ has_port self.now.switches (place_of end) }
+        ensures { result ≡ has_port self.now.switches (location_of end) }
     {
         self.far_ends.contains_key(&end)
     }
 
     /// The other end of a port's link, if it has one.
     pub fn far_end(&self, end: PortRef) -> Option<PortRef>
-        ensures { option_map place_of result ≡ far_end self.now.links (place_of end) }
+        ensures { option_map location_of result ≡ far_end self.now.links (location_of end) }
     {
         self.far_ends.get(&end).copied().flatten()
     }
 
     /// Whether a port is in a link.
     pub fn is_linked(&self, end: PortRef) -> bool
-        ensures { result ≡ is_linked self.now (place_of end) }
+        ensures { result ≡ is_linked self.now (location_of end) }
     {
         self.far_end(end).is_some()
     }
 
     /// Whether a port is declared and in no link.
     pub fn is_edge(&self, end: PortRef) -> bool
-        ensures { result ≡ is_edge self.now (place_of end) }
+        ensures { result ≡ is_edge self.now (location_of end) }
     {
         self.has_port(end) && !self.is_linked(end)
     }
 
     /// The declared ports that no link has, in declared order.
     pub fn edges(&self, alloc: Global) -> Result<Vec<PortRef>, AllocError>
-        ensures edges { IfOk result (λ v. map place_of v.items ≡ edges_of self.now) }
+        ensures edges { IfOk result (λ v. map location_of v.items ≡ edges_of self.now) }
         ensures sound { IsSound self.now }
     {
         let mut edges = Vec::new(alloc);
@@ -132,8 +132,8 @@ impl Draft {
 
     // Puts those of one switch at the end.
     fn add_edges(&self, site: &DeclaredSwitch, edges: &mut Vec<PortRef>) -> Result<(), AllocError>
-        ensures { OnOk result (map place_of edges.new.items ≡ map place_of edges.old.items ++ filter
-            (λ a. not (is_linked self.now a)) (places_at site.now)) }
+        ensures { OnOk result (map location_of edges.new.items ≡ map location_of edges.old.items ++ filter
+            (λ a. not (is_linked self.now a)) (locations_at site.now)) }
     {
         let ports = site.ports.as_slice();
         for port in ports {

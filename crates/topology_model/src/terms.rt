@@ -7,7 +7,7 @@ ghost use Rattle.nk_values.specs.Lits.{lit_field, lit_value};
 ghost use Rattle.nk_syntax.specs.Terms.{Filter, Test, Assign};
 ghost use Rattle.nk_syntax.specs.Views.{term_of};
 ghost use Rattle.history_meaning.specs.Network.{at, along};
-ghost use Rattle.topology_model.specs.Layouts.{place_of};
+ghost use Rattle.topology_model.specs.Layouts.{location_of};
 ghost use Rattle.topology_model.specs.Lines.{IsEnd};
 
 use crate::line::PortRef;
@@ -45,7 +45,7 @@ fn assign(field: Field, number: u16) -> Pol
 #[tactic(auto, using(crate::proofs::Rows::rows))]
 pub fn standing_at(alloc: Global, end: PortRef) -> Result<Pol, AllocError>
     requires { IsEnd end }
-    ensures { IfOk result (λ p. term_of p ≡ at (place_of end)) }
+    ensures { IfOk result (λ p. term_of p ≡ at (location_of end)) }
 {
     let items = Vec::from_array(alloc, [test(Field::Sw, end.0), test(Field::Pt, end.1)])?;
     Ok(Pol::Seq(Pols { items }))
@@ -56,7 +56,7 @@ pub fn standing_at(alloc: Global, end: PortRef) -> Result<Pol, AllocError>
 pub fn going(alloc: Global, from: PortRef, to: PortRef) -> Result<Pol, AllocError>
     requires from { IsEnd from }
     requires to { IsEnd to }
-    ensures { IfOk result (λ p. term_of p ≡ along (place_of from, place_of to)) }
+    ensures { IfOk result (λ p. term_of p ≡ along (location_of from, location_of to)) }
 {
     let items = Vec::from_array(
         alloc,

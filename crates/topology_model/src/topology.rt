@@ -5,8 +5,8 @@ ghost use Rattle.std.specs.Prelude.{◌≡◌, ◌<◌, ◌↔◌, length, IsTru
 ghost use Rattle.std.specs.Prelude.{slice_get, map, take};
 ghost use Rattle.std.specs.List.{flat_map};
 ghost use Rattle.nk_values.specs.Members.{IsIn};
-ghost use Rattle.history_meaning.specs.Network.{Place};
-ghost use Rattle.topology_model.specs.Layouts.{place_of, places_at, both_ways, place_in, has_switch, has_port, far_end};
+ghost use Rattle.history_meaning.specs.Network.{Location};
+ghost use Rattle.topology_model.specs.Layouts.{location_of, locations_at, both_ways, place_in, has_switch, has_port, far_end};
 ghost use Rattle.topology_model.specs.Layouts.{is_edge, wiring};
 
 use crate::draft::Draft;
@@ -74,7 +74,7 @@ impl Topology {
     /// those of all switches in declared order.
     pub fn ports_before(&self, place: usize) -> usize
         requires { place < length self.now.switches }
-        ensures count { result ≡ length (flat_map places_at (take place self.now.switches)) }
+        ensures count { result ≡ length (flat_map locations_at (take place self.now.switches)) }
         ensures parts { IsSomeAnd (slice_get self.now.switches place) (λ s. HasPortsBehind self.now s result) }
     {
         self.firsts[place]
@@ -90,7 +90,7 @@ impl Topology {
 
     /// The ports without a link, in declared order.
     pub fn edges(&self) -> &[PortRef]
-        ensures edges { map place_of result.now ≡ (wiring self.now).edges }
+        ensures edges { map location_of result.now ≡ (wiring self.now).edges }
         ensures wiring { IsWiring (wiring self.now) }
     {
         &self.edges
@@ -107,9 +107,9 @@ impl Topology {
 
     /// The other end of a port's link; `None` exactly if no link has it.
     pub fn far_end(&self, sw: u16, pt: u16) -> Option<(u16, u16)>
-        ensures value { option_map place_of result ≡ far_end (wiring self.now).links (place_of (sw, pt)) }
-        ensures joined { (b : Place) → (option_map place_of result ≡ Some b) ↔
-            IsIn (wiring self.now).links (place_of (sw, pt), b) }
+        ensures value { option_map location_of result ≡ far_end (wiring self.now).links (location_of (sw, pt)) }
+        ensures joined { (b : Location) → (option_map location_of result ≡ Some b) ↔
+            IsIn (wiring self.now).links (location_of (sw, pt), b) }
         ensures wiring { IsWiring (wiring self.now) }
     {
         self.draft.far_end((sw, pt))
@@ -117,8 +117,8 @@ impl Topology {
 
     /// Whether a port is declared and in no link.
     pub fn is_edge(&self, sw: u16, pt: u16) -> bool
-        ensures value { result ≡ is_edge self.now (place_of (sw, pt)) }
-        ensures edge { IsTrue result ↔ IsIn (wiring self.now).edges (place_of (sw, pt)) }
+        ensures value { result ≡ is_edge self.now (location_of (sw, pt)) }
+        ensures edge { IsTrue result ↔ IsIn (wiring self.now).edges (location_of (sw, pt)) }
         ensures wiring { IsWiring (wiring self.now) }
     {
         self.draft.is_edge((sw, pt))
@@ -126,8 +126,8 @@ impl Topology {
 
     /// Whether a port is declared.
     pub fn is_live(&self, sw: u16, pt: u16) -> bool
-        ensures value { result ≡ has_port self.now.switches (place_of (sw, pt)) }
-        ensures declared { IsTrue result ↔ IsDeclared self.now (place_of (sw, pt)) }
+        ensures value { result ≡ has_port self.now.switches (location_of (sw, pt)) }
+        ensures declared { IsTrue result ↔ IsDeclared self.now (location_of (sw, pt)) }
     {
         self.draft.has_port((sw, pt))
     }

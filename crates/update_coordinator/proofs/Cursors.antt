@@ -19,7 +19,7 @@ use Rattle.update_coordinator.specs.Batches.{version_at, batch}
 use Rattle.openflow_wire.specs.declared.message.Message.{Message}
 use Rattle.session_core.specs.declared.session.Move.{Move}
 use Rattle.session_core.specs.declared.session.Move.TheVariants as move
-use Rattle.barrier_tracker.specs.declared.tracker.Awaited.{Awaited}
+use Rattle.barrier_tracker.specs.declared.tracker.BarrierState.{BarrierState}
 use Rattle.update_coordinator.specs.Controls.{Control, Peer, Change, begun_peer, in_phase, batch_at, gone, returned}
 use Rattle.update_coordinator.specs.Hearing.{met, told}
 use Rattle.update_coordinator.specs.Peers.{HearsAt, LosesAt, ReturnsAt}
@@ -136,7 +136,7 @@ start_read versions switches rejoins overlap spans cursors n m f = record {
 
 -- ---- what each call does to the switch at a place
 
-pub lost_read : (c : Control) (place n : ℕ) (peers : List Peer) (rs : List Awaited) (spans : List Span) (cursors : List Cursor) → AreRead c spans cursors → LosesAt place c.peers peers → AreRead (record c { peers = peers; replies = rs; rejoins = n }) spans cursors
+pub lost_read : (c : Control) (place n : ℕ) (peers : List Peer) (rs : List BarrierState) (spans : List Span) (cursors : List Cursor) → AreRead c spans cursors → LosesAt place c.peers peers → AreRead (record c { peers = peers; replies = rs; rejoins = n }) spans cursors
 lost_read c place n peers rs spans cursors a s =
     let x = subst (λ (zs : List Peer). AreRead (record c { peers = zs }) spans cursors) (sym s.now) (keeps_read c place s.peer (gone s.peer) spans cursors a s.here refl refl) in
     record { count = x.count; many = x.many; each = x.each; between = x.between }
@@ -144,7 +144,7 @@ lost_read c place n peers rs spans cursors a s =
 pub back_read : (c : Control) (place : ℕ) (peers : List Peer) (spans : List Span) (cursors : List Cursor) → AreRead c spans cursors → ReturnsAt place c.peers peers → AreRead (record c { peers = peers }) spans cursors
 back_read c place peers spans cursors a s = subst (λ (zs : List Peer). AreRead (record c { peers = zs }) spans cursors) (sym s.now) (keeps_read c place s.peer (returned s.peer) spans cursors a s.here refl refl)
 
-pub noted_read : (c : Control) (rs : List Awaited) (spans : List Span) (cursors : List Cursor) → AreRead c spans cursors → AreRead (record c { replies = rs }) spans cursors
+pub noted_read : (c : Control) (rs : List BarrierState) (spans : List Span) (cursors : List Cursor) → AreRead c spans cursors → AreRead (record c { replies = rs }) spans cursors
 noted_read c rs spans cursors a = record { count = a.count; many = a.many; each = a.each; between = a.between }
 
 met_read : (c : Control) (place : ℕ) (due : Bool) (x : Move) (s u : Peer) (span : Span) (spans : List Span) (cursors : List Cursor) → AreRead c spans cursors → slice_get c.peers place ≡ Some s → u.sw ≡ s.sw → u.next ≡ s.next → slice_get spans place ≡ Some span → AreRead (record c { peers = slice_set c.peers place (met due x u) }) spans (begun_again due x place span cursors)

@@ -4,10 +4,10 @@ use Rattle.nk_values.specs.declared.row.FlowMod.{FlowMod}
 use Rattle.openflow_wire.specs.declared.message.Message.{Message}
 use Rattle.openflow_wire.specs.declared.message.Message.TheVariants as to
 use Rattle.openflow_wire.specs.Writing.{Fits}
-use Rattle.barrier_tracker.specs.declared.tracker.Awaited.TheVariants as awaited
+use Rattle.barrier_tracker.specs.declared.tracker.BarrierState.TheVariants as awaited
 use Rattle.update_plan.specs.declared.cursor.Cursor.{Cursor}
 use Rattle.update_plan.specs.declared.cursor.Span.{Span}
-use Rattle.update_coordinator.specs.declared.batch.Read.{Read}
+use Rattle.update_coordinator.specs.declared.batch.NextDraft.{NextDraft}
 use Rattle.update_coordinator.specs.Controls.{Control, Peer, Order, Change, Fence, orders_of, unsent, batch_at, unsent_at}
 use Rattle.update_coordinator.specs.Kept.{IsControl}
 use Rattle.update_coordinator.specs.Sending.{went, expected, MaySend, IsSent}
@@ -177,7 +177,7 @@ pub read_none : {R : Type 0} (r : Option R) (c : Control) (place : ℕ) (s : Pee
 read_none (Some y) c place s x spans cursors a p q h = tt
 read_none None c place s x spans cursors a p q h = record { peer = s; here = p; left = a.each place s x p q ∙ h }
 
-pub read_some : (r : Option Read) (c : Control) (place : ℕ) (s : Peer) (x : Cursor) (spans : List Span) (cursors : List Cursor) → AreRead c spans cursors → slice_get c.peers place ≡ Some s → slice_get cursors place ≡ Some x →
+pub read_some : (r : Option NextDraft) (c : Control) (place : ℕ) (s : Peer) (x : Cursor) (spans : List Span) (cursors : List Cursor) → AreRead c spans cursors → slice_get c.peers place ≡ Some s → slice_get cursors place ≡ Some x →
     IfSome r (λ y. left_in c.versions c.phase s.sw s.next x ≡ drafted y.draft ∷ left_in c.versions c.phase s.sw (s.next + 1) y.cursor) → IfSome r (λ y. IsAtChange place (drafted y.draft) y.cursor c)
 read_some None c place s x spans cursors a p q h = tt
 read_some (Some y) c place s x spans cursors a p q h = record { peer = s; here = p; left = a.each place s x p q ∙ h }

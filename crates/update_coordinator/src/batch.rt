@@ -18,7 +18,7 @@ use update_plan::{Cursor, Share, Span, SwitchSpan, mod_of, read_next};
 
 /// The next flow mod of a batch, which is not made yet, and the cursor after it.
 #[derive(Clone, Copy)]
-pub(crate) struct Read<'a> {
+pub(crate) struct NextDraft<'a> {
     pub(crate) draft: Draft<'a>,
     pub(crate) cursor: Cursor,
 }
@@ -57,7 +57,7 @@ pub(crate) fn read_in(
     switch: SwitchSpan,
     next: usize,
     cursor: Cursor,
-) -> Option<Read<'_>>
+) -> Option<NextDraft<'_>>
     requires { AreBetween versions.now switch.sw switch.span }
     ensures none { IfNone result (left_in versions.now phase switch.sw next cursor ≡ []) }
     ensures some { IfSome result
@@ -77,7 +77,12 @@ pub(crate) fn read_in(
 }
 
 // Reads the next flow mod of a batch of rows.
-fn read_row(versions: &[Rows], phase: Phase, switch: SwitchSpan, cursor: Cursor) -> Option<Read<'_>>
+fn read_row(
+    versions: &[Rows],
+    phase: Phase,
+    switch: SwitchSpan,
+    cursor: Cursor,
+) -> Option<NextDraft<'_>>
     requires { AreBetween versions.now switch.sw switch.span }
     ensures none { IfNone result
         (left_by cursor (share_in phase) (coming_in versions.now phase) (going_in versions.now phase) switch.sw ≡ []) }
@@ -93,7 +98,7 @@ fn read_row(versions: &[Rows], phase: Phase, switch: SwitchSpan, cursor: Cursor)
         going_in(versions, phase),
         switch,
     )?;
-    Some(Read {
+    Some(NextDraft {
         draft: Draft::Row {
             adds: read.adds,
             row: read.row,
@@ -103,14 +108,14 @@ fn read_row(versions: &[Rows], phase: Phase, switch: SwitchSpan, cursor: Cursor)
 }
 
 // Reads the flow mod that empties a table, where it did not go out yet.
-fn wiping<'a>(next: usize, cursor: Cursor) -> Option<Read<'a>>
+fn wiping<'a>(next: usize, cursor: Cursor) -> Option<NextDraft<'a>>
     ensures none { IfNone result (drop next (wipe ∷ []) ≡ []) }
     ensures some { IfSome result (λ x. drop next (wipe ∷ []) ≡ drafted x.draft ∷ drop (next + 1) (wipe ∷ [])) }
 {
     if next > 0 {
         return None;
     }
-    Some(Read {
+    Some(NextDraft {
         draft: Draft::Wipe,
         cursor,
     })

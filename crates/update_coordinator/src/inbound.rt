@@ -9,7 +9,7 @@ use crate::coordinator::Coordinator;
 use crate::peers::{begin_phases, come_back, hear, lose};
 use crate::phase::Phase;
 use crate::refusal::Refusal;
-use barrier_tracker::Heard;
+use barrier_tracker::ReplyKind;
 use openflow_wire::{Message, WireFault};
 use session_core::Move;
 
@@ -157,12 +157,12 @@ impl Coordinator {
         ensures { IsAnswered place xid self.old self.new }
     {
         match self.replies.heard(place, xid) {
-            Heard::Last => {
+            ReplyKind::Last => {
                 let phase = self.phase.acknowledged(self.overlap, &self.rounds);
                 self.enter(phase);
             }
-            Heard::More => {}
-            Heard::Stray => {}
+            ReplyKind::More => {}
+            ReplyKind::Stray => {}
         }
     }
 

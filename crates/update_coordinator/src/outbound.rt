@@ -3,7 +3,7 @@
 //! Layer: updates; private. Adds calls to `Coordinator`.
 ghost use Rattle.std.specs.Prelude.{IsTrue, ◌↔◌, ◌≡◌, ◌<◌, None, Some, IfOk, OnErr, IfNone, IfSome, length, slice_get};
 
-use crate::batch::{Read, read_in};
+use crate::batch::{NextDraft, read_in};
 use crate::coordinator::Coordinator;
 use crate::peers::{self, fence, greet};
 use nk_values::FlowMod;
@@ -46,7 +46,7 @@ impl Coordinator {
             return Ok(self.greet(place));
         }
         match self.read(place) {
-            Some(Read { draft, cursor }) => {
+            Some(NextDraft { draft, cursor }) => {
                 let change = draft.make()?;
                 Ok(Some(self.send_change(place, change, cursor)))
             }
@@ -78,7 +78,7 @@ impl Coordinator {
     }
 
     // The next flow mod of the batch of the switch at a place.
-    fn read(&self, place: usize) -> Option<Read<'_>>
+    fn read(&self, place: usize) -> Option<NextDraft<'_>>
         requires within { place < length self.now.peers }
         ensures none { IfNone result (IsAtEnd place self.now) }
         ensures some { IfSome result (λ x. IsAtChange place (drafted x.draft) x.cursor self.now) }

@@ -4,7 +4,7 @@
 ghost use Rattle.std.specs.Prelude.{◌≡◌, ◌++◌, ◌∷◌, [], ◌-◌, ◌==◌, None, Some, IfOk, OnOk, take};
 ghost use Rattle.std.specs.List.{filter};
 ghost use Rattle.update_plan.specs.Batches.{internal_rows, ports_at};
-ghost use Rattle.update_coordinator.specs.Batches.{held, internal_of, part_at, part_len, part_of, planned, version_at};
+ghost use Rattle.update_coordinator.specs.Batches.{held, internal_of, portion_at, portion_len, portion_of, planned, version_at};
 
 use crate::batch::version_at;
 use crate::coordinator::Coordinator;
@@ -16,20 +16,20 @@ use update_plan::internal;
 
 /// How many rows are there of a list that comes or goes round by round.
 #[derive(Clone, Copy, PartialEq, Eq)]
-pub(crate) enum Part {
+pub(crate) enum Portion {
     /// A number of the first ones.
     First(usize),
     /// All but a number of the last ones.
     AllBut(usize),
 }
 
-impl Part {
+impl Portion {
     fn len(self, all: usize) -> usize
-        ensures { result ≡ part_len self all }
+        ensures { result ≡ portion_len self all }
     {
         match self {
-            Part::First(count) => count,
-            Part::AllBut(count) => all.saturating_sub(count),
+            Portion::First(count) => count,
+            Portion::AllBut(count) => all.saturating_sub(count),
         }
     }
 }
@@ -98,20 +98,34 @@ fn held_in(alloc: Global, versions: &[Rows], phase: Phase, sw: u16) -> Result<Ve
     match phase {
         Phase::Opening => Ok(Vec::new(alloc)),
         Phase::Idle(i) | Phase::Clean(i) | Phase::Tidy(i) | Phase::Sweep(i, _) => {
-            rows_of(alloc, versions, i, sw, Part::AllBut(0))
+            rows_of(alloc, versions, i, sw, Portion::AllBut(0))
         }
-        Phase::Install(i) => both(alloc, versions, i, sw, Part::AllBut(0), Part::First(0)),
+        Phase::Install(i) => both(
+            alloc,
+            versions,
+            i,
+            sw,
+            Portion::AllBut(0),
+            Portion::First(0),
+        ),
         Phase::Flip(i, round) => {
             both(
                 alloc,
                 versions,
                 i,
                 sw,
-                Part::AllBut(round),
-                Part::First(round),
+                Portion::AllBut(round),
+                Portion::First(round),
             )
         }
-        Phase::Drain(i) => both(alloc, versions, i, sw, Part::First(0), Part::AllBut(0)),
+        Phase::Drain(i) => both(
+            alloc,
+            versions,
+            i,
+            sw,
+            Portion::First(0),
+            Portion::AllBut(0),
+        ),
     }
 }
 
@@ -121,10 +135,10 @@ fn both(
     versions: &[Rows],
     policy: usize,
     sw: u16,
-    old: Part,
-    new: Part,
+    old: Portion,
+    new: Portion,
 ) -> Result<Vec<Row>, AllocError>
-    ensures { IfOk result (λ v. v.items ≡ part_of old (version_at versions.now (policy - 1)) sw ++ part_of new
+    ensures { IfOk result (λ v. v.items ≡ portion_of old (version_at versions.now (policy - 1)) sw ++ portion_of new
         (version_at versions.now policy) sw) }
 {
     let mut rows = rows_of(alloc, versions, policy.saturating_sub(1), sw, old)?;
@@ -139,13 +153,13 @@ fn rows_of(
     versions: &[Rows],
     policy: usize,
     sw: u16,
-    part: Part,
+    portion: Portion,
 ) -> Result<Vec<Row>, AllocError>
-    ensures { IfOk result (λ v. v.items ≡ part_of part (version_at versions.now policy) sw) }
+    ensures { IfOk result (λ v. v.items ≡ portion_of portion (version_at versions.now policy) sw) }
 {
     match version_at(versions, policy) {
         None => Ok(Vec::new(alloc)),
-        Some(rows) => rows_at(alloc, rows.band, rows.ports.as_slice(), sw, part),
+        Some(rows) => rows_at(alloc, rows.band, rows.ports.as_slice(), sw, portion),
     }
 }
 
@@ -154,26 +168,26 @@ fn rows_at(
     band: Band,
     ports: &[PortRows],
     sw: u16,
-    part: Part,
+    portion: Portion,
 ) -> Result<Vec<Row>, AllocError>
-    ensures { IfOk result (λ v. v.items ≡ part_at part band (filter (λ p. p.sw == sw) ports.now)) }
+    ensures { IfOk result (λ v. v.items ≡ portion_at portion band (filter (λ p. p.sw == sw) ports.now)) }
 {
     let mut rows = Vec::new(alloc);
     for port in ports {
         if port.sw == sw {
-            append(alloc, &mut rows, there(band, port, part))?;
+            append(alloc, &mut rows, there(band, port, portion))?;
         }
     }
     Ok(rows)
 }
 
-// The rows of a port that are there: all that come and go at once, and a part of those that do round by round.
-fn there(band: Band, port: &PortRows, part: Part) -> &[Row]
-    ensures { result.now ≡ part_at part band (port.now ∷ []) }
+// The rows of a port that are there: all that come and go at once, and a portion of those that do round by round.
+fn there(band: Band, port: &PortRows, portion: Portion) -> &[Row]
+    ensures { result.now ≡ portion_at portion band (port.now ∷ []) }
 {
     let rows = port.rows.as_slice();
     match (band, port.kind) {
-        (Band::High, PortKind::Edge) => first(rows, part.len(rows.len())),
+        (Band::High, PortKind::Edge) => first(rows, portion.len(rows.len())),
         _ => rows,
     }
 }

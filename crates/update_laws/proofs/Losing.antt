@@ -6,8 +6,8 @@ use Rattle.nk_values.specs.Members.{IsIn}
 use Rattle.openflow_wire.specs.declared.message.Message.{Message}
 use Rattle.openflow_wire.specs.declared.message.Message.TheVariants as to
 use Rattle.openflow_wire.specs.RowChanges.{mod_of}
-use Rattle.update_coordinator.specs.Awaited.{Awaited}
-use Rattle.update_coordinator.specs.Awaited.TheVariants as replies
+use Rattle.update_coordinator.specs.BarrierState.{BarrierState}
+use Rattle.update_coordinator.specs.BarrierState.TheVariants as replies
 use Rattle.update_coordinator.specs.Replies.{unowed}
 use Rattle.update_coordinator.specs.Controls.{Greet}
 use Rattle.update_coordinator.specs.Hearing.{is_due}
@@ -21,13 +21,13 @@ use Rattle.update_laws.proofs.Stepping.{false-true}
 use Rattle.update_laws.proofs.Beginning.{none-todo, rested, in-job}
 
 -- a reply that is no longer waited for does not say that the switch was heard
-pub due-unowed : (w : Bool) (a : Awaited) → is_due w (Some (unowed a)) ≡ is_due w (Some a)
+pub due-unowed : (w : Bool) (a : BarrierState) → is_due w (Some (unowed a)) ≡ is_due w (Some a)
 due-unowed false a = refl
 due-unowed true replies.Nothing = refl
 due-unowed true (replies.Reply x) = refl
 due-unowed true replies.Heard = refl
 
-free-unowed : (a : Awaited) → AwaitsNone (unowed a)
+free-unowed : (a : BarrierState) → AwaitsNone (unowed a)
 free-unowed replies.Nothing = inl refl
 free-unowed (replies.Reply x) = inl refl
 free-unowed replies.Heard = inr refl

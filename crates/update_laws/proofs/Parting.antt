@@ -4,7 +4,7 @@ use Rattle.std.proofs.lemmas.Bool.{cases_lt}
 use native.Mathlib.Decide.{ℕ_discrete}
 use Rattle.nk_values.specs.declared.packet.Packet.{Packet}
 use Rattle.nk_values.specs.declared.row.Row.{Row}
-use Rattle.nk_values.specs.declared.sent.Sent.{Sent}
+use Rattle.nk_values.specs.declared.sent.SentPacket.{SentPacket}
 use Rattle.nk_values.specs.Members.{IsIn, EachOnce, Pairs}
 use Rattle.nk_values.specs.Packets.{IsWellShaped}
 use Rattle.nk_values.specs.Trails.{Trail, one_packet, IsPast, HaveParted}
@@ -77,10 +77,10 @@ from-others before f after h g m = elim (in-either before after g m) [
 ]
 
 -- what a flight becomes has parted from what it had parted from
-next-forked : (t : Layout) (f : Flight) (sent : List Sent) (g h : Flight) → ComesApart t f sent → HaveForked g f → IsIn (all_flights t f sent) h → HaveForked g h
+next-forked : (t : Layout) (f : Flight) (sent : List SentPacket) (g h : Flight) → ComesApart t f sent → HaveForked g f → IsIn (all_flights t f sent) h → HaveForked g h
 next-forked t f sent g h s k m = λ e. parted-on g.history f.history g.history h.history (k (e ∙ own-arrival t f sent h m)) (past-self g.history) (s.went_on h m)
 
-flights-forked : (t : Layout) (f : Flight) (sent : List Sent) → ComesApart t f sent → Pairs HaveForked (all_flights t f sent)
+flights-forked : (t : Layout) (f : Flight) (sent : List SentPacket) → ComesApart t f sent → Pairs HaveForked (all_flights t f sent)
 flights-forked t f sent s = pairs-weaker (λ g h. HaveParted g.history h.history) HaveForked (all_flights t f sent) (λ g h m n d e. d) s.flights
 
 -- the arrival at a place when one has changed
@@ -93,10 +93,10 @@ one-changed arrivals m a b there n x e =
     ]
 
 -- what rows that answer send of a copy parts
-answered-parts : (t : Layout) (c : Setting) (u : ℕ) (f : Flight) (sent : List Sent) → Answered t c u f.history.newest f.tag sent → ComesApart t f sent
-answered-parts t c u f sent a = subst (λ (xs : List Sent). ComesApart t f xs) (sym a.sends) (hops-part t (c.policy (suc u)) (c.stamp (suc u)) a.rows f a.answers)
+answered-parts : (t : Layout) (c : Setting) (u : ℕ) (f : Flight) (sent : List SentPacket) → Answered t c u f.history.newest f.tag sent → ComesApart t f sent
+answered-parts t c u f sent a = subst (λ (xs : List SentPacket). ComesApart t f xs) (sym a.sends) (hops-part t (c.policy (suc u)) (c.stamp (suc u)) a.rows f a.answers)
 
-module _ (t : Layout) (k : ℕ) (flights : List Flight) (f : Flight) (a : Arrived) (sent : List Sent) (arrivals : List Arrived) (here : slice_get flights k ≡ Some f) (there : slice_get arrivals f.arrival ≡ Some a) (s : ComesApart t f sent) (h : AreApart flights arrivals) where
+module _ (t : Layout) (k : ℕ) (flights : List Flight) (f : Flight) (a : Arrived) (sent : List SentPacket) (arrivals : List Arrived) (here : slice_get flights k ≡ Some f) (there : slice_get arrivals f.arrival ≡ Some a) (s : ComesApart t f sent) (h : AreApart flights arrivals) where
   -- the other flights are apart from it
   others-forked : (g : Flight) → IsIn (remove flights k) g → HaveForked g f
   others-forked g m =
@@ -164,7 +164,7 @@ hop-apart t c same s swept ph within sw left rows table k f a finished next flig
 
 -- ---- Arrive
 
-arrive-parts : (t : Layout) (f : Flight) (a : Arrived) (sent : List Sent) (flights : List Flight) (arrivals : List Arrived) → f.arrival ≡ length arrivals → a.finished ≡ all_ends t f sent → ((g : Flight) → IsIn flights g → g.arrival < length arrivals) →
+arrive-parts : (t : Layout) (f : Flight) (a : Arrived) (sent : List SentPacket) (flights : List Flight) (arrivals : List Arrived) → f.arrival ≡ length arrivals → a.finished ≡ all_ends t f sent → ((g : Flight) → IsIn flights g → g.arrival < length arrivals) →
     ComesApart t f sent → AreApart flights arrivals → AreApart (flights ++ all_flights t f sent) (arrivals ++ a ∷ [])
 arrive-parts t f a sent flights arrivals number ends known s h = record {
   finished_once = λ n x e. elim (among arrivals a n x e) [
@@ -185,8 +185,8 @@ arrive-parts t f a sent flights arrivals number ends known s h = record {
   ];
 }
 
-comes-parts : (t : Layout) (c : Setting) (ph : Phase) (f : Flight) (sent : List Sent) → Comes t c ph f.history.newest f.tag sent → ComesApart t f sent
-comes-parts t c ph f sent (Lost q names none e) = subst (λ (xs : List Sent). ComesApart t f xs) (sym e) (parts t f [] tt)
+comes-parts : (t : Layout) (c : Setting) (ph : Phase) (f : Flight) (sent : List SentPacket) → Comes t c ph f.history.newest f.tag sent → ComesApart t f sent
+comes-parts t c ph f sent (Lost q names none e) = subst (λ (xs : List SentPacket). ComesApart t f xs) (sym e) (parts t f [] tt)
 comes-parts t c ph f sent (Taken u names none a) = answered-parts t c u f sent a
 
 pub arrive-apart : (t : Layout) (c : Setting) → c.wiring ≡ wiring t → IsSetting c → (swept : ℕ) (ph : Phase) → Within c swept ph → (sw : ℕ) (left : Row → Type 0) (rows : List Row) →

@@ -15,5 +15,5 @@ pub use batch::{Batch, Batches};
 pub use cursor::{Cursor, RowIndex, Share, Span, SwitchSpan};
 pub use places::internal;
 pub use planning::{mod_of, plan, plan_at, plan_for, round_count};
-pub use reading::{Read, read_next};
+pub use reading::{NextRow, read_next};
 pub use switch_plan::{Plan, SwitchPlan};

@@ -11,7 +11,7 @@ use nk_values::{Row, Rows};
 
 /// The row that comes or goes next in a batch, and the cursor after it.
 #[derive(Clone, Copy)]
-pub struct Read<'a> {
+pub struct NextRow<'a> {
     /// Whether the row comes. If not, it goes.
     pub adds: bool,
     pub row: &'a Row,
@@ -20,7 +20,7 @@ pub struct Read<'a> {
 
 // The next row of one side of a batch, and the place after it.
 #[derive(Clone, Copy)]
-struct SideRead<'a> {
+struct SideRow<'a> {
     row: &'a Row,
     at: RowIndex,
 }
@@ -32,7 +32,7 @@ pub fn read_next<'a>(
     new: Option<&'a Rows>,
     old: Option<&'a Rows>,
     switch: SwitchSpan,
-) -> Option<Read<'a>>
+) -> Option<NextRow<'a>>
     requires new { IsSpan switch.span switch.sw (ports_of (option_map (λ r. r.now) new)) }
     requires old { IsSpan switch.span switch.sw (ports_of (option_map (λ r. r.now) old)) }
     ensures none { IfNone result
@@ -46,7 +46,7 @@ pub fn read_next<'a>(
         return read_going(cursor.at, share, old, switch);
     }
     if let Some(read) = read_side(cursor.at, share, true, new, switch) {
-        return Some(Read {
+        return Some(NextRow {
             adds: true,
             row: read.row,
             cursor: Cursor {
@@ -60,7 +60,11 @@ pub fn read_next<'a>(
 
 // Reads the row of the first flow mod of what goes.
 #[tactic(auto, using(crate::proofs::Cursors::goes_first))]
-fn read_first_going<'a>(share: Share, old: Option<&'a Rows>, switch: SwitchSpan) -> Option<Read<'a>>
+fn read_first_going<'a>(
+    share: Share,
+    old: Option<&'a Rows>,
+    switch: SwitchSpan,
+) -> Option<NextRow<'a>>
     requires { IsSpan switch.span switch.sw (ports_of (option_map (λ r. r.now) old)) }
     ensures none { IfNone result (side share false (option_map (λ r. r.now) old.entry) switch.sw ≡ []) }
     ensures some { IfSome result
@@ -81,7 +85,7 @@ fn read_going<'a>(
     share: Share,
     old: Option<&'a Rows>,
     switch: SwitchSpan,
-) -> Option<Read<'a>>
+) -> Option<NextRow<'a>>
     requires { IsSpan switch.span switch.sw (ports_of (option_map (λ r. r.now) old)) }
     ensures none { IfNone result (side_from share false (option_map (λ r. r.now) old.entry) switch.sw at ≡ []) }
     ensures some { IfSome result
@@ -90,7 +94,7 @@ fn read_going<'a>(
         share false (option_map (λ r. r.now) old.entry) switch.sw x.cursor.at)) }
 {
     let read = read_side(at, share, false, old, switch)?;
-    Some(Read {
+    Some(NextRow {
         adds: false,
         row: read.row,
         cursor: Cursor {
@@ -107,7 +111,7 @@ fn read_side<'a>(
     adds: bool,
     rows: Option<&'a Rows>,
     switch: SwitchSpan,
-) -> Option<SideRead<'a>>
+) -> Option<SideRow<'a>>
     requires { IsSpan switch.span switch.sw (ports_of (option_map (λ r. r.now) rows)) }
     ensures none { IfNone result (side_from share adds (option_map (λ r. r.now) rows.entry) switch.sw at ≡ []) }
     ensures some { IfSome result
@@ -123,7 +127,7 @@ fn read_side<'a>(
     let Some(row) = row_at(found, share, adds, rows, switch.sw) else {
         return None;
     };
-    Some(SideRead {
+    Some(SideRow {
         row,
         at: RowIndex {
             port: found.port,

@@ -13,17 +13,17 @@ use outside_net::Link;
 use std::alloc::AllocError;
 
 /// The kind of the step that a call made, if it made one.
-pub type Made = Option<StepKind>;
+pub type MadeStep = Option<StepKind>;
 
 /// What a worker is to do next.
 #[derive(Drop)]
-pub enum Given<E> {
+pub enum WorkerTask<E> {
     /// To send this message.
-    Out { message: Message, made: Made },
+    Out { message: Message, made: MadeStep },
     /// To receive: a message is on its way to it.
-    Expect { made: Made },
+    Expect { made: MadeStep },
     /// To ask again.
-    Nothing { made: Made },
+    Nothing { made: MadeStep },
     /// To begin a new session over this end.
     NewEnd(E),
     /// To stop.
@@ -32,9 +32,9 @@ pub enum Given<E> {
 
 /// What became of what a worker told, and of its end.
 #[derive(Drop)]
-pub enum Told<E> {
+pub enum TellResult<E> {
     /// The end comes back.
-    Back { end: E, made: Made },
+    Back { end: E, made: MadeStep },
     /// The step that ends the session was made, and the end is kept with it.
     Kept,
     /// Out of memory: no step was made, and the end comes back.
@@ -43,7 +43,7 @@ pub enum Told<E> {
 
 /// What a worker without an open end is to do.
 #[derive(Drop)]
-pub enum Shut<E> {
+pub enum IdleTask<E> {
     /// To begin a new session over this end.
     NewEnd(E),
     /// To ask again.
@@ -85,7 +85,7 @@ pub trait Desk {
 
     /// What is to be done next. A message that is given can be written. Out of memory a step may have been made; its
     /// message is given later.
-    fn give(&self, seat: &mut Self::Seat) -> Result<Given<Self::End>, AllocError>
+    fn give(&self, seat: &mut Self::Seat) -> Result<WorkerTask<Self::End>, AllocError>
         requires { seated seat.old }
         ensures seat { seated seat.new × (place seat.new ≡ place seat.old) }
         ensures fits { IfOk result CanBeWritten }
@@ -97,7 +97,13 @@ pub trait Desk {
 
     /// Tells the bytes of one message that came over this end, after k that were told before; or, if the stream has a
     /// fault after these, the bytes that are held there.
-    fn tell(&self, seat: &mut Self::Seat, bytes: &[u8], end: Self::End, k: u64) -> Told<Self::End>
+    fn tell(
+        &self,
+        seat: &mut Self::Seat,
+        bytes: &[u8],
+        end: Self::End,
+        k: u64,
+    ) -> TellResult<Self::End>
         requires seat { seated seat.old }
         requires name { place_of (Self.End.named end) ≡ place seat.old }
         requires stream { TellsWhereKnown (Self.End.received end) k bytes.now }
@@ -109,7 +115,7 @@ pub trait Desk {
         ensures notices { notices seat.new ≡ notices seat.old };
 
     /// Tells that a call on this end failed.
-    fn lost(&self, seat: &mut Self::Seat, end: Self::End) -> Told<Self::End>
+    fn lost(&self, seat: &mut Self::Seat, end: Self::End) -> TellResult<Self::End>
         requires seat { seated seat.old }
         requires name { place_of (Self.End.named end) ≡ place seat.old }
         requires failed { 0 < Self.End.faults end }
@@ -121,7 +127,7 @@ pub trait Desk {
         ensures notices { notices seat.new ≡ grown (notices seat.old) (Lost (Self.End.named end) ∷ []) };
 
     /// Asks what to do without an open end: to begin a new session, or to stop. It makes no step.
-    fn shut(&self, seat: &mut Self::Seat) -> Shut<Self::End>
+    fn shut(&self, seat: &mut Self::Seat) -> IdleTask<Self::End>
         requires { seated seat.old }
         ensures seat { seated seat.new × (place seat.new ≡ place seat.old) }
         ensures named { OnShutNewEnd (λ e. place_of (Self.End.named e) ≡ place seat.old) result }

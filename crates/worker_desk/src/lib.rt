@@ -7,6 +7,6 @@ mod desk;
 mod gate;
 mod host;
 
-pub use desk::{Desk, Given, Made, Shut, Told};
+pub use desk::{Desk, IdleTask, MadeStep, TellResult, WorkerTask};
 pub use gate::{Gate, Moment, OpenGate, StepKind};
 pub use host::Host;

@@ -15,11 +15,11 @@ mod sessions;
 mod telling;
 
 use crate::messages::{Transfer, send_message};
-use crate::passing::Who;
+use crate::passing::WorkerName;
 use of_framing::Framer;
 use openflow_wire::Message;
 use std::alloc::Global;
-use worker_desk::{Desk, Gate, Given, Told};
+use worker_desk::{Desk, Gate, TellResult, WorkerTask};
 
 /// How a cycle of a worker ended.
 #[derive(Drop)]
@@ -51,7 +51,7 @@ pub struct Post<'a, D: Desk, G: Gate> {
     pub alloc: Global,
     pub desk: &'a D,
     pub gate: &'a G,
-    pub who: Who,
+    pub who: WorkerName,
 }
 
 impl<'a, D: Desk, G: Gate> Post<'a, D, G> {
@@ -77,17 +77,17 @@ impl<'a, D: Desk, G: Gate> Post<'a, D, G> {
                 self.desk.close(seat);
                 CycleEnd::Memory(end)
             }
-            Ok(Given::Stop) => CycleEnd::Stop(end),
-            Ok(Given::NewEnd(new)) => CycleEnd::New { old: end, new },
-            Ok(Given::Nothing { made }) => {
+            Ok(WorkerTask::Stop) => CycleEnd::Stop(end),
+            Ok(WorkerTask::NewEnd(new)) => CycleEnd::New { old: end, new },
+            Ok(WorkerTask::Nothing { made }) => {
                 self.who.after(self.gate, made);
                 CycleEnd::Going(end)
             }
-            Ok(Given::Out { message, made }) => {
+            Ok(WorkerTask::Out { message, made }) => {
                 self.who.after(self.gate, made);
                 self.send_cycle(seat, end, &message)
             }
-            Ok(Given::Expect { made }) => {
+            Ok(WorkerTask::Expect { made }) => {
                 self.who.after(self.gate, made);
                 self.who.before_tell(self.gate);
                 self.receive_cycle(seat, end, inbox)
@@ -133,9 +133,9 @@ impl<'a, D: Desk, G: Gate> Post<'a, D, G> {
             → Notes ⊥ D.End.faults (D.kept seat.new) name before (D.notices seat.old) (D.notices seat.new) result }
     {
         match self.desk.lost(seat, end) {
-            Told::Back { end, made: _ } => CycleEnd::Shut(end),
-            Told::Kept => CycleEnd::Kept,
-            Told::Memory(end) => {
+            TellResult::Back { end, made: _ } => CycleEnd::Shut(end),
+            TellResult::Kept => CycleEnd::Kept,
+            TellResult::Memory(end) => {
                 self.desk.close(seat);
                 CycleEnd::Memory(end)
             }

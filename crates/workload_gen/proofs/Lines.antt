@@ -6,7 +6,7 @@ use Rattle.nk_values.specs.declared.field.Field.TheVariants.{Sw, Pt, EthTyp, IpP
 use Rattle.nk_values.specs.Members.{IsIn}
 use Rattle.nk_values.specs.Packets.{IsInRange, IsWellShaped}
 use Rattle.nk_values.proofs.MemberLaws.{in-left, in-flat_map}
-use Rattle.topology_model.specs.Network.{Place}
+use Rattle.topology_model.specs.Network.{Location}
 use Rattle.topology_model.specs.declared.line.DeclaredSwitch.{DeclaredSwitch}
 use Rattle.topology_model.specs.Layouts.{Layout, edges_of, has_port, is_linked, far_end}
 use Rattle.topology_model.specs.Lines.{layout_of, sites_in}
@@ -42,7 +42,7 @@ site-in s i l h =
     (in-left (map switch_line (numbers 1 s)) (map link_line (numbers 1 (s - 1))) (switch_line i) (map-in switch_line (numbers 1 s) i (number-in 1 s i l (omega (arith, h))))) (inl refl)
 
 -- port 3 of a switch has no link
-pub host-port : (s : ℕ) (a : Place) → 1 ≤ a.sw → a.sw ≤ s → a.pt ≡ 3 → IsIn (edges_of (layout_of (topology_lines s))) a
+pub host-port : (s : ℕ) (a : Location) → 1 ≤ a.sw → a.sw ≤ s → a.pt ≡ 3 → IsIn (edges_of (layout_of (topology_lines s))) a
 host-port s a l h three = test_edge t a (both (has_port t.switches a) (is_linked t a) declared free)
   where
     t : Layout
@@ -51,7 +51,7 @@ host-port s a l h three = test_edge t a (both (has_port t.switches a) (is_linked
     declared : has_port t.switches a ≡ true
     declared = has t.switches (site a.sw) a (site-in s a.sw l h) refl (inr (inr (inl (sym three))))
 
-    none : (o : Option Place) → far_end t.links a ≡ o → is_some o ≡ false
+    none : (o : Option Location) → far_end t.links a ≡ o → is_some o ≡ false
     none None e = refl
     none (Some b) e = elim (line-links s a b (joined t.links a b e)) [ inl u ↦ absurd (omega (arith, three, u.from_port)) | inr u ↦ absurd (omega (arith, three, u.to_port)) ]
 

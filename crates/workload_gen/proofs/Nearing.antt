@@ -2,7 +2,7 @@
 use Rattle.std.proofs.Common.{◌≡◌, ℕ, suc, ◌+◌, ◌-◌, ◌^◌, ◌<◌, ◌≤◌, inl, inr, List, ◌++◌, length, refl, sym, ◌∙◌, ap, subst, Option, Some, remove, slice_get, arith}
 use Rattle.std.proofs.Math.Nat.{min-le_left}
 use Rattle.nk_values.specs.declared.packet.Packet.{Packet}
-use Rattle.nk_values.specs.declared.sent.Sent.{Sent}
+use Rattle.nk_values.specs.declared.sent.SentPacket.{SentPacket}
 use Rattle.nk_values.specs.Members.{IsIn}
 use Rattle.nk_values.specs.Tags.{IsTag}
 use Rattle.nk_values.specs.Trails.{Trail}
@@ -46,13 +46,13 @@ policy-is s w l u h =
     (p.0, ap (λ (o : Option Version). policy_in o) v.1 ∙ p.1)
 
 -- what goes on of a copy that a policy answers
-gone-on : (s : ℕ) (w : WorldValue) → IsLine s w → Keeps w → (u : ℕ) (f g : Flight) (sent : List Sent) → Answered w.topology (setting w) u f.history.newest f.tag sent → f.hops + distance f.history.newest.sw f.history.newest.header.eth_dst < s →
+gone-on : (s : ℕ) (w : WorldValue) → IsLine s w → Keeps w → (u : ℕ) (f g : Flight) (sent : List SentPacket) → Answered w.topology (setting w) u f.history.newest f.tag sent → f.hops + distance f.history.newest.sw f.history.newest.header.eth_dst < s →
     IsIn (all_flights w.topology f sent) g → IsNear s g
 gone-on s w l k u f g sent a near m =
     let c = setting w in
     let p = policy-is s w l u a.there in
     let plain = ((set w k).versions u a.there).plain in
-    let r = flights-next w.topology (c.policy (suc u)) (c.stamp (suc u)) a.rows f k.topology.sound plain.bare a.answers g (subst (λ (xs : List Sent). IsIn (all_flights w.topology f xs) g) a.sends m) in
+    let r = flights-next w.topology (c.policy (suc u)) (c.stamp (suc u)) a.rows f k.topology.sound plain.bare a.answers g (subst (λ (xs : List SentPacket). IsIn (all_flights w.topology f xs) g) a.sends m) in
     let q : Packet = sent_packet f.history.newest.sw r.0 in
     let o : IsSentOn s f.history.newest q = sent-on s p.0 _ f.history.newest q p.1 (a.answers.results r.0 r.1) in
     let link : IsIn (layout_of (topology_lines s)).links (standing q, r.2.end) = subst (λ (t : Layout). IsIn t.links (standing q, r.2.end)) l.topology r.2.link in
@@ -106,7 +106,7 @@ arrive-near s pk tag w v h l q here near = subst (λ (x : WorldValue). AreNear s
     f = first_copy pk tag (length w.arrivals)
 
     from : (g : Flight) → Comes w.topology (setting w) w.fleet.control.phase pk tag h.handled.sent → IsIn (all_flights w.topology f h.handled.sent) g → IsNear s g
-    from g (Lost n names none e) m = absurd (subst (λ (xs : List Sent). IsIn (all_flights w.topology f xs) g) e m)
+    from g (Lost n names none e) m = absurd (subst (λ (xs : List SentPacket). IsIn (all_flights w.topology f xs) g) e m)
     from g (Taken u names none a) m = gone-on s w l q u f g h.handled.sent a (omega (arith, here)) m
 
     each : AreNear s (w.flights ++ h.next)

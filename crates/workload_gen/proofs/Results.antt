@@ -6,7 +6,7 @@ use Rattle.std.proofs.lemmas.Bool.Decides.{Decides-eqb}
 use Rattle.std.proofs.lemmas.Bool.{ltb-true, ltb-false}
 use Rattle.nk_values.specs.Members.{IsIn}
 use Rattle.nk_values.proofs.MemberLaws.{in-either, from-flat_map}
-use Rattle.topology_model.specs.Network.{Place}
+use Rattle.topology_model.specs.Network.{Location}
 use Rattle.topology_model.specs.declared.line.TopoLine.{TopoLine}
 use Rattle.topology_model.specs.Lines.{layout_of, links_in}
 use Rattle.workload_laws.specs.Workload.{numbers, exit}
@@ -16,7 +16,7 @@ use Rattle.workload_gen.specs.Documents.{switch_line, link_line, topology_lines}
 -- ---- links
 
 -- a link goes up the line, or down
-pub record IsUp (s : ℕ) (a b : Place) : Type 0 where
+pub record IsUp (s : ℕ) (a b : Location) : Type 0 where
   pub from_port : a.pt ≡ 2
   pub to_port : b.pt ≡ 1
   pub next : b.sw ≡ a.sw + 1
@@ -24,7 +24,7 @@ pub record IsUp (s : ℕ) (a b : Place) : Type 0 where
   pub last : b.sw ≤ s
 
 links-of : (s : ℕ) (ls : List TopoLine) → ((l : TopoLine) → IsIn ls l → ((i : ℕ) × (l ≡ switch_line i)) ⊎ ((i : ℕ) × (1 ≤ i) × (i + 1 ≤ s) × (l ≡ link_line i))) →
-    (a b : Place) → IsIn (flat_map links_in ls) (a, b) → IsUp s a b ⊎ IsUp s b a
+    (a b : Location) → IsIn (flat_map links_in ls) (a, b) → IsUp s a b ⊎ IsUp s b a
 links-of s ls each a b m =
     let r = from-flat_map links_in ls (a, b) m in
     elim (each r.0 r.1) [
@@ -34,22 +34,22 @@ links-of s ls each a b m =
   where
     of : (i : ℕ) → 1 ≤ i → i + 1 ≤ s → IsIn (links_in (link_line i)) (a, b) → IsUp s a b ⊎ IsUp s b a
     of i low high (inl e) = inl (record {
-      from_port = sym (ap (λ (l : Place × Place). l.0.pt) e);
-      to_port = sym (ap (λ (l : Place × Place). l.1.pt) e);
-      next = sym (ap (λ (l : Place × Place). l.1.sw) e) ∙ ap (λ (l : Place × Place). l.0.sw + 1) e;
-      first = subst (λ (n : ℕ). 1 ≤ n) (ap (λ (l : Place × Place). l.0.sw) e) low;
-      last = subst (λ (n : ℕ). n ≤ s) (ap (λ (l : Place × Place). l.1.sw) e) high;
+      from_port = sym (ap (λ (l : Location × Location). l.0.pt) e);
+      to_port = sym (ap (λ (l : Location × Location). l.1.pt) e);
+      next = sym (ap (λ (l : Location × Location). l.1.sw) e) ∙ ap (λ (l : Location × Location). l.0.sw + 1) e;
+      first = subst (λ (n : ℕ). 1 ≤ n) (ap (λ (l : Location × Location). l.0.sw) e) low;
+      last = subst (λ (n : ℕ). n ≤ s) (ap (λ (l : Location × Location). l.1.sw) e) high;
     })
     of i low high (inr (inl e)) = inr (record {
-      from_port = sym (ap (λ (l : Place × Place). l.1.pt) e);
-      to_port = sym (ap (λ (l : Place × Place). l.0.pt) e);
-      next = sym (ap (λ (l : Place × Place). l.0.sw) e) ∙ ap (λ (l : Place × Place). l.1.sw + 1) e;
-      first = subst (λ (n : ℕ). 1 ≤ n) (ap (λ (l : Place × Place). l.1.sw) e) low;
-      last = subst (λ (n : ℕ). n ≤ s) (ap (λ (l : Place × Place). l.0.sw) e) high;
+      from_port = sym (ap (λ (l : Location × Location). l.1.pt) e);
+      to_port = sym (ap (λ (l : Location × Location). l.0.pt) e);
+      next = sym (ap (λ (l : Location × Location). l.0.sw) e) ∙ ap (λ (l : Location × Location). l.1.sw + 1) e;
+      first = subst (λ (n : ℕ). 1 ≤ n) (ap (λ (l : Location × Location). l.1.sw) e) low;
+      last = subst (λ (n : ℕ). n ≤ s) (ap (λ (l : Location × Location). l.0.sw) e) high;
     })
     of i low high (inr (inr e)) = absurd e
 
-pub line-links : (s : ℕ) (a b : Place) → IsIn (layout_of (topology_lines s)).links (a, b) → IsUp s a b ⊎ IsUp s b a
+pub line-links : (s : ℕ) (a b : Location) → IsIn (layout_of (topology_lines s)).links (a, b) → IsUp s a b ⊎ IsUp s b a
 line-links s = links-of s (topology_lines s) (λ l m. elim (in-either (map switch_line (numbers 1 s)) (map link_line (numbers 1 (s - 1))) l m) [
   | inl h ↦ let r = in_map switch_line (numbers 1 s) l h in inl (r.0, sym r.2)
   | inr h ↦ let r = in_map link_line (numbers 1 (s - 1)) l h in let k = in_numbers 1 (s - 1) r.0 r.1 in inr (r.0, k.0, omega (arith, k.1), sym r.2)
@@ -79,7 +79,7 @@ up-or-down i d = split (d == i) (nat_lt i d) refl refl
             apart x y h n = grind (arith, h, n)
 
 -- a link that the exit leads to goes one switch nearer to the destination
-pub nearer : (s d : ℕ) (a b : Place) → a.pt ≡ exit a.sw d → IsUp s a b ⊎ IsUp s b a → (1 ≤ b.sw) × (b.sw ≤ s) × (suc (distance b.sw d) ≡ distance a.sw d)
+pub nearer : (s d : ℕ) (a b : Location) → a.pt ≡ exit a.sw d → IsUp s a b ⊎ IsUp s b a → (1 ≤ b.sw) × (b.sw ≤ s) × (suc (distance b.sw d) ≡ distance a.sw d)
 nearer s d a b e (inl u) = elim (up-or-down a.sw d) [
   | inl x ↦ (omega (arith, u.next), u.last, omega (arith, u.next, x.1))
   | inr (inl x) ↦ absurd (omega (arith, e, x.0, u.from_port))

@@ -15,7 +15,7 @@ use Rattle.update_coordinator.specs.SessionFault.TheVariants.{Incompatible, Wron
 use Rattle.update_coordinator.specs.Sessions.{move_of, move_in, anywhere}
 use Rattle.update_laws.specs.Switches.{answer_of, taken}
 use Rattle.update_coordinator.specs.Replies.{Awaits}
-use Rattle.update_coordinator.specs.Awaited.{Awaited}
+use Rattle.update_coordinator.specs.BarrierState.{BarrierState}
 use Rattle.update_coordinator.specs.declared.cause.Cause.{Cause}
 use Rattle.update_coordinator.specs.Controls.{Control}
 use Rattle.update_coordinator.specs.Hearing.{IsMoved}
@@ -194,7 +194,7 @@ hears-on c place f g h i mute = ap (λ (z : Fleet). z.control.halt) h.now ∙ mo
         no-fault h.heard.peer.session.state h.heard.peer.session.datapath h.message live quiet (move ∙ ap moves.Failed (heard.fault x (sym heard.is ∙ move)))
 
     owed : (x : ℕ) → h.move ≡ moves.Barrier x → Awaits f.control.replies place x
-    owed x q = there.reply_at ∙ ap (λ (r : Awaited). Some r) (heard.owed x (sym heard.is ∙ sym h.heard.is ∙ q))
+    owed x q = there.reply_at ∙ ap (λ (r : BarrierState). Some r) (heard.owed x (sym heard.is ∙ sym h.heard.is ∙ q))
 
 -- ---- events
 

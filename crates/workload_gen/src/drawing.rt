@@ -10,7 +10,7 @@ ghost use Rattle.workload_gen.specs.Draws.{Drawn, Draws, IsDrawn, left_by, tried
 ghost use Rattle.workload_gen.specs.Words.{behind, next_word};
 
 use crate::finding::event_by;
-use crate::others::{Others, is_quiet};
+use crate::others::{OtherCounts, is_quiet};
 use crate::tally::Tally;
 use crate::words::next_word;
 use document_text::PacketLine;
@@ -39,7 +39,7 @@ pub fn draw(
     let mut events = Events::new(alloc);
     let mut tally = Tally::new(alloc, world)?;
     let mut left = packets;
-    let mut others = Others::count(world, left);
+    let mut others = OtherCounts::count(world, left);
     for _ in 0..u64::MAX {
         let next = next_event(alloc, world, &tally, left, others, rng)?;
         let Some(event) = next else {
@@ -59,7 +59,7 @@ fn next_event(
     world: &World,
     tally: &Tally,
     packets: &[PacketLine],
-    others: Others,
+    others: OtherCounts,
     rng: &mut Lcg64Xsh32,
 ) -> Result<Option<Event>, AllocError>
     requires counts { AreCounts world.now tally.now }
@@ -68,7 +68,7 @@ fn next_event(
     ensures some { IfOk result
         (λ r. IfSome r (λ e. IsDrawn packets.now world.now rng.old e × (rng.new ≡ (next_word rng.old).1))) }
 {
-    let Others { hops, last } = others;
+    let OtherCounts { hops, last } = others;
     let rest = hops.saturating_add(last);
     let count = tally.total().saturating_add(rest);
     if count == 0 {

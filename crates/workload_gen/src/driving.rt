@@ -14,7 +14,7 @@ use world_core::{Events, Settings, World};
 
 /// A workload that was driven to its end: how many packets it has, the world then, and the events that led to it.
 #[derive(Drop)]
-pub struct Driven {
+pub struct DrawnRun {
     pub packets: usize,
     pub world: World,
     pub events: Events,
@@ -22,7 +22,7 @@ pub struct Driven {
 
 /// Makes the document of a number and the world of its policies, and drives it by drawn events until none can happen.
 /// Then all updates are done, each packet has come in once, and no copy is in flight.
-pub fn drive(alloc: Global, number: u64) -> Result<Driven, AllocError>
+pub fn drive(alloc: Global, number: u64) -> Result<DrawnRun, AllocError>
     ensures { IfOk result (λ r. IsRunOf number r.packets r.world r.events.items) }
 {
     runs_end();
@@ -44,7 +44,7 @@ pub fn drive(alloc: Global, number: u64) -> Result<Driven, AllocError>
     };
     let mut world = World::start(alloc, versions, topology, settings)?;
     let events = draw(alloc, &mut world, &packets, &mut rng)?;
-    Ok(Driven {
+    Ok(DrawnRun {
         packets: packets.len(),
         world,
         events,

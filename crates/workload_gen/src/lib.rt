@@ -19,5 +19,5 @@ mod words;
 pub use compiling::versions;
 pub use documents::generate;
 pub use drawing::draw;
-pub use driving::{Driven, drive};
+pub use driving::{DrawnRun, drive};
 pub use laws::runs_end;

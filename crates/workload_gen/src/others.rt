@@ -15,31 +15,31 @@ use world_core::{ControllerEvent, Event, World};
 /// How many hops can happen, and how many of these three: the next packet comes in, an update begins, a drain is
 /// reported. The first count is at most 2^64 - 1, the second one at most 3.
 #[derive(Clone, Copy)]
-pub(crate) struct Others {
+pub(crate) struct OtherCounts {
     pub(crate) hops: u64,
     pub(crate) last: u64,
 }
 
-impl Others {
+impl OtherCounts {
     /// Counts them, while these packets are still to come in.
-    pub(crate) fn count(world: &World, packets: &[PacketLine]) -> Others
+    pub(crate) fn count(world: &World, packets: &[PacketLine]) -> OtherCounts
         ensures { AreOthers world.now packets.now result.hops result.last }
     {
-        Others {
+        OtherCounts {
             hops: count_hops(world),
             last: count_last(world, packets),
         }
     }
 
     /// The counts after an event that has led to this world, and left these packets. A quiet one has changed none.
-    pub(crate) fn after(self, quiet: bool, world: &World, packets: &[PacketLine]) -> Others
+    pub(crate) fn after(self, quiet: bool, world: &World, packets: &[PacketLine]) -> OtherCounts
         requires { IsTrue quiet → AreOthers world.now packets.now self.hops self.last }
         ensures { AreOthers world.now packets.now result.hops result.last }
     {
         if quiet {
             return self;
         }
-        Others::count(world, packets)
+        OtherCounts::count(world, packets)
     }
 }
 

@@ -11,7 +11,7 @@ ghost use Rattle.workload_laws.specs.Leaves.{AreCopies, AreRising};
 ghost use Rattle.workload_laws.specs.Emitted.{IsVersionIn};
 ghost use Rattle.workload_laws.specs.Workload.{IsWorkload};
 
-use fdd_compile::{CompileError, Compiled, compile};
+use fdd_compile::{CompileError, CompiledPolicy, compile};
 use fdd_nodes::{Leaf, Node};
 use nk_syntax::Pol;
 use nk_values::Band;
@@ -45,7 +45,7 @@ pub fn version_of(
 }
 
 // The diagram of a workload's policy.
-fn diagram_of(alloc: Global, pol: &Pol) -> Result<Compiled, AllocError>
+fn diagram_of(alloc: Global, pol: &Pol) -> Result<CompiledPolicy, AllocError>
     requires { IsWorkload (term_of pol.now) }
     ensures { IfOk result (λ c. CompiledOf (term_of pol.now) (diagram_of c)) }
 {

@@ -5,7 +5,7 @@ use Rattle.std.proofs.lemmas.List.{length-map}
 use Rattle.nk_syntax.specs.declared.pol.Pol.{Pol}
 use Rattle.nk_values.specs.declared.rows.Rows.{Rows}
 use Rattle.nk_values.specs.Members.{IsIn}
-use Rattle.topology_model.specs.Network.{Place}
+use Rattle.topology_model.specs.Network.{Location}
 use Rattle.topology_model.specs.Layouts.{Layout, edges_of}
 use Rattle.topology_model.specs.Wired.{IsTopology}
 use Rattle.topology_model.proofs.Ranges.{edge_declared}
@@ -32,7 +32,7 @@ numbers-kept : (capacity : ℕ) (ns : List ℕ) → map (λ (e : WiredSwitch). e
 numbers-kept capacity [] = refl
 numbers-kept capacity (n ∷ ns) = ap (λ (ms : List ℕ). n ∷ ms) (numbers-kept capacity ns)
 
-some-edge : (places : List Place) → places ≢ [] → (a : Place) × IsIn places a
+some-edge : (places : List Location) → places ≢ [] → (a : Location) × IsIn places a
 some-edge [] n = absurd (n refl)
 some-edge (a ∷ places) n = (a, inl refl)
 

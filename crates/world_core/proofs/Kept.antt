@@ -6,7 +6,7 @@ use Rattle.nk_values.specs.Members.{IsIn}
 use Rattle.nk_values.specs.Tags.{IsTag}
 use Rattle.policy_rows.specs.declared.version.Version.{Version}
 use Rattle.packet_tracer.specs.declared.flight.Flight.{Flight}
-use Rattle.update_coordinator.specs.Awaited.{Awaited}
+use Rattle.update_coordinator.specs.BarrierState.{BarrierState}
 use Rattle.update_coordinator.specs.declared.cause.Cause.{Cause}
 use Rattle.update_coordinator.specs.declared.cause.Cause.TheVariants as cause
 use Rattle.update_coordinator.specs.Controls.{Control, Peer, halted}
@@ -136,7 +136,7 @@ halt-keeps : (why : Cause) (w : WorldValue) → IsKept w → IsKept (standing_st
 halt-keeps why w k = fleet-keeps w Halt (record w.fleet { control = halted why w.fleet.control }) k (record { cause = why; now = refl }) (same-phase w (record w.fleet { control = halted why w.fleet.control }) (refl, refl))
 
 -- the line of a switch
-pub line-at : (w : WorldValue) (k : Keeps w) (place : ℕ) (e : WiredSwitch) → slice_get w.fleet.wired place ≡ Some e → (s : Peer) × (r : Awaited) × IsLine (setting w) w.fleet.control.swept w.fleet.control.phase (is_some w.fleet.control.halt) (wire_of w.fleet.control s r e)
+pub line-at : (w : WorldValue) (k : Keeps w) (place : ℕ) (e : WiredSwitch) → slice_get w.fleet.wired place ≡ Some e → (s : Peer) × (r : BarrierState) × IsLine (setting w) w.fleet.control.swept w.fleet.control.phase (is_some w.fleet.control.halt) (wire_of w.fleet.control s r e)
 line-at w k place e here =
     let h = end-here (setting w) w.fleet k.fleet place e here in
     (h.peer, h.reply, k.fleet.lines place h.peer h.reply e h.peer_at h.reply_at here)

@@ -1,11 +1,11 @@
 -- Lists of events with one more at the end.
 use Rattle.std.proofs.Common.{◌≡◌, ℕ, ◌+◌, List, [], ◌∷◌, ◌++◌, length, Option, Some, None, refl, sym, ◌∙◌, ap, arith, append_assoc, length-append}
 use Rattle.world_core.specs.declared.event.Event.{Event}
-use Rattle.world_core.specs.declared.short.Short.{Short}
+use Rattle.world_core.specs.declared.short.ShortEvent.{ShortEvent}
 use Rattle.world_core.specs.Events.{event_of, wanted, first_of, left_of, unpacked, whole_count}
 
 -- one that stands for itself
-pub unpacked-short : (ss : List Short) (s : Short) (e : Event) (ws : List Event) → event_of s ≡ Some e → unpacked (ss ++ s ∷ []) ws ≡ unpacked ss ws ++ e ∷ []
+pub unpacked-short : (ss : List ShortEvent) (s : ShortEvent) (e : Event) (ws : List Event) → event_of s ≡ Some e → unpacked (ss ++ s ∷ []) ws ≡ unpacked ss ws ++ e ∷ []
 unpacked-short [] s e ws is = rw is refl
 unpacked-short (x ∷ ss) s e ws is =
     ap (λ (es : List Event). first_of (event_of x) ws ++ es) (unpacked-short ss s e (left_of (event_of x) ws) is) ∙ sym (append_assoc (first_of (event_of x) ws) (unpacked ss (left_of (event_of x) ws)) (e ∷ []))
@@ -28,7 +28,7 @@ left-more None n [] w is = absurd (omega (arith, is))
 left-more None n (x ∷ ws) w is = refl
 
 -- one that is kept whole
-pub unpacked-whole : (ss : List Short) (s : Short) (w : Event) (ws : List Event) → event_of s ≡ None → whole_count ss ≡ length ws → unpacked (ss ++ s ∷ []) (ws ++ w ∷ []) ≡ unpacked ss ws ++ w ∷ []
+pub unpacked-whole : (ss : List ShortEvent) (s : ShortEvent) (w : Event) (ws : List Event) → event_of s ≡ None → whole_count ss ≡ length ws → unpacked (ss ++ s ∷ []) (ws ++ w ∷ []) ≡ unpacked ss ws ++ w ∷ []
 unpacked-whole [] s w [] none is = rw none refl
 unpacked-whole [] s w (x ∷ ws) none is = absurd (omega (arith, is))
 unpacked-whole (x ∷ ss) s w ws none is =
@@ -42,7 +42,7 @@ first-length (Some e) n ws is = refl
 first-length None n [] is = absurd (omega (arith, is))
 first-length None n (w ∷ ws) is = refl
 
-pub unpacked-length : (ss : List Short) (ws : List Event) → whole_count ss ≡ length ws → length (unpacked ss ws) ≡ length ss
+pub unpacked-length : (ss : List ShortEvent) (ws : List Event) → whole_count ss ≡ length ws → length (unpacked ss ws) ≡ length ss
 unpacked-length [] ws is = refl
 unpacked-length (x ∷ ss) ws is =
     let rest = unpacked-length ss (left_of (event_of x) ws) (left-count (event_of x) (whole_count ss) ws is) in
@@ -51,6 +51,6 @@ unpacked-length (x ∷ ss) ws is =
     omega (arith, rest, one, both)
 
 -- how many of them are kept whole
-pub count-more : (ss : List Short) (s : Short) → whole_count (ss ++ s ∷ []) ≡ whole_count ss + wanted (event_of s)
+pub count-more : (ss : List ShortEvent) (s : ShortEvent) → whole_count (ss ++ s ∷ []) ≡ whole_count ss + wanted (event_of s)
 count-more [] s = omega arith
 count-more (x ∷ ss) s = omega (arith, count-more ss s)

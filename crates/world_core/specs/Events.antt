@@ -5,11 +5,11 @@ use Rattle.world_core.specs.declared.event.Event.TheVariants as event
 use Rattle.world_core.specs.declared.event.ControllerEvent.TheVariants as of_controller
 use Rattle.world_core.specs.declared.event.PacketEvent.TheVariants as of_packet
 use Rattle.world_core.specs.declared.event.SwitchEvent.TheVariants as of_switch
-use Rattle.world_core.specs.declared.short.Short.{Short}
-use Rattle.world_core.specs.declared.short.Short.TheVariants as short
+use Rattle.world_core.specs.declared.short.ShortEvent.{ShortEvent}
+use Rattle.world_core.specs.declared.short.ShortEvent.TheVariants as short
 
 -- the event that a short one stands for, if it is not kept whole
-abbrev pub event_of : Short → Option Event
+abbrev pub event_of : ShortEvent → Option Event
 event_of short.Begin = Some (event.Controller of_controller.Begin)
 event_of (short.Send s) = Some (event.Controller (of_controller.Send s))
 event_of (short.Heard s) = Some (event.Controller (of_controller.Heard s))
@@ -39,11 +39,11 @@ left_of (Some e) whole = whole
 left_of None whole = drop 1 whole
 
 -- the events that short ones stand for, in order
-abbrev pub unpacked : List Short → List Event → List Event
+abbrev pub unpacked : List ShortEvent → List Event → List Event
 unpacked [] whole = []
 unpacked (s ∷ ss) whole = first_of (event_of s) whole ++ unpacked ss (left_of (event_of s) whole)
 
 -- how many of them are kept whole
-abbrev pub whole_count : List Short → ℕ
+abbrev pub whole_count : List ShortEvent → ℕ
 whole_count [] = 0
 whole_count (s ∷ ss) = wanted (event_of s) + whole_count ss

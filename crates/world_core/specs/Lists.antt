@@ -1,8 +1,8 @@
 -- Lists of events as clauses see them.
 use Rattle.std.specs.Prelude.{ℕ, List}
 use Rattle.world_core.specs.declared.event.Event.{Event}
-use Rattle.world_core.specs.declared.event_iter.Listed.{Listed}
-use Rattle.world_core.specs.declared.event_iter.Listed.TheVariants as from
+use Rattle.world_core.specs.declared.event_iter.EventRef.{EventRef}
+use Rattle.world_core.specs.declared.event_iter.EventRef.TheVariants as from
 
 -- the events, and for how many more there is room
 pub record EventList : Type 0 where
@@ -10,6 +10,6 @@ pub record EventList : Type 0 where
   pub room : ℕ
 
 -- an event of a list
-abbrev pub listed : Listed → Event
+abbrev pub listed : EventRef → Event
 listed (from.Made e) = e
 listed (from.Lent e) = e.now

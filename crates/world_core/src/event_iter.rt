@@ -6,26 +6,26 @@ ghost use Rattle.world_core.specs.Events.{unpacked, whole_count};
 ghost use Rattle.world_core.specs.Lists.{listed};
 
 use crate::event::Event;
-use crate::short::Short;
+use crate::short::ShortEvent;
 use std::marker::Model;
 
 /// An event of a list: made anew, or lent.
 #[derive(Drop)]
-pub enum Listed<'a> {
+pub enum EventRef<'a> {
     /// This event.
     Made(Event),
     /// The one in the list.
     Lent(&'a Event),
 }
 
-impl<'a> Listed<'a> {
+impl<'a> EventRef<'a> {
     /// The event.
     pub fn event(&self) -> &Event
         ensures { result.now ≡ listed self.now }
     {
         match self {
-            Listed::Made(event) => event,
-            Listed::Lent(event) => event,
+            EventRef::Made(event) => event,
+            EventRef::Lent(event) => event,
         }
     }
 }
@@ -33,7 +33,7 @@ impl<'a> Listed<'a> {
 /// Goes over the events of a list, in order. Clauses see those that are left.
 #[derive(Drop)]
 pub struct EventIter<'a> {
-    short: &'a [Short],
+    short: &'a [ShortEvent],
     whole: &'a [Event],
 }
 
@@ -52,7 +52,7 @@ impl<'a> Model for EventIter<'a> {
 
 impl<'a> EventIter<'a> {
     // Goes over these short ones and those that are kept whole.
-    pub(crate) fn new(short: &'a [Short], whole: &'a [Event]) -> EventIter<'a>
+    pub(crate) fn new(short: &'a [ShortEvent], whole: &'a [Event]) -> EventIter<'a>
         requires { whole_count short.now ≡ length whole.now }
         ensures { result ≡ unpacked short.now whole.now }
     {
@@ -64,21 +64,21 @@ impl<'a> Iterator for EventIter<'a> {
     ghost use Rattle.std.specs.Iterator.{YieldsFirstBy, item_count};
     ghost use Rattle.world_core.specs.Lists.{listed};
 
-    type Item = Listed<'a>;
+    type Item = EventRef<'a>;
 
     ghost next_gives = { YieldsFirstBy listed (λ rest. rest) };
 
     ghost remaining = { item_count (λ rest. rest) };
 
-    fn next(&mut self) -> Option<Listed<'a>> {
+    fn next(&mut self) -> Option<EventRef<'a>> {
         let (first, rest) = self.short.split_first()?;
         self.short = rest;
         match first.event() {
-            Some(event) => Some(Listed::Made(event)),
+            Some(event) => Some(EventRef::Made(event)),
             None => {
                 let (event, others) = self.whole.split_first()?;
                 self.whole = others;
-                Some(Listed::Lent(event))
+                Some(EventRef::Lent(event))
             }
         }
     }

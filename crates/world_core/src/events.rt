@@ -5,7 +5,7 @@ ghost use Rattle.std.specs.Prelude.{◌≡◌, ◌++◌, ◌∷◌, [], ◌<◌,
 
 use crate::event::Event;
 use crate::event_iter::EventIter;
-use crate::short::Short;
+use crate::short::ShortEvent;
 use std::alloc::{AllocError, Global};
 use std::marker::Model;
 
@@ -13,7 +13,7 @@ use std::marker::Model;
 /// many more there is room.
 #[derive(Drop)]
 pub struct Events {
-    short: Vec<Short>,
+    short: Vec<ShortEvent>,
     // those that do not fit, in their order
     whole: Vec<Event>,
 }
@@ -78,14 +78,14 @@ impl Events {
         ensures items { self.new.items ≡ self.old.items ++ event ∷ [] }
         ensures small { length self.new.items < 2 ^ 63 }
     {
-        match Short::of(&event) {
+        match ShortEvent::of(&event) {
             Some(short) => self.push_short(short),
             None => self.push_whole(event),
         }
     }
 
     // Puts an event that fits at the end.
-    fn push_short(&mut self, short: Short)
+    fn push_short(&mut self, short: ShortEvent)
         requires room { 0 < self.old.room }
         requires fits { wanted (event_of short) ≡ 0 }
         ensures items { (e : EventValue) → event_of short ≡ Some e → self.new.items ≡ self.old.items ++ e ∷ [] }
@@ -100,7 +100,7 @@ impl Events {
         ensures items { self.new.items ≡ self.old.items ++ event ∷ [] }
         ensures small { length self.new.items < 2 ^ 63 }
     {
-        self.short.push_reserved(Short::Whole);
+        self.short.push_reserved(ShortEvent::Whole);
         self.whole.push_reserved(event);
     }
 

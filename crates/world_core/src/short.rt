@@ -8,7 +8,7 @@ use crate::event::{ControllerEvent, Event, PacketEvent, SwitchEvent};
 
 /// An event in four bytes: its kind, and the place or the stamp that it names.
 #[derive(Clone, Copy)]
-pub(crate) enum Short {
+pub(crate) enum ShortEvent {
     Begin,
     Send(u16),
     Heard(u16),
@@ -24,18 +24,18 @@ pub(crate) enum Short {
     Whole,
 }
 
-impl Short {
+impl ShortEvent {
     ghost use Rattle.world_core.specs.declared.event.Event.TheVariants as event;
 
     /// This event, if it fits.
-    pub(crate) fn of(event: &Event) -> Option<Short>
+    pub(crate) fn of(event: &Event) -> Option<ShortEvent>
         ensures { IfSome result (λ s. event_of s ≡ Some event.now) }
     {
         match event {
-            Event::Controller(control) => Short::of_control(*control),
-            Event::Switch(act) => Short::of_act(*act),
-            Event::Packet(PacketEvent::Hop(place)) => Some(Short::Hop(small(*place)?)),
-            Event::Packet(PacketEvent::Stuck(place)) => Some(Short::Stuck(small(*place)?)),
+            Event::Controller(control) => ShortEvent::of_control(*control),
+            Event::Switch(act) => ShortEvent::of_act(*act),
+            Event::Packet(PacketEvent::Hop(place)) => Some(ShortEvent::Hop(small(*place)?)),
+            Event::Packet(PacketEvent::Stuck(place)) => Some(ShortEvent::Stuck(small(*place)?)),
             Event::Packet(PacketEvent::Arrive(_, _)) | Event::Foreign(_, _, _) => None,
         }
     }
@@ -45,57 +45,57 @@ impl Short {
         ensures { result ≡ event_of self }
     {
         match self {
-            Short::Begin => Some(Event::Controller(ControllerEvent::Begin)),
-            Short::Send(place) => Some(Event::Controller(ControllerEvent::Send(usize::from(
+            ShortEvent::Begin => Some(Event::Controller(ControllerEvent::Begin)),
+            ShortEvent::Send(place) => Some(Event::Controller(ControllerEvent::Send(usize::from(
                 place,
             )))),
-            Short::Heard(place) => Some(Event::Controller(ControllerEvent::Heard(usize::from(
+            ShortEvent::Heard(place) => Some(Event::Controller(ControllerEvent::Heard(usize::from(
                 place,
             )))),
-            Short::Drained(stamp) => Some(Event::Controller(ControllerEvent::Drained(stamp))),
-            Short::Lost(place) => Some(Event::Controller(ControllerEvent::Lost(usize::from(
+            ShortEvent::Drained(stamp) => Some(Event::Controller(ControllerEvent::Drained(stamp))),
+            ShortEvent::Lost(place) => Some(Event::Controller(ControllerEvent::Lost(usize::from(
                 place,
             )))),
-            Short::Rejoin(place) => Some(Event::Controller(ControllerEvent::Rejoin(usize::from(
+            ShortEvent::Rejoin(place) => Some(Event::Controller(ControllerEvent::Rejoin(usize::from(
                 place,
             )))),
-            Short::Take(place) => Some(Event::Switch(SwitchEvent::Take(usize::from(place)))),
-            Short::Apply { pending, place } => Some(Event::Switch(SwitchEvent::Apply(
+            ShortEvent::Take(place) => Some(Event::Switch(SwitchEvent::Take(usize::from(place)))),
+            ShortEvent::Apply { pending, place } => Some(Event::Switch(SwitchEvent::Apply(
                 usize::from(place),
                 usize::from(pending),
             ))),
-            Short::Reply(place) => Some(Event::Switch(SwitchEvent::Reply(usize::from(place)))),
-            Short::Hop(place) => Some(Event::Packet(PacketEvent::Hop(usize::from(place)))),
-            Short::Stuck(place) => Some(Event::Packet(PacketEvent::Stuck(usize::from(place)))),
-            Short::Whole => None,
+            ShortEvent::Reply(place) => Some(Event::Switch(SwitchEvent::Reply(usize::from(place)))),
+            ShortEvent::Hop(place) => Some(Event::Packet(PacketEvent::Hop(usize::from(place)))),
+            ShortEvent::Stuck(place) => Some(Event::Packet(PacketEvent::Stuck(usize::from(place)))),
+            ShortEvent::Whole => None,
         }
     }
 
     // This event of the controller, if it fits.
-    fn of_control(control: ControllerEvent) -> Option<Short>
+    fn of_control(control: ControllerEvent) -> Option<ShortEvent>
         ensures { IfSome result (λ s. event_of s ≡ Some (event.Controller control)) }
     {
         match control {
-            ControllerEvent::Begin => Some(Short::Begin),
-            ControllerEvent::Send(place) => Some(Short::Send(small(place)?)),
-            ControllerEvent::Heard(place) => Some(Short::Heard(small(place)?)),
-            ControllerEvent::Drained(stamp) => Some(Short::Drained(stamp)),
-            ControllerEvent::Lost(place) => Some(Short::Lost(small(place)?)),
-            ControllerEvent::Rejoin(place) => Some(Short::Rejoin(small(place)?)),
+            ControllerEvent::Begin => Some(ShortEvent::Begin),
+            ControllerEvent::Send(place) => Some(ShortEvent::Send(small(place)?)),
+            ControllerEvent::Heard(place) => Some(ShortEvent::Heard(small(place)?)),
+            ControllerEvent::Drained(stamp) => Some(ShortEvent::Drained(stamp)),
+            ControllerEvent::Lost(place) => Some(ShortEvent::Lost(small(place)?)),
+            ControllerEvent::Rejoin(place) => Some(ShortEvent::Rejoin(small(place)?)),
         }
     }
 
     // This event of a switch, if it fits.
-    fn of_act(act: SwitchEvent) -> Option<Short>
+    fn of_act(act: SwitchEvent) -> Option<ShortEvent>
         ensures { IfSome result (λ s. event_of s ≡ Some (event.Switch act)) }
     {
         match act {
-            SwitchEvent::Take(place) => Some(Short::Take(small(place)?)),
-            SwitchEvent::Apply(place, pending) => Some(Short::Apply {
+            SwitchEvent::Take(place) => Some(ShortEvent::Take(small(place)?)),
+            SwitchEvent::Apply(place, pending) => Some(ShortEvent::Apply {
                 pending: u8::try_from(pending).ok()?,
                 place: small(place)?,
             }),
-            SwitchEvent::Reply(place) => Some(Short::Reply(small(place)?)),
+            SwitchEvent::Reply(place) => Some(ShortEvent::Reply(small(place)?)),
         }
     }
 }

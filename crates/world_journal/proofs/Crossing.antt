@@ -19,12 +19,12 @@ use Rattle.world_core.proofs.wired_switch.WiredSwitch.TheSendSync as ends
 use Rattle.world_core.specs.contracts.arrival.Arrival as arrival
 use Rattle.world_core.specs.contracts.world.World as world
 use Rattle.world_core.specs.contracts.world.World.TheInside as inside
-use Rattle.world_journal.specs.contracts.held.Held as held
-use Rattle.world_journal.specs.contracts.held.Held.TheInside as held_inside
+use Rattle.world_journal.specs.contracts.held.BookedWorld as held
+use Rattle.world_journal.specs.contracts.held.BookedWorld.TheInside as held_inside
 use Rattle.world_journal.specs.contracts.run.Run as run
 use Rattle.world_journal.specs.contracts.run.Run.TheInside as run_inside
-use Rattle.world_journal.specs.contracts.watched.Watched as watched
-use Rattle.world_journal.specs.contracts.watched.Watched.TheInside as watched_inside
+use Rattle.world_journal.specs.contracts.watched.WatchedRun as watched
+use Rattle.world_journal.specs.contracts.watched.WatchedRun.TheInside as watched_inside
 use Rattle.world_journal.specs.contracts.run_desk.RunDesk as desk
 use Rattle.world_journal.specs.contracts.entry.Entry as entry
 use Rattle.world_journal.proofs.entry.Entry.TheSendSync as entries
@@ -32,7 +32,7 @@ use Rattle.world_journal.specs.contracts.line.Line as line
 use Rattle.world_journal.proofs.line.Line.TheSendSync as lines
 use Rattle.world_journal.specs.contracts.run_desk.Bells as bell
 use Rattle.world_journal.proofs.run_desk.Bells.TheSendSync as bells
-use Rattle.world_journal.proofs.ahead.Ahead.TheSendSync as aheads
+use Rattle.world_journal.proofs.ahead.StepsAhead.TheSendSync as aheads
 use Rattle.world_journal.specs.declared.name.RunName as RunName
 use Rattle.world_journal.specs.declared.poster.Poster as Poster
 use Rattle.status_board.specs.declared.history.BoardName as BoardName

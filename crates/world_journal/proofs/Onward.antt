@@ -10,12 +10,12 @@ use Rattle.world_core.specs.declared.event.ControllerEvent.TheVariants as of_con
 use Rattle.world_core.specs.declared.event.PacketEvent.TheVariants as of_packet
 use Rattle.worker_desk.specs.declared.gate.StepKind.{StepKind}
 use Rattle.worker_desk.specs.declared.gate.StepKind.TheVariants as kind
-use Rattle.worker_desk.specs.declared.desk.Given.{Given}
-use Rattle.worker_desk.specs.declared.desk.Given.TheVariants as given
-use Rattle.worker_desk.specs.declared.desk.Told.{Told}
-use Rattle.worker_desk.specs.declared.desk.Told.TheVariants.{Back, Kept, Memory}
-use Rattle.worker_desk.specs.declared.desk.Shut.{Shut}
-use Rattle.worker_desk.specs.declared.desk.Shut.TheVariants as shut
+use Rattle.worker_desk.specs.declared.desk.WorkerTask.{WorkerTask}
+use Rattle.worker_desk.specs.declared.desk.WorkerTask.TheVariants as given
+use Rattle.worker_desk.specs.declared.desk.TellResult.{TellResult}
+use Rattle.worker_desk.specs.declared.desk.TellResult.TheVariants.{Back, Kept, Memory}
+use Rattle.worker_desk.specs.declared.desk.IdleTask.{IdleTask}
+use Rattle.worker_desk.specs.declared.desk.IdleTask.TheVariants as shut
 use Rattle.world_journal.specs.Journals.{HeldValue, entry}
 use Rattle.world_journal.specs.declared.entry.Entry.{Entry}
 use Rattle.world_journal.specs.declared.line.Line.{Line}
@@ -87,7 +87,7 @@ advances-on w side.Switch s old new (Some kind.Hop) h = absurd h
 puts-on : {E : Type 0} (w : ℕ) (side : Side) (s : ℕ) (old new : RunValue E) (made : Option StepKind) (waiting : Bool) → RunPuts w side s old new made waiting → Extends old new
 puts-on w side s old new made waiting h = marked-on old h.between new side s waiting (advances-on w side s old h.between made h.step) h.marked
 
-goes-on : {E : Type 0} (w : ℕ) (side : Side) (s : ℕ) (old new : RunValue E) (g : Given E) → GoesOn w side s old new g → Extends old new
+goes-on : {E : Type 0} (w : ℕ) (side : Side) (s : ℕ) (old new : RunValue E) (g : WorkerTask E) → GoesOn w side s old new g → Extends old new
 goes-on w side s old new given.Stop h = absurd h
 goes-on w side s old new (given.NewEnd e) h = absurd h
 goes-on w side s old new (given.Out m None) h = absurd h
@@ -95,7 +95,7 @@ goes-on w side s old new (given.Out m (Some k)) h = puts-on w side s old new (So
 goes-on w side s old new (given.Expect made) h = advances-on w side s old new made h.0.step
 goes-on w side s old new (given.Nothing made) h = advances-on w side s old new made h.0.step
 
-works-on : {E : Type 0} (w : ℕ) (side : Side) (s : ℕ) (old new : RunValue E) (g : Given E) → Works w side s old new g → Extends old new
+works-on : {E : Type 0} (w : ℕ) (side : Side) (s : ℕ) (old new : RunValue E) (g : WorkerTask E) → Works w side s old new g → Extends old new
 works-on w side s old new given.Stop h = absurd h
 works-on w side s old new (given.NewEnd e) h = absurd h
 works-on w side s old new (given.Out m None) h = marked-on old old new side s false (same-on old old refl) h.2
@@ -103,7 +103,7 @@ works-on w side s old new (given.Out m (Some k)) h = goes-on w side s old new (g
 works-on w side s old new (given.Expect made) h = goes-on w side s old new (given.Expect made) h.1
 works-on w side s old new (given.Nothing made) h = goes-on w side s old new (given.Nothing made) h.1
 
-gives-on : {E : Type 0} (w : ℕ) (side : Side) (s : ℕ) (old new : RunValue E) (g : Given E) → RunGives w side s old new g → Extends old new
+gives-on : {E : Type 0} (w : ℕ) (side : Side) (s : ℕ) (old new : RunValue E) (g : WorkerTask E) → RunGives w side s old new g → Extends old new
 gives-on w side s old new given.Stop h = same-on old new h.1
 gives-on w side s old new (given.NewEnd e) h = taken-on old new side s h.2
 gives-on w side s old new (given.Out m made) h = works-on w side s old new (given.Out m made) h.2
@@ -114,7 +114,7 @@ runs-out-on : {E : Type 0} (w : ℕ) (side : Side) (s : ℕ) (old new : RunValue
 runs-out-on w side s old new (inl is) = same-on old new is
 runs-out-on w side s old new (inr h) = puts-on w side s old new h.0 true h.1
 
-pub given-on : {E F : Type 0} (w : ℕ) (side : Side) (s : ℕ) (old new : RunValue E) (r : Result (Given E) F) → IfOk r (RunGives w side s old new) → OnErr r (RunsOut w side s old new) → Extends old new
+pub given-on : {E F : Type 0} (w : ℕ) (side : Side) (s : ℕ) (old new : RunValue E) (r : Result (WorkerTask E) F) → IfOk r (RunGives w side s old new) → OnErr r (RunsOut w side s old new) → Extends old new
 given-on w side s old new (Ok g) h m = gives-on w side s old new g h
 given-on w side s old new (Err e) h m = runs-out-on w side s old new m
 
@@ -127,42 +127,42 @@ notes-held false side s run = refl
 receives-on : {E : Type 0} (w : ℕ) (side : Side) (s : ℕ) (old new : RunValue E) → Receives w side s old new → Extends old new
 receives-on {E} w side s old new h = on-held old h.between new (made-on w _ old h.between h.step) (ap (λ (r : RunValue E). r.held) h.now ∙ notes-held _ side s h.between)
 
-takes-on : {E : Type 0} (w : ℕ) (side : Side) (s : ℕ) (end : E) (old new : RunValue E) (t : Told E) → TakesIn w side s end old new t → Extends old new
+takes-on : {E : Type 0} (w : ℕ) (side : Side) (s : ℕ) (end : E) (old new : RunValue E) (t : TellResult E) → TakesIn w side s end old new t → Extends old new
 takes-on w side s end old new (Back e (Some made)) h = receives-on w side s old new h.2
 takes-on w side s end old new (Back e None) h = same-on old new h.1
 takes-on w side s end old new Kept h = absurd h
 takes-on w side s end old new (Memory e) h = same-on old new h.1
 
-turns-on : {E : Type 0} (w : ℕ) (side : Side) (s : ℕ) (bytes : List ℕ) (k : ℕ) (end : E) (old new : RunValue E) (t : Told E) → TurnsAway w side s bytes k end old new t → Extends old new
+turns-on : {E : Type 0} (w : ℕ) (side : Side) (s : ℕ) (bytes : List ℕ) (k : ℕ) (end : E) (old new : RunValue E) (t : TellResult E) → TurnsAway w side s bytes k end old new t → Extends old new
 turns-on w side s bytes k end old new (Back e (Some made)) h = absurd h
 turns-on w side s bytes k end old new (Back e None) h = same-on old new h.1
 turns-on w side s bytes k end old new Kept h = cuts-on w (event.Foreign s side bytes) end old new h.1
 turns-on w side s bytes k end old new (Memory e) h = same-on old new h.1
 
-stale-on : {E : Type 0} (end : E) (old new : RunValue E) (t : Told E) → IsStale end old new t → Extends old new
+stale-on : {E : Type 0} (end : E) (old new : RunValue E) (t : TellResult E) → IsStale end old new t → Extends old new
 stale-on end old new (Back e (Some made)) h = absurd h
 stale-on end old new (Back e None) h = same-on old new h.1
 stale-on end old new Kept h = absurd h
 stale-on end old new (Memory e) h = absurd h
 
-now-on : {E : Type 0} (w : ℕ) (side : Side) (s : ℕ) (bytes : List ℕ) (k : ℕ) (end : E) (old new : RunValue E) (t : Told E) → TellsNow w side s bytes k end old new t → Extends old new
+now-on : {E : Type 0} (w : ℕ) (side : Side) (s : ℕ) (bytes : List ℕ) (k : ℕ) (end : E) (old new : RunValue E) (t : TellResult E) → TellsNow w side s bytes k end old new t → Extends old new
 now-on w side s bytes k end old new t (inl h) = takes-on w side s end old new t h.1
 now-on w side s bytes k end old new t (inr h) = turns-on w side s bytes k end old new t h.1
 
-pub tells-on : {E : Type 0} (n name w : ℕ) (side : Side) (s : ℕ) (bytes : List ℕ) (k : ℕ) (end : E) (old new : RunValue E) (t : Told E) → RunTells n name w side s bytes k end old new t → Extends old new
+pub tells-on : {E : Type 0} (n name w : ℕ) (side : Side) (s : ℕ) (bytes : List ℕ) (k : ℕ) (end : E) (old new : RunValue E) (t : TellResult E) → RunTells n name w side s bytes k end old new t → Extends old new
 tells-on n name w side s bytes k end old new t (inl h) = now-on w side s bytes k end old new t h.1
 tells-on n name w side s bytes k end old new t (inr h) = stale-on end old new t h.1
 
 drops-on : {E : Type 0} (w s : ℕ) (end : E) (old new : RunValue E) → Drops w s end old new → Extends old new
 drops-on {E} w s end old new h = on-held old h.between new (cuts-on w (event.Controller (of_controller.Lost s)) end old h.between h.step) (ap (λ (r : RunValue E). r.held) h.now)
 
-loses-now-on : {E : Type 0} (w s : ℕ) (end : E) (old new : RunValue E) (t : Told E) → LosesNow w s end old new t → Extends old new
+loses-now-on : {E : Type 0} (w s : ℕ) (end : E) (old new : RunValue E) (t : TellResult E) → LosesNow w s end old new t → Extends old new
 loses-now-on w s end old new (Back e (Some made)) h = absurd h
 loses-now-on w s end old new (Back e None) h = same-on old new h.2
 loses-now-on w s end old new Kept h = drops-on w s end old new h
 loses-now-on w s end old new (Memory e) h = same-on old new h.1
 
-pub loses-on : {E : Type 0} (n name w s : ℕ) (end : E) (old new : RunValue E) (t : Told E) → RunLoses n name w s end old new t → Extends old new
+pub loses-on : {E : Type 0} (n name w s : ℕ) (end : E) (old new : RunValue E) (t : TellResult E) → RunLoses n name w s end old new t → Extends old new
 loses-on n name w s end old new t (inl h) = loses-now-on w s end old new t h.1
 loses-on n name w s end old new t (inr h) = stale-on end old new t h.1
 
@@ -179,7 +179,7 @@ StandsStill old new = (new.held ≡ old.held) × (new.closed ≡ old.closed)
 same-still : {E : Type 0} (old new : RunValue E) → new ≡ old → StandsStill old new
 same-still {E} old new is = (ap (λ (r : RunValue E). r.held) is, ap (λ (r : RunValue E). r.closed) is)
 
-pub shuts-still : {E : Type 0} (side : Side) (s : ℕ) (old new : RunValue E) (t : Shut E) → Shuts side s old new t → StandsStill old new
+pub shuts-still : {E : Type 0} (side : Side) (s : ℕ) (old new : RunValue E) (t : IdleTask E) → Shuts side s old new t → StandsStill old new
 shuts-still {E} side s old new (shut.NewEnd e) h = (ap (λ (r : RunValue E). r.held) h.2 ∙ takes-held old side s, ap (λ (r : RunValue E). r.closed) h.2 ∙ taking-closed old side s)
 shuts-still side s old new shut.Nothing h = same-still old new h.2
 shuts-still side s old new shut.Stop h = same-still old new h.1

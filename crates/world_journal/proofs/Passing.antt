@@ -28,7 +28,7 @@ use Rattle.nk_values.specs.contracts.history.History as history
 use Rattle.nk_values.proofs.packet.Packet.TheSendSync as packets
 use Rattle.nk_values.proofs.tag.Tag.TheSendSync as tags
 use Rattle.packet_tracer.specs.contracts.flight.Flight as flight
-use Rattle.flight_queues.specs.contracts.numbered.Numbered as numbered
+use Rattle.flight_queues.specs.contracts.numbered.NumberedFlight as numbered
 use Rattle.flight_queues.specs.contracts.queue.Queue as queue
 use Rattle.flight_queues.specs.contracts.queue.Queue.TheInside as queue_inside
 use Rattle.flight_queues.specs.contracts.flights.Flights as flights

@@ -1,13 +1,13 @@
 -- What a worker may do ahead of its calls.
 use Rattle.std.specs.Prelude.{◌≡◌, ℕ, Option, Some, None}
 use Rattle.update_coordinator.specs.declared.cause.Side.{Side}
-use Rattle.worker_desk.specs.declared.desk.Given.{Given}
-use Rattle.worker_desk.specs.declared.desk.Given.TheVariants.{Out, Expect, Nothing, NewEnd, Stop}
+use Rattle.worker_desk.specs.declared.desk.WorkerTask.{WorkerTask}
+use Rattle.worker_desk.specs.declared.desk.WorkerTask.TheVariants.{Out, Expect, Nothing, NewEnd, Stop}
 use Rattle.world_journal.specs.Runs.{Stops, end_at}
 use Rattle.world_journal.specs.Watching.{WatchedValue}
 
 -- the worker is to go on over its end
-abbrev pub IsWork : {E : Type 0} → Given E → Type 0
+abbrev pub IsWork : {E : Type 0} → WorkerTask E → Type 0
 IsWork (Out m made) = Unit {0}
 IsWork (Expect made) = Unit {0}
 IsWork (Nothing made) = Unit {0}

@@ -14,12 +14,12 @@ use Rattle.world_core.specs.Worlds.{WorldValue}
 use Rattle.world_core.specs.Channels.{newest_at, sent_at}
 use Rattle.world_core.specs.Ends.{channel, IsFront}
 use Rattle.world_core.specs.Steps.{Step, Stands, IsEnabled}
-use Rattle.worker_desk.specs.declared.desk.Given.{Given}
-use Rattle.worker_desk.specs.declared.desk.Given.TheVariants.{Out, Expect, Nothing, NewEnd, Stop}
-use Rattle.worker_desk.specs.declared.desk.Told.{Told}
-use Rattle.worker_desk.specs.declared.desk.Told.TheVariants.{Back, Kept, Memory}
-use Rattle.worker_desk.specs.declared.desk.Shut.{Shut}
-use Rattle.worker_desk.specs.declared.desk.Shut.TheVariants as shut
+use Rattle.worker_desk.specs.declared.desk.WorkerTask.{WorkerTask}
+use Rattle.worker_desk.specs.declared.desk.WorkerTask.TheVariants.{Out, Expect, Nothing, NewEnd, Stop}
+use Rattle.worker_desk.specs.declared.desk.TellResult.{TellResult}
+use Rattle.worker_desk.specs.declared.desk.TellResult.TheVariants.{Back, Kept, Memory}
+use Rattle.worker_desk.specs.declared.desk.IdleTask.{IdleTask}
+use Rattle.worker_desk.specs.declared.desk.IdleTask.TheVariants as shut
 use Rattle.world_journal.specs.declared.seat.Role.{Role}
 use Rattle.world_journal.specs.declared.seat.Role.TheVariants as role
 use Rattle.world_journal.specs.Journals.{entry, told_before, present_name}
@@ -135,13 +135,13 @@ pub record Rests {E : Type 0} (w : ℕ) (side : Side) (s : ℕ) (old new : RunVa
     pub put : has_put side s old.held.world new.held.world ≡ false
 
 -- where no message is put on the channel one may be received
-abbrev pub RestsAs : {E : Type 0} → WorldValue → Side → ℕ → Option StepKind → Given E → Type 0
+abbrev pub RestsAs : {E : Type 0} → WorldValue → Side → ℕ → Option StepKind → WorkerTask E → Type 0
 RestsAs w side s made (Expect m) = (m ≡ made) × IsEnabled w (receipt side s)
 RestsAs w side s made (Nothing m) = (m ≡ made) × ¬ IsEnabled w (receipt side s)
 RestsAs w side s made _ = ⊥
 
 -- what is answered where the worker goes on and no message waits
-abbrev pub GoesOn : {E : Type 0} → ℕ → Side → ℕ → RunValue E → RunValue E → Given E → Type 0
+abbrev pub GoesOn : {E : Type 0} → ℕ → Side → ℕ → RunValue E → RunValue E → WorkerTask E → Type 0
 GoesOn w side s old new Stop = ⊥
 GoesOn w side s old new (NewEnd e) = ⊥
 GoesOn w side s old new (Out m None) = ⊥
@@ -151,7 +151,7 @@ GoesOn w side s old new (Expect made) = Rests w side s old new made × IsEnabled
 GoesOn w side s old new (Nothing made) = Rests w side s old new made × ¬ IsEnabled new.held.world (receipt side s)
 
 -- what is answered where the worker goes on over its end
-abbrev pub Works : {E : Type 0} → ℕ → Side → ℕ → RunValue E → RunValue E → Given E → Type 0
+abbrev pub Works : {E : Type 0} → ℕ → Side → ℕ → RunValue E → RunValue E → WorkerTask E → Type 0
 Works w side s old new Stop = ⊥
 Works w side s old new (NewEnd e) = ⊥
 Works w side s old new (Out m None) = (waits old side s ≡ true) × (newest_at old.held.world side s ≡ Some m) ×
@@ -160,7 +160,7 @@ Works w side s old new g = (waits old side s ≡ false) × GoesOn w side s old n
 
 -- What `give` answers to the worker at this side of switch s: that it is to stop; a new end; the message that waits; or
 -- what its next step comes to.
-abbrev pub RunGives : {E : Type 0} → ℕ → Side → ℕ → RunValue E → RunValue E → Given E → Type 0
+abbrev pub RunGives : {E : Type 0} → ℕ → Side → ℕ → RunValue E → RunValue E → WorkerTask E → Type 0
 RunGives w side s old new Stop = Stops old s × (new ≡ old)
 RunGives w side s old new (NewEnd e) = (¬ Stops old s) × (end_at old side s ≡ Some e) × (new ≡ taking old side s)
 RunGives w side s old new g = (¬ Stops old s) × (end_at old side s ≡ None) × Works w side s old new g
@@ -193,14 +193,14 @@ IsVain side s bytes k run = (¬ (told_before s side run.held.journal ≡ k)) ⊎
     (¬ IsEnabled run.held.world (event.Foreign s side bytes))
 
 -- what is answered where the front was received
-abbrev pub TakesIn : {E : Type 0} → ℕ → Side → ℕ → E → RunValue E → RunValue E → Told E → Type 0
+abbrev pub TakesIn : {E : Type 0} → ℕ → Side → ℕ → E → RunValue E → RunValue E → TellResult E → Type 0
 TakesIn w side s end old new (Back e (Some made)) = (e ≡ end) × (made ≡ receipt_kind side) × Receives w side s old new
 TakesIn w side s end old new (Back e None) = (e ≡ end) × (new ≡ old) × ¬ IsEnabled old.held.world (receipt side s)
 TakesIn w side s end old new Kept = ⊥
 TakesIn w side s end old new (Memory e) = (e ≡ end) × (new ≡ old)
 
 -- what is answered to other bytes
-abbrev pub TurnsAway : {E : Type 0} → ℕ → Side → ℕ → List ℕ → ℕ → E → RunValue E → RunValue E → Told E → Type 0
+abbrev pub TurnsAway : {E : Type 0} → ℕ → Side → ℕ → List ℕ → ℕ → E → RunValue E → RunValue E → TellResult E → Type 0
 TurnsAway w side s bytes k end old new (Back e (Some made)) = ⊥
 TurnsAway w side s bytes k end old new (Back e None) = (e ≡ end) × (new ≡ old) × IsVain side s bytes k old
 TurnsAway w side s bytes k end old new Kept = (told_before s side old.held.journal ≡ k) ×
@@ -208,7 +208,7 @@ TurnsAway w side s bytes k end old new Kept = (told_before s side old.held.journ
 TurnsAway w side s bytes k end old new (Memory e) = (e ≡ end) × (new ≡ old)
 
 -- what is answered over an end of an earlier session
-abbrev pub IsStale : {E : Type 0} → E → RunValue E → RunValue E → Told E → Type 0
+abbrev pub IsStale : {E : Type 0} → E → RunValue E → RunValue E → TellResult E → Type 0
 IsStale end old new (Back e None) = (e ≡ end) × (new ≡ old)
 IsStale end old new (Back e (Some made)) = ⊥
 IsStale end old new Kept = ⊥
@@ -219,14 +219,14 @@ abbrev pub IsPresent : {E : Type 0} → ℕ → ℕ → ℕ → RunValue E → T
 IsPresent n s name run = name ≡ present_name n s run.held.journal
 
 -- what is answered over an end of the present session
-abbrev pub TellsNow : {E : Type 0} → ℕ → Side → ℕ → List ℕ → ℕ → E → RunValue E → RunValue E → Told E → Type 0
+abbrev pub TellsNow : {E : Type 0} → ℕ → Side → ℕ → List ℕ → ℕ → E → RunValue E → RunValue E → TellResult E → Type 0
 TellsNow w side s bytes k end old new told =
     (IsFrontAt bytes side s old.held.world × TakesIn w side s end old new told) ⊎
     ((¬ IsFrontAt bytes side s old.held.world) × TurnsAway w side s bytes k end old new told)
 
 -- What `tell` answers over an end with this name: in its present session the front is received, where it can be; other
 -- bytes end the session, where they came next.
-abbrev pub RunTells : {E : Type 0} → ℕ → ℕ → ℕ → Side → ℕ → List ℕ → ℕ → E → RunValue E → RunValue E → Told E → Type 0
+abbrev pub RunTells : {E : Type 0} → ℕ → ℕ → ℕ → Side → ℕ → List ℕ → ℕ → E → RunValue E → RunValue E → TellResult E → Type 0
 RunTells n name w side s bytes k end old new told =
     (IsPresent n s name old × TellsNow w side s bytes k end old new told) ⊎
     ((¬ IsPresent n s name old) × IsStale end old new told)
@@ -238,7 +238,7 @@ pub record Drops {E : Type 0} (w s : ℕ) (end : E) (old new : RunValue E) : Typ
   pub now : new ≡ dropping between s
 
 -- what is answered where the end of the present session failed
-abbrev pub LosesNow : {E : Type 0} → ℕ → ℕ → E → RunValue E → RunValue E → Told E → Type 0
+abbrev pub LosesNow : {E : Type 0} → ℕ → ℕ → E → RunValue E → RunValue E → TellResult E → Type 0
 LosesNow w s end old new (Back e None) = (e ≡ end) ×
     (¬ IsEnabled old.held.world (event.Controller (of_controller.Lost s))) × (new ≡ old)
 LosesNow w s end old new (Back e (Some made)) = ⊥
@@ -246,12 +246,12 @@ LosesNow w s end old new Kept = Drops w s end old new
 LosesNow w s end old new (Memory e) = (e ≡ end) × (new ≡ old)
 
 -- what `lost` answers over an end with this name
-abbrev pub RunLoses : {E : Type 0} → ℕ → ℕ → ℕ → ℕ → E → RunValue E → RunValue E → Told E → Type 0
+abbrev pub RunLoses : {E : Type 0} → ℕ → ℕ → ℕ → ℕ → E → RunValue E → RunValue E → TellResult E → Type 0
 RunLoses n name w s end old new told = (IsPresent n s name old × LosesNow w s end old new told) ⊎
     ((¬ IsPresent n s name old) × IsStale end old new told)
 
 -- what `shut` answers
-abbrev pub Shuts : {E : Type 0} → Side → ℕ → RunValue E → RunValue E → Shut E → Type 0
+abbrev pub Shuts : {E : Type 0} → Side → ℕ → RunValue E → RunValue E → IdleTask E → Type 0
 Shuts side s old new (shut.NewEnd e) = (¬ Stops old s) × (end_at old side s ≡ Some e) × (new ≡ taking old side s)
 Shuts side s old new shut.Nothing = (¬ Stops old s) × (end_at old side s ≡ None) × (new ≡ old)
 Shuts side s old new shut.Stop = Stops old s × (new ≡ old)

@@ -15,7 +15,7 @@ use std::alloc::{AllocError, Global};
 use std::cell::Cell;
 use std::collections::VecDeque;
 use std::marker::Model;
-use worker_desk::{Given, Made};
+use worker_desk::{MadeStep, WorkerTask};
 
 // What a worker is to do next over its end.
 #[derive(Drop)]
@@ -23,15 +23,15 @@ enum Work {
     // To send this message.
     Out(Letter),
     // To receive: a message is on its way to it.
-    Expect(Made),
+    Expect(MadeStep),
     // To ask again.
-    Nothing(Made),
+    Nothing(MadeStep),
 }
 
 // A message that can be written, and the kind of the step that made it. Clauses see the message.
 struct Letter {
     message: Message,
-    made: Made,
+    made: MadeStep,
 }
 
 impl Drop for Letter {
@@ -56,56 +56,56 @@ impl Model for Letter {
 
 impl Work {
     // What was given, which is neither a new end nor to stop.
-    fn of<E: Link>(given: Given<E>) -> Work
+    fn of<E: Link>(given: WorkerTask<E>) -> Work
         requires fits { CanBeWritten given }
         requires work { IsWork given }
     {
         match given {
-            Given::Out { message, made } => Work::Out(Letter { message, made }),
-            Given::Expect { made } => Work::Expect(made),
-            Given::Nothing { made } => Work::Nothing(made),
-            Given::NewEnd(_) => unreachable!(),
-            Given::Stop => unreachable!(),
+            WorkerTask::Out { message, made } => Work::Out(Letter { message, made }),
+            WorkerTask::Expect { made } => Work::Expect(made),
+            WorkerTask::Nothing { made } => Work::Nothing(made),
+            WorkerTask::NewEnd(_) => unreachable!(),
+            WorkerTask::Stop => unreachable!(),
         }
     }
 
     // The same as it is given.
-    fn give<E: Link>(self) -> Given<E>
+    fn give<E: Link>(self) -> WorkerTask<E>
         ensures fits { CanBeWritten result }
         ensures work { IsWork result }
     {
         match self {
             Work::Out(letter) => letter.give(),
-            Work::Expect(made) => Given::Expect { made },
-            Work::Nothing(made) => Given::Nothing { made },
+            Work::Expect(made) => WorkerTask::Expect { made },
+            Work::Nothing(made) => WorkerTask::Nothing { made },
         }
     }
 }
 
 impl Letter {
     // The message, to be sent.
-    fn give<E: Link>(self) -> Given<E>
+    fn give<E: Link>(self) -> WorkerTask<E>
         ensures fits { CanBeWritten result }
         ensures work { IsWork result }
     {
         let Letter { message, made } = self;
-        Given::Out { message, made }
+        WorkerTask::Out { message, made }
     }
 }
 
 /// What one worker is to do, made ahead of its calls, in order; how many steps it makes so at most; and whether the
 /// other side is still to be woken.
 #[derive(Drop)]
-pub(crate) struct Ahead {
+pub(crate) struct StepsAhead {
     most: u32,
     works: Cell<Option<VecDeque<Work>>>,
     owes: Cell<bool>,
 }
 
-impl Ahead {
+impl StepsAhead {
     /// Nothing yet, and at most this number of steps.
-    pub(crate) fn new(most: u32) -> Ahead {
-        Ahead {
+    pub(crate) fn new(most: u32) -> StepsAhead {
+        StepsAhead {
             most,
             works: Cell::new(None),
             owes: Cell::new(false),
@@ -128,7 +128,7 @@ impl Ahead {
     }
 
     /// Takes the next out, if there is one. No new end is among them.
-    pub(crate) fn next<L: RunName, E: Link>(&self, seat: &Seat<L>) -> Option<Given<E>>
+    pub(crate) fn next<L: RunName, E: Link>(&self, seat: &Seat<L>) -> Option<WorkerTask<E>>
         ensures fits { IfSome result CanBeWritten }
         ensures named { IfSome result
             (OnNewEnd (λ e. E.named e % switches L.start ≡ place_of (switches L.start) seat.now.worker)) }
@@ -152,7 +152,7 @@ impl Ahead {
     }
 
     /// Puts what was given at the end. It is lost if there is no room for it.
-    pub(crate) fn push<E: Link>(&self, given: Given<E>)
+    pub(crate) fn push<E: Link>(&self, given: WorkerTask<E>)
         requires fits { CanBeWritten given }
         requires work { IsWork given }
     {

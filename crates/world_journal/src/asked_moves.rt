@@ -17,13 +17,13 @@ use crate::name::RunName;
 use crate::poster::Poster;
 use crate::seat::Seat;
 use crate::updates::{Absence, Update};
-use crate::watched::{Watched, post_step};
+use crate::watched::{WatchedRun, post_step};
 use outside_net::Link;
 use std::alloc::{AllocError, Global};
 
 // What the caller is to do next.
 pub(crate) fn update_of<L: RunName, P: Poster, E: Link>(
-    run: &mut Option<Watched<L, P, E>>,
+    run: &mut Option<WatchedRun<L, P, E>>,
     alloc: Global,
     seat: &mut Seat<L>,
 ) -> Result<Update, AllocError>
@@ -46,7 +46,7 @@ pub(crate) fn update_of<L: RunName, P: Poster, E: Link>(
 
 // Makes a switch return over a new pair.
 pub(crate) fn rejoin_of<L: RunName, P: Poster, E: Link>(
-    run: &mut Option<Watched<L, P, E>>,
+    run: &mut Option<WatchedRun<L, P, E>>,
     alloc: Global,
     seat: &mut Seat<L>,
     absence: Absence,
@@ -73,7 +73,7 @@ pub(crate) fn rejoin_of<L: RunName, P: Poster, E: Link>(
 
 // Lets the packet at a place of the lines come in.
 pub(crate) fn come_in_of<L: RunName, P: Poster, E: Link>(
-    run: &mut Option<Watched<L, P, E>>,
+    run: &mut Option<WatchedRun<L, P, E>>,
     alloc: Global,
     seat: &mut Seat<L>,
     place: usize,
@@ -96,7 +96,7 @@ pub(crate) fn come_in_of<L: RunName, P: Poster, E: Link>(
 
 // Lets a copy take a hop.
 pub(crate) fn hop_on_of<L: RunName, P: Poster, E: Link>(
-    run: &mut Option<Watched<L, P, E>>,
+    run: &mut Option<WatchedRun<L, P, E>>,
     alloc: Global,
     seat: &mut Seat<L>,
 ) -> Result<StepOutcome, AllocError>

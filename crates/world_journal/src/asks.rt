@@ -5,9 +5,9 @@
 ghost use Rattle.std.specs.Prelude.{◌≡◌, ◌<◌, ◌%◌, ◌⊎◌, [], IfOk, IfSome, IfNone, IsTrue, OnErr, None};
 ghost use Rattle.worker_desk.specs.Answers.{CanBeWritten, GivesBack, OnNewEnd, OnShutNewEnd};
 ghost use Rattle.worker_desk.specs.Streams.{TellsWhereKnown};
-ghost use Rattle.worker_desk.specs.declared.desk.Given.TheVariants as given;
-ghost use Rattle.worker_desk.specs.declared.desk.Told.TheVariants as told;
-ghost use Rattle.worker_desk.specs.declared.desk.Shut.TheVariants as shut;
+ghost use Rattle.worker_desk.specs.declared.desk.WorkerTask.TheVariants as given;
+ghost use Rattle.worker_desk.specs.declared.desk.TellResult.TheVariants as told;
+ghost use Rattle.worker_desk.specs.declared.desk.IdleTask.TheVariants as shut;
 ghost use Rattle.world_journal.specs.Ahead.{IsWork, MayWork};
 ghost use Rattle.world_journal.specs.Asking.{Closes, LaysBack, OnRun};
 ghost use Rattle.world_journal.specs.Calls.{RunGives, IsUnmoved, IsWorker, RunLoses, RunsOut, Shuts, RunTells};
@@ -17,17 +17,17 @@ ghost use Rattle.world_journal.specs.Journals.{switches};
 use crate::name::RunName;
 use crate::poster::Poster;
 use crate::seat::Seat;
-use crate::watched::{Watched, post_step};
+use crate::watched::{WatchedRun, post_step};
 use outside_net::Link;
 use std::alloc::{AllocError, Global};
-use worker_desk::{Given, Shut, Told};
+use worker_desk::{IdleTask, TellResult, WorkerTask};
 
 // What a worker is to do next.
 pub(crate) fn given_of<L: RunName, P: Poster, E: Link>(
-    run: &mut Option<Watched<L, P, E>>,
+    run: &mut Option<WatchedRun<L, P, E>>,
     alloc: Global,
     seat: &mut Seat<L>,
-) -> Result<Given<E>, AllocError>
+) -> Result<WorkerTask<E>, AllocError>
     requires seat { IsWorker (switches L.start) seat.old.worker }
     ensures seat { IsUnmoved seat.old.worker seat.new.worker seat.old.share.parts seat.new.share.parts }
     ensures fits { IfOk result CanBeWritten }
@@ -42,7 +42,7 @@ pub(crate) fn given_of<L: RunName, P: Poster, E: Link>(
         (place_of (switches L.start) seat.old.worker)) ⊥ run.old run.new) }
 {
     match run {
-        None => Ok(Given::Stop),
+        None => Ok(WorkerTask::Stop),
         Some(there) => {
             let given = there.run.give(alloc, seat);
             post_step(&mut there.run, &mut there.pen);
@@ -53,10 +53,10 @@ pub(crate) fn given_of<L: RunName, P: Poster, E: Link>(
 
 // What a worker is to do once more, if that is neither to stop nor to begin a new session.
 pub(crate) fn more_of<L: RunName, P: Poster, E: Link>(
-    run: &mut Option<Watched<L, P, E>>,
+    run: &mut Option<WatchedRun<L, P, E>>,
     alloc: Global,
     seat: &mut Seat<L>,
-) -> Option<Given<E>>
+) -> Option<WorkerTask<E>>
     requires seat { IsWorker (switches L.start) seat.old.worker }
     ensures seat { IsUnmoved seat.old.worker seat.new.worker seat.old.share.parts seat.new.share.parts }
     ensures fits { IfSome result CanBeWritten }
@@ -76,7 +76,10 @@ pub(crate) fn more_of<L: RunName, P: Poster, E: Link>(
 }
 
 // Whether there is a run in which a worker is to go on over its end.
-fn may_work<L: RunName, P: Poster, E: Link>(run: &Option<Watched<L, P, E>>, seat: &Seat<L>) -> bool
+fn may_work<L: RunName, P: Poster, E: Link>(
+    run: &Option<WatchedRun<L, P, E>>,
+    seat: &Seat<L>,
+) -> bool
     requires { IsWorker (switches L.start) seat.now.worker }
     ensures { IsTrue result →
         MayWork (side_of (switches L.start) seat.now.worker) (place_of (switches L.start) seat.now.worker) run.now }
@@ -90,13 +93,13 @@ fn may_work<L: RunName, P: Poster, E: Link>(run: &Option<Watched<L, P, E>>, seat
 
 // What comes of bytes that a worker received.
 pub(crate) fn told_of<L: RunName, P: Poster, E: Link>(
-    run: &mut Option<Watched<L, P, E>>,
+    run: &mut Option<WatchedRun<L, P, E>>,
     alloc: Global,
     seat: &mut Seat<L>,
     bytes: &[u8],
     end: E,
     k: u64,
-) -> Told<E>
+) -> TellResult<E>
     requires seat { IsWorker (switches L.start) seat.old.worker }
     requires name { E.named end % switches L.start ≡ place_of (switches L.start) seat.old.worker }
     requires stream { TellsWhereKnown (E.received end) k bytes.now }
@@ -107,7 +110,7 @@ pub(crate) fn told_of<L: RunName, P: Poster, E: Link>(
     ensures back { GivesBack end result }
 {
     match run {
-        None => Told::Back { end, made: None },
+        None => TellResult::Back { end, made: None },
         Some(there) => {
             let told = there.run.tell(alloc, seat, bytes, end, k);
             post_step(&mut there.run, &mut there.pen);
@@ -118,11 +121,11 @@ pub(crate) fn told_of<L: RunName, P: Poster, E: Link>(
 
 // What comes of an end that failed.
 pub(crate) fn lost_of<L: RunName, P: Poster, E: Link>(
-    run: &mut Option<Watched<L, P, E>>,
+    run: &mut Option<WatchedRun<L, P, E>>,
     alloc: Global,
     seat: &mut Seat<L>,
     end: E,
-) -> Told<E>
+) -> TellResult<E>
     requires seat { IsWorker (switches L.start) seat.old.worker }
     requires name { E.named end % switches L.start ≡ place_of (switches L.start) seat.old.worker }
     requires failed { 0 < E.faults end }
@@ -133,7 +136,7 @@ pub(crate) fn lost_of<L: RunName, P: Poster, E: Link>(
     ensures back { GivesBack end result }
 {
     match run {
-        None => Told::Back { end, made: None },
+        None => TellResult::Back { end, made: None },
         Some(there) => {
             let told = there.run.lost(alloc, seat, end);
             post_step(&mut there.run, &mut there.pen);
@@ -144,9 +147,9 @@ pub(crate) fn lost_of<L: RunName, P: Poster, E: Link>(
 
 // What a worker without an open end is to do.
 pub(crate) fn shut_of<L: RunName, P: Poster, E: Link>(
-    run: &mut Option<Watched<L, P, E>>,
+    run: &mut Option<WatchedRun<L, P, E>>,
     seat: &Seat<L>,
-) -> Shut<E>
+) -> IdleTask<E>
     requires seat { IsWorker (switches L.start) seat.now.worker }
     ensures named { OnShutNewEnd (λ e. E.named e % switches L.start ≡ place_of (switches L.start) seat.now.worker)
         result }
@@ -155,13 +158,13 @@ pub(crate) fn shut_of<L: RunName, P: Poster, E: Link>(
         (place_of (switches L.start) seat.now.worker) old new result) (result ≡ shut.Stop) run.old run.new }
 {
     match run {
-        None => Shut::Stop,
+        None => IdleTask::Stop,
         Some(there) => there.run.shut(seat),
     }
 }
 
 // Closes it.
-pub(crate) fn close_of<L: RunName, P: Poster, E: Link>(run: &mut Option<Watched<L, P, E>>)
+pub(crate) fn close_of<L: RunName, P: Poster, E: Link>(run: &mut Option<WatchedRun<L, P, E>>)
     ensures { OnRun Closes (Unit {0}) run.old run.new }
 {
     match run {
@@ -172,7 +175,7 @@ pub(crate) fn close_of<L: RunName, P: Poster, E: Link>(run: &mut Option<Watched<
 
 // Lays a seat back. It is dropped if the run was taken out.
 pub(crate) fn lay_of<L: RunName, P: Poster, E: Link>(
-    run: &mut Option<Watched<L, P, E>>,
+    run: &mut Option<WatchedRun<L, P, E>>,
     seat: Seat<L>,
 )
     requires { seat.share.parts ≡ 1 }

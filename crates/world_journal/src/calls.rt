@@ -16,12 +16,12 @@ use crate::seat::Seat;
 use outside_net::Link;
 use std::alloc::{AllocError, Global};
 use update_coordinator::Side;
-use worker_desk::{Given, Shut, Told};
+use worker_desk::{IdleTask, TellResult, WorkerTask};
 
 mod receipts;
 mod sends;
 
-use receipts::{Received, lose_at, tell_at};
+use receipts::{ReceivedBytes, lose_at, tell_at};
 use sends::work_at;
 
 impl<L: RunName, E: Link> Run<L, E> {
@@ -29,7 +29,7 @@ impl<L: RunName, E: Link> Run<L, E> {
     /// new session is over the end that is laid out for it. It sends the message that waits, or the one that its next
     /// step puts on its channel. It receives if a message is on its way to it and can be taken. Out of memory a step
     /// may stand, and its message then waits.
-    pub fn give(&mut self, alloc: Global, seat: &mut Seat<L>) -> Result<Given<E>, AllocError>
+    pub fn give(&mut self, alloc: Global, seat: &mut Seat<L>) -> Result<WorkerTask<E>, AllocError>
         requires seat { IsWorker (switches L.start) seat.old.worker }
         ensures seat { IsUnmoved seat.old.worker seat.new.worker seat.old.share.parts seat.new.share.parts }
         ensures fits { IfOk result CanBeWritten }
@@ -57,7 +57,7 @@ impl<L: RunName, E: Link> Run<L, E> {
         bytes: &[u8],
         end: E,
         k: u64,
-    ) -> Told<E>
+    ) -> TellResult<E>
         requires seat { IsWorker (switches L.start) seat.old.worker }
         requires name { E.named end % switches L.start ≡ place_of (switches L.start) seat.old.worker }
         requires stream { TellsWhereKnown (E.received end) k bytes.now }
@@ -69,15 +69,15 @@ impl<L: RunName, E: Link> Run<L, E> {
     {
         let (side, s) = seat.at();
         if self.is_present(s, end.name()) {
-            tell_at(self, alloc, seat, side, s, Received { bytes, end, k })
+            tell_at(self, alloc, seat, side, s, ReceivedBytes { bytes, end, k })
         } else {
-            Told::Back { end, made: None }
+            TellResult::Back { end, made: None }
         }
     }
 
     /// The end of the worker of this seat failed: the session is lost, unless the coordinator has halted or the end is
     /// of an earlier session.
-    pub fn lost(&mut self, alloc: Global, seat: &mut Seat<L>, end: E) -> Told<E>
+    pub fn lost(&mut self, alloc: Global, seat: &mut Seat<L>, end: E) -> TellResult<E>
         requires seat { IsWorker (switches L.start) seat.old.worker }
         requires name { E.named end % switches L.start ≡ place_of (switches L.start) seat.old.worker }
         requires failed { 0 < E.faults end }
@@ -90,12 +90,12 @@ impl<L: RunName, E: Link> Run<L, E> {
         if self.is_present(s, end.name()) {
             lose_at(self, alloc, seat, side, s, end)
         } else {
-            Told::Back { end, made: None }
+            TellResult::Back { end, made: None }
         }
     }
 
     /// What the worker of this seat, which has no open end, is to do: to stop, to begin a new session, or nothing.
-    pub fn shut(&mut self, seat: &Seat<L>) -> Shut<E>
+    pub fn shut(&mut self, seat: &Seat<L>) -> IdleTask<E>
         requires seat { IsWorker (switches L.start) seat.now.worker }
         ensures named { OnShutNewEnd (λ e. E.named e % switches L.start ≡ place_of (switches L.start) seat.now.worker)
             result }
@@ -105,11 +105,11 @@ impl<L: RunName, E: Link> Run<L, E> {
     {
         let (side, s) = seat.at();
         if self.stops(s) {
-            return Shut::Stop;
+            return IdleTask::Stop;
         }
         match self.take_end(side, s) {
-            Some(end) => Shut::NewEnd(end),
-            None => Shut::Nothing,
+            Some(end) => IdleTask::NewEnd(end),
+            None => IdleTask::Nothing,
         }
     }
 }
@@ -121,7 +121,7 @@ fn give_at<L: RunName, E: Link>(
     seat: &mut Seat<L>,
     side: Side,
     s: usize,
-) -> Result<Given<E>, AllocError>
+) -> Result<WorkerTask<E>, AllocError>
     requires seat { WorksAt (switches L.start) seat.old.worker side s }
     ensures seat { IsUnmoved seat.old.worker seat.new.worker seat.old.share.parts seat.new.share.parts }
     ensures fits { IfOk result CanBeWritten }
@@ -131,10 +131,10 @@ fn give_at<L: RunName, E: Link>(
     ensures memory { OnErr result (RunsOut seat.old.worker side s run.old run.new) }
 {
     if run.stops(s) {
-        return Ok(Given::Stop);
+        return Ok(WorkerTask::Stop);
     }
     match run.take_end(side, s) {
-        Some(end) => Ok(Given::NewEnd(end)),
+        Some(end) => Ok(WorkerTask::NewEnd(end)),
         None => work_at(run, alloc, seat, side, s),
     }
 }

@@ -16,16 +16,16 @@ pub use cutting::CutError;
 
 /// A world, the journal that led to it from the start that `L` names, and the ends that were kept for sessions that
 /// were lost or met foreign bytes. As many steps are booked in the ledger as the journal has entries.
-pub struct Held<L: RunName, E: Link> {
+pub struct BookedWorld<L: RunName, E: Link> {
     world: World,
     journal: Vec<Entry>,
     ends: Vec<E>,
     book: Book<L>,
 }
 
-impl<L: RunName, E: Link> Drop for Held<L, E> {
+impl<L: RunName, E: Link> Drop for BookedWorld<L, E> {
     fn drop(self) {
-        let Held {
+        let BookedWorld {
             world: _world,
             journal: _journal,
             ends: _ends,
@@ -34,7 +34,7 @@ impl<L: RunName, E: Link> Drop for Held<L, E> {
     }
 }
 
-impl<L: RunName, E: Link> Model for Held<L, E> {
+impl<L: RunName, E: Link> Model for BookedWorld<L, E> {
     ghost use Rattle.std.specs.Prelude.{◌≡◌, length};
     ghost use Rattle.world_journal.specs.Journals.{HeldValue, IsJournal};
     ghost use Rattle.nk_syntax.specs.contracts.pol.Pol as pols;
@@ -51,21 +51,21 @@ impl<L: RunName, E: Link> Model for Held<L, E> {
         (h.book.total ≡ length h.journal.items) };
 }
 
-impl<L: RunName, E: Link> Held<L, E> {
+impl<L: RunName, E: Link> BookedWorld<L, E> {
     ghost use Rattle.std.specs.Prelude.{◌≡◌, ◌<◌, ◌+◌, ◌++◌, ◌∷◌, [], false, OnOk, OnErr, Err, length};
     ghost use Rattle.world_core.specs.Steps.{Step, IsEnabled, Runs};
     ghost use Rattle.world_journal.specs.Makers.{MayMake, is_cut};
     ghost use Rattle.world_journal.specs.Journals.{HeldValue, IsJournal, entry, events_of, switches};
 
     /// A world at its start, with an empty journal, and the caller's seat, which has all parts.
-    pub fn make(alloc: Global, world: World, blank: Blank) -> (Held<L, E>, Seat<L>)
+    pub fn make(alloc: Global, world: World, blank: Blank) -> (BookedWorld<L, E>, Seat<L>)
         requires start { world ≡ L.start }
         requires blank { (blank.name ≡ L.name) × (blank.parts ≡ L.parts) × (0 < L.parts) }
         ensures held { result.0 ≡ record { world = world; journal = []; ends = [] } }
         ensures seat { (result.1.worker ≡ 0) × (result.1.share.parts ≡ L.parts) × (result.1.share.amount ≡ 0) }
     {
         let (book, share) = blank.open::<L>();
-        let held = Held {
+        let held = BookedWorld {
             world,
             journal: Vec::new(alloc),
             ends: Vec::new(alloc),
@@ -121,7 +121,7 @@ impl<L: RunName, E: Link> Held<L, E> {
         ensures ends { result.2.items ≡ self.ends }
         ensures history { IsJournal E.named E.faults E.received L.start self.world self.journal self.ends }
     {
-        let Held {
+        let BookedWorld {
             world,
             journal,
             ends,

@@ -23,7 +23,7 @@ mod updates;
 mod watched;
 
 pub use entry::Entry;
-pub use held::{CutError, Held};
+pub use held::{BookedWorld, CutError};
 pub use laws::{hello_waits, sent_is_put};
 pub use line::Line;
 pub use moves::StepOutcome;
@@ -34,5 +34,5 @@ pub use run_desk::RunDesk;
 pub use seat::{Role, Seat};
 pub use update_coordinator::Side;
 pub use updates::{Absence, Update};
-pub use watched::Watched;
+pub use watched::WatchedRun;
 pub use worker_desk::Desk;

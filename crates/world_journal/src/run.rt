@@ -4,7 +4,7 @@
 ghost use Rattle.std.specs.Prelude.{◌≡◌, None, slice_get, true};
 
 use crate::entry::Entry;
-use crate::held::Held;
+use crate::held::BookedWorld;
 use crate::line::Line;
 use crate::name::RunName;
 use crate::seat::Seat;
@@ -57,7 +57,7 @@ impl From<AllocError> for RunError {
 /// and the seats that were laid back. Of each switch it has the number of its present session, how many messages were
 /// told at either side in it, and the new ends that are laid out for its workers.
 pub struct Run<L: RunName, E: Link> {
-    pub(crate) held: Held<L, E>,
+    pub(crate) held: BookedWorld<L, E>,
     lines: Vec<Line>,
     arrived: Vec<bool>,
     left: usize,

@@ -5,16 +5,16 @@ ghost use Rattle.std.specs.Prelude.{◌≡◌, ◌<◌, ◌%◌, None};
 ghost use Rattle.world_journal.specs.Calls.{IsUnmoved, IsWorker, place_of};
 ghost use Rattle.world_journal.specs.Journals.{switches};
 
-use crate::ahead::Ahead;
+use crate::ahead::StepsAhead;
 use crate::asks::{close_of, given_of, lost_of, more_of, shut_of, told_of};
 use crate::name::RunName;
 use crate::poster::Poster;
 use crate::seat::Seat;
-use crate::watched::Watched;
+use crate::watched::WatchedRun;
 use outside_net::Link;
 use std::alloc::{AllocError, Global};
 use std::sync::{Arc, Condvar, Mutex, Wait};
-use worker_desk::{Desk, Given, Shut, Told};
+use worker_desk::{Desk, IdleTask, TellResult, WorkerTask};
 
 mod making;
 mod moves;
@@ -32,14 +32,14 @@ struct Bells {
 
 /// A run beside its pen under their one lock, as its workers share them. A call locks once, or not at all if the desk
 /// made the worker's step ahead. What it answers under the lock is stated of one function: for `give` that is
-/// `given_of`, and so on (`asks`, `asked_moves`). A worker that is told there is nothing to do waits, with the lock given
-/// up, until a step was made that may have changed this.
+/// `given_of`, and so on (`asks`, `asked_moves`). A worker that is told there is nothing to do waits, with the lock
+/// given up, until a step was made that may have changed this.
 pub struct RunDesk<R, L: RunName, P: Poster, E: Link> {
     rt: R,
     alloc: Global,
-    run: Arc<Mutex<Option<Watched<L, P, E>>>>,
+    run: Arc<Mutex<Option<WatchedRun<L, P, E>>>>,
     bells: Arc<Bells>,
-    ahead: Ahead,
+    ahead: StepsAhead,
 }
 
 impl<R: Drop, L: RunName, P: Poster, E: Link> Drop for RunDesk<R, L, P, E> {
@@ -73,9 +73,9 @@ impl<R: Wait + Drop, L: RunName, P: Poster, E: Link> Desk for RunDesk<R, L, P, E
 
     ghost kept = { λ s. None };
 
-    fn give(&self, seat: &mut Seat<L>) -> Result<Given<E>, AllocError> {
+    fn give(&self, seat: &mut Seat<L>) -> Result<WorkerTask<E>, AllocError> {
         let next = self.ahead.next(seat);
-        if !matches!(next, Some(Given::Out { .. })) {
+        if !matches!(next, Some(WorkerTask::Out { .. })) {
             self.ring_owed(seat);
         }
         if let Some(given) = next {
@@ -84,13 +84,13 @@ impl<R: Wait + Drop, L: RunName, P: Poster, E: Link> Desk for RunDesk<R, L, P, E
         let mut guard = self.lock();
         let given = given_of(&mut *guard, self.alloc, seat);
         match &given {
-            Ok(Given::Nothing { made: None }) => self.wait(guard, self.bell(seat.worker())),
-            Ok(Given::Out { .. }) => {
+            Ok(WorkerTask::Nothing { made: None }) => self.wait(guard, self.bell(seat.worker())),
+            Ok(WorkerTask::Out { .. }) => {
                 self.go_ahead(&mut *guard, seat);
                 drop(guard);
                 self.owe(seat);
             }
-            Ok(Given::Stop) => {
+            Ok(WorkerTask::Stop) => {
                 drop(guard);
                 self.ring(seat);
             }
@@ -99,15 +99,15 @@ impl<R: Wait + Drop, L: RunName, P: Poster, E: Link> Desk for RunDesk<R, L, P, E
         given
     }
 
-    fn tell(&self, seat: &mut Seat<L>, bytes: &[u8], end: E, k: u64) -> Told<E> {
+    fn tell(&self, seat: &mut Seat<L>, bytes: &[u8], end: E, k: u64) -> TellResult<E> {
         self.ring_owed(seat);
         let mut guard = self.lock();
         let before = progress_of(&guard);
         let told = told_of(&mut *guard, self.alloc, seat, bytes, end, k);
         let rings = match &told {
-            Told::Back { made: Some(_), .. } => self.go_ahead(&mut *guard, seat),
-            Told::Back { made: None, .. } => false,
-            Told::Kept | Told::Memory(_) => true,
+            TellResult::Back { made: Some(_), .. } => self.go_ahead(&mut *guard, seat),
+            TellResult::Back { made: None, .. } => false,
+            TellResult::Kept | TellResult::Memory(_) => true,
         };
         let after = progress_of(&guard);
         drop(guard);
@@ -119,19 +119,19 @@ impl<R: Wait + Drop, L: RunName, P: Poster, E: Link> Desk for RunDesk<R, L, P, E
         told
     }
 
-    fn lost(&self, seat: &mut Seat<L>, end: E) -> Told<E> {
+    fn lost(&self, seat: &mut Seat<L>, end: E) -> TellResult<E> {
         self.ahead.clear();
         let told = lost_of(&mut *self.lock(), self.alloc, seat, end);
         self.wake_all();
         told
     }
 
-    fn shut(&self, seat: &mut Seat<L>) -> Shut<E> {
+    fn shut(&self, seat: &mut Seat<L>) -> IdleTask<E> {
         self.ahead.clear();
         self.ring_owed(seat);
         let mut guard = self.lock();
         let shut = shut_of(&mut *guard, seat);
-        if matches!(shut, Shut::Nothing) {
+        if matches!(shut, IdleTask::Nothing) {
             self.wait(guard, self.bell(seat.worker()));
         }
         shut
@@ -161,7 +161,7 @@ impl<R: Wait + Drop, L: RunName, P: Poster, E: Link> RunDesk<R, L, P, E> {
 
     // Makes further steps of a worker ahead of its calls, up to one that gives no message. Says whether one gave a
     // message.
-    fn go_ahead(&self, run: &mut Option<Watched<L, P, E>>, seat: &mut Seat<L>) -> bool
+    fn go_ahead(&self, run: &mut Option<WatchedRun<L, P, E>>, seat: &mut Seat<L>) -> bool
         requires { IsWorker (switches L.start) seat.old.worker }
         ensures { IsUnmoved seat.old.worker seat.new.worker seat.old.share.parts seat.new.share.parts }
     {
@@ -173,7 +173,7 @@ impl<R: Wait + Drop, L: RunName, P: Poster, E: Link> RunDesk<R, L, P, E> {
             let Some(given) = more_of(run, self.alloc, seat) else {
                 return gave;
             };
-            let is_out = matches!(given, Given::Out { .. });
+            let is_out = matches!(given, WorkerTask::Out { .. });
             if !is_idle(&given) {
                 self.ahead.push(given);
             }

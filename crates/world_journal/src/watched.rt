@@ -8,7 +8,7 @@ ghost use Rattle.world_journal.specs.Journals.{events_of};
 ghost use Rattle.world_journal.specs.Runs.{HasEnded};
 ghost use Rattle.world_journal.specs.Watching.{MayPost, StaysOrCloses};
 
-use crate::held::Held;
+use crate::held::BookedWorld;
 use crate::name::RunName;
 use crate::poster::Poster;
 use crate::run::{Run, RunError};
@@ -18,21 +18,21 @@ use std::marker::Model;
 
 /// A run beside the pen of its board. Each post says where the run stood after as many entries of its journal as it
 /// counts, and the newest counts all of them unless the run was closed.
-pub struct Watched<L: RunName, P: Poster, E: Link> {
+pub struct WatchedRun<L: RunName, P: Poster, E: Link> {
     pub(crate) run: Run<L, E>,
     pub(crate) pen: P,
 }
 
-impl<L: RunName, P: Poster, E: Link> Drop for Watched<L, P, E> {
+impl<L: RunName, P: Poster, E: Link> Drop for WatchedRun<L, P, E> {
     fn drop(self) {
-        let Watched {
+        let WatchedRun {
             run: _run,
             pen: _pen,
         } = self;
     }
 }
 
-impl<L: RunName, P: Poster, E: Link> Model for Watched<L, P, E> {
+impl<L: RunName, P: Poster, E: Link> Model for WatchedRun<L, P, E> {
     ghost use Rattle.std.specs.Prelude.{◌≡◌, false};
     ghost use Rattle.nk_syntax.specs.contracts.pol.Pol as pols;
     ghost use Rattle.std.specs.Coded.{codes};
@@ -51,19 +51,19 @@ impl<L: RunName, P: Poster, E: Link> Model for Watched<L, P, E> {
         (w.run.closed ≡ false → IsPosted (events_of w.run.held.journal) (P.posts w.pen)) };
 }
 
-impl<L: RunName, P: Poster, E: Link> Watched<L, P, E> {
+impl<L: RunName, P: Poster, E: Link> WatchedRun<L, P, E> {
     /// A run that has made no step, beside a pen that has posted nothing.
-    pub fn new(run: Run<L, E>, pen: P) -> Watched<L, P, E>
+    pub fn new(run: Run<L, E>, pen: P) -> WatchedRun<L, P, E>
         requires journal { run.held.journal ≡ [] }
         requires pen { P.posts pen ≡ [] }
         ensures run { result.run ≡ run }
         ensures posts { result.posts ≡ [] }
     {
-        Watched { run, pen }
+        WatchedRun { run, pen }
     }
 
     /// What `Run::finish` gives, with the pen, whose newest post then counts all entries.
-    pub fn finish(self) -> Result<(Held<L, E>, Seat<L>, P), RunError>
+    pub fn finish(self) -> Result<(BookedWorld<L, E>, Seat<L>, P), RunError>
         requires back { self.run.back ≡ L.all }
         requires all { (L.all ≡ L.parts) × (0 < L.all) }
         requires over { HasEnded L.lines self.run }
@@ -75,7 +75,7 @@ impl<L: RunName, P: Poster, E: Link> Watched<L, P, E> {
         ensures posted { IfOk result (λ r. IsPosted (events_of r.0.journal) (P.posts r.2)) }
         ensures fault { IfErr result (λ f. f ≡ RunError.Memory) }
     {
-        let Watched { run, pen } = self;
+        let WatchedRun { run, pen } = self;
         let (held, seat) = run.finish()?;
         Ok((held, seat, pen))
     }

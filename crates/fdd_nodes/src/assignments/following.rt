@@ -18,7 +18,7 @@ impl Assignments {
         ensures stripped { IfOk result (λ r. r ≡ strip cell.now self.now) }
         ensures copy { IsCopy self.now }
     {
-        if self.is_free_of(cell) {
+        if self.is_disjoint_from(cell) {
             return self.copy();
         }
         let kept = unfixed(alloc, cell, self.lits())?;

@@ -4,7 +4,7 @@
 ghost use Rattle.std.specs.Prelude.{◌≡◌, ◌↔◌, IsTrue};
 ghost use Rattle.nk_values.specs.declared.lit.Lit.{Lit};
 ghost use Rattle.fdd_nodes.specs.Copies.{assigned};
-ghost use Rattle.fdd_nodes.specs.Makes.{made, IsFreeOf};
+ghost use Rattle.fdd_nodes.specs.Makes.{made, IsDisjointFrom};
 
 use crate::cell::Cell;
 use nk_values::{Field, Lit, Packet};
@@ -31,7 +31,7 @@ pub(super) fn assigned_in(lits: &[Lit], f: Field) -> Option<u64>
 }
 
 pub(super) fn none_fixed(lits: &[Lit], cell: &Cell) -> bool
-    ensures { IsTrue result ↔ IsFreeOf cell.now lits.now }
+    ensures { IsTrue result ↔ IsDisjointFrom cell.now lits.now }
 {
     for l in lits {
         if l.holds(cell.generic()) {

@@ -5,7 +5,7 @@ ghost use Rattle.std.specs.Prelude.{◌≡◌, ◌↔◌, IsTrue, IfOk, MatchOpt
 ghost use Rattle.std.specs.List.Sorted.{IsStrictlySortedBy};
 ghost use Rattle.nk_values.specs.Members.{IsIn};
 ghost use Rattle.fdd_nodes.specs.Copies.{copy_cmp, IsPlace};
-ghost use Rattle.fdd_nodes.specs.Makes.{Makes, MakesAll, AreFreeOf};
+ghost use Rattle.fdd_nodes.specs.Makes.{Makes, MakesAll, AreDisjointFrom};
 ghost use Rattle.fdd_nodes.specs.Trees.{outcomes};
 
 use crate::assignments::Assignments;
@@ -88,11 +88,11 @@ pub(super) fn makes_all(xs: &[Assignments], ys: &[Assignments], packet: &Packet)
 }
 
 // Whether a cell fixes no literal of the copies.
-pub(crate) fn are_free_of(copies: &[Assignments], cell: &Cell) -> bool
-    ensures { IsTrue result ↔ AreFreeOf cell.now copies.now }
+pub(crate) fn are_disjoint_from(copies: &[Assignments], cell: &Cell) -> bool
+    ensures { IsTrue result ↔ AreDisjointFrom cell.now copies.now }
 {
     for c in copies {
-        if !c.is_free_of(cell) {
+        if !c.is_disjoint_from(cell) {
             return false;
         }
     }

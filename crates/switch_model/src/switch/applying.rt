@@ -9,7 +9,7 @@ ghost use Rattle.openflow_wire.specs.Writing.{Fits};
 ghost use Rattle.switch_model.specs.Switches.{Outcome};
 
 use super::{ApplyError, ApplyFault, Switch};
-use crate::pending::Pending;
+use crate::pending::PendingMod;
 use crate::refusing::table_full;
 use flow_index::{ChangeError, ChangeFault, Table};
 use openflow_wire::Message;
@@ -69,7 +69,7 @@ impl Switch {
 }
 
 // Changes a table by a flow mod. A row that is added takes the actions out of the flow mod.
-fn change_by(alloc: Global, table: &mut Table, pending: &mut Pending) -> Result<(), ChangeError>
+fn change_by(alloc: Global, table: &mut Table, pending: &mut PendingMod) -> Result<(), ChangeError>
     ensures ok { OnOk result (Outcome table.old pending.old table.new.rows None) }
     ensures capacity { table.new.capacity ≡ table.old.capacity }
     ensures full { result ≡ Err (Fault ChangeFault.Full) → IsFull table.old.capacity table.old.rows pending.old.change }

@@ -6,8 +6,8 @@ ghost use Rattle.openflow_wire.specs.Writing.{Fits};
 ghost use Rattle.openflow_wire.specs.declared.message.Message.TheVariants as to;
 ghost use Rattle.switch_model.specs.Switches.{bad_type, features};
 
-use super::{NotTaken, Switch, TakeError, TakeFault};
-use crate::pending::Pending;
+use super::{RejectedMessage, Switch, TakeError, TakeFault};
+use crate::pending::PendingMod;
 use crate::refusing::bad_type;
 use nk_values::FlowMod;
 use openflow_wire::{Message, Octets};
@@ -25,7 +25,11 @@ impl Switch {
 
     /// Takes a message of the controller, and answers what can be answered at once. While a barrier is awaited
     /// nothing is taken. A message that is not taken comes back, and the switch is as it was.
-    pub fn take(&mut self, alloc: Global, message: Message) -> Result<Option<Message>, NotTaken>
+    pub fn take(
+        &mut self,
+        alloc: Global,
+        message: Message,
+    ) -> Result<Option<Message>, RejectedMessage>
         requires { Fits message }
 
         ensures open { OnOk result (self.old.awaited ≡ None) }
@@ -40,7 +44,7 @@ impl Switch {
     {
         if self.awaited.is_some() {
             let error = TakeError::Fault(TakeFault::Waiting);
-            return Err(NotTaken { error, message });
+            return Err(RejectedMessage { error, message });
         }
         match message {
             Message::FlowMod { xid, change } => self.hold(xid, change),
@@ -62,7 +66,7 @@ impl Switch {
     }
 
     // Holds a flow mod until it is applied.
-    fn hold(&mut self, xid: u32, change: FlowMod) -> Result<Option<Message>, NotTaken>
+    fn hold(&mut self, xid: u32, change: FlowMod) -> Result<Option<Message>, RejectedMessage>
         requires { Fits (to.FlowMod xid change) }
         ensures taken { OnOk result (self.new ≡ taken (to.FlowMod xid change) self.old) }
         ensures answer { IfOk result (λ answer. answer ≡ None) }
@@ -70,24 +74,24 @@ impl Switch {
         ensures err { OnErr result (self.new ≡ self.old) }
     {
         if self.pending.reserve(1).is_err() {
-            return Err(NotTaken {
+            return Err(RejectedMessage {
                 error: TakeError::Memory,
                 message: Message::FlowMod { xid, change },
             });
         }
-        self.pending.push_reserved(Pending { xid, change });
+        self.pending.push_reserved(PendingMod { xid, change });
         Ok(None)
     }
 }
 
 // Answers a request for the features, or gives it back.
-fn identify(alloc: Global, sw: u16, xid: u32) -> Result<Option<Message>, NotTaken>
+fn identify(alloc: Global, sw: u16, xid: u32) -> Result<Option<Message>, RejectedMessage>
     ensures answer { IfOk result (λ answer. answer ≡ Some (features sw xid)) }
     ensures fits { IfOk result (λ answer. IfSome answer Fits) }
     ensures back { IfErr result (λ e. e ≡ record { error = TakeError.Memory; message = to.FeaturesRequest xid }) }
 {
     let Ok(ports) = Octets::from_slice(alloc, &[]) else {
-        return Err(NotTaken {
+        return Err(RejectedMessage {
             error: TakeError::Memory,
             message: Message::FeaturesRequest { xid },
         });
@@ -104,7 +108,7 @@ fn identify(alloc: Global, sw: u16, xid: u32) -> Result<Option<Message>, NotTake
 }
 
 // Answers a message of a kind that switches do not know, or gives it back.
-fn refuse(alloc: Global, message: Message) -> Result<Option<Message>, NotTaken>
+fn refuse(alloc: Global, message: Message) -> Result<Option<Message>, RejectedMessage>
     requires { Fits message }
     ensures answer { IfOk result (λ answer. answer ≡ Some (bad_type message)) }
     ensures fits { IfOk result (λ answer. IfSome answer Fits) }
@@ -112,7 +116,7 @@ fn refuse(alloc: Global, message: Message) -> Result<Option<Message>, NotTaken>
 {
     match bad_type(alloc, &message) {
         Ok(error) => Ok(Some(error)),
-        Err(_) => Err(NotTaken {
+        Err(_) => Err(RejectedMessage {
             error: TakeError::Memory,
             message,
         }),

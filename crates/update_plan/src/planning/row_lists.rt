@@ -19,11 +19,12 @@ pub(super) fn ports_at(
     ensures { IfOk result (λ v. map (λ p. p.now) v.items ≡ ports_at (option_map (λ r. r.now) rows.entry) sw) }
 {
     let mut ports = Vec::new(alloc);
-    if let Some(rows) = rows {
-        for port in rows.ports.as_slice() {
-            if port.sw == sw {
-                ports.push(port)?;
-            }
+    let Some(rows) = rows else {
+        return Ok(ports);
+    };
+    for port in &rows.ports {
+        if port.sw == sw {
+            ports.push(port)?;
         }
     }
     Ok(ports)

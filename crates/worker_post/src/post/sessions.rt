@@ -10,11 +10,11 @@ ghost use Rattle.worker_post.specs.Works.{IsEnd};
 use super::{CycleEnd, Inbox, Post};
 use of_framing::Framer;
 use std::sync::Wait;
-use worker_desk::{Desk, Gate, Shut};
+use worker_desk::{Desk, Gate, IdleTask};
 
 // What came after a session: its end, if it was not kept, and the one of the next session, if there is one.
 #[derive(Drop)]
-struct Ended<E> {
+struct SessionEnd<E> {
     end: Option<E>,
     next: Option<E>,
 }
@@ -31,9 +31,9 @@ impl<'a, D: Desk, G: Gate> Post<'a, D, G> {
     {
         for _ in rt.forever() {
             match self.desk.shut(seat) {
-                Shut::Stop => return None,
-                Shut::NewEnd(end) => return Some(end),
-                Shut::Nothing => {}
+                IdleTask::Stop => return None,
+                IdleTask::NewEnd(end) => return Some(end),
+                IdleTask::Nothing => {}
             }
         }
         unreachable!()
@@ -69,7 +69,7 @@ impl<'a, D: Desk, G: Gate> Post<'a, D, G> {
     }
 
     // Works over this end, and waits for what comes after its session.
-    fn session<R: Wait>(&self, rt: &R, seat: &mut D::Seat, end: D::End) -> Ended<D::End>
+    fn session<R: Wait>(&self, rt: &R, seat: &mut D::Seat, end: D::End) -> SessionEnd<D::End>
         requires seat { D.seated seat.old × (D.place_of (D.End.named end) ≡ D.place seat.old) }
         requires fresh { IfSome (D.End.received end) (λ xs. xs ≡ []) }
         ensures seat { D.seated seat.new × (D.place seat.new ≡ D.place seat.old) }
@@ -81,27 +81,27 @@ impl<'a, D: Desk, G: Gate> Post<'a, D, G> {
         ensures anew { IfSome result.next (IsNew D.place_of D.End.named D.End.received (D.place seat.old)) }
     {
         match self.serve(rt, seat, end) {
-            CycleEnd::Going(e) => Ended {
+            CycleEnd::Going(e) => SessionEnd {
                 end: Some(e),
                 next: None,
             },
-            CycleEnd::Stop(e) => Ended {
+            CycleEnd::Stop(e) => SessionEnd {
                 end: Some(e),
                 next: None,
             },
-            CycleEnd::Memory(e) => Ended {
+            CycleEnd::Memory(e) => SessionEnd {
                 end: Some(e),
                 next: None,
             },
-            CycleEnd::New { old, new } => Ended {
+            CycleEnd::New { old, new } => SessionEnd {
                 end: Some(old),
                 next: Some(new),
             },
-            CycleEnd::Shut(e) => Ended {
+            CycleEnd::Shut(e) => SessionEnd {
                 end: Some(e),
                 next: self.wait_out(rt, seat),
             },
-            CycleEnd::Kept => Ended {
+            CycleEnd::Kept => SessionEnd {
                 end: None,
                 next: self.wait_out(rt, seat),
             },
@@ -123,7 +123,7 @@ impl<'a, D: Desk, G: Gate> Post<'a, D, G> {
     {
         let mut end = end;
         for _ in rt.forever() {
-            let Ended { end: last, next } = self.session(rt, seat, end);
+            let SessionEnd { end: last, next } = self.session(rt, seat, end);
             match next {
                 None => return last,
                 Some(new) => end = new,

@@ -14,7 +14,7 @@ ghost use Rattle.worker_post.specs.Cycles.{ToldCycle};
 
 use super::{CycleEnd, Inbox, Post};
 use crate::messages::{Transfer, receive};
-use worker_desk::{Desk, Gate, Told};
+use worker_desk::{Desk, Gate, TellResult};
 
 /// Whether something was told.
 #[derive(Drop)]
@@ -145,14 +145,14 @@ impl<'a, D: Desk, G: Gate> Post<'a, D, G> {
     {
         let (message, _) = inbox.framer.held().split_at(len);
         match self.desk.tell(seat, message, end, inbox.told) {
-            Told::Back { end, made } => {
+            TellResult::Back { end, made } => {
                 self.who.after(self.gate, made);
                 inbox.framer.skip(len);
                 inbox.told += 1;
                 CycleEnd::Going(end)
             }
-            Told::Kept => CycleEnd::Kept,
-            Told::Memory(end) => {
+            TellResult::Kept => CycleEnd::Kept,
+            TellResult::Memory(end) => {
                 self.desk.close(seat);
                 CycleEnd::Memory(end)
             }
@@ -179,9 +179,9 @@ impl<'a, D: Desk, G: Gate> Post<'a, D, G> {
         ensures fault { D.told seat.new ≡ grown (D.told seat.old) (inbox.now.framer ∷ []) }
     {
         match self.desk.tell(seat, inbox.framer.held(), end, inbox.told) {
-            Told::Back { end, made: _ } => CycleEnd::Shut(end),
-            Told::Kept => CycleEnd::Kept,
-            Told::Memory(end) => {
+            TellResult::Back { end, made: _ } => CycleEnd::Shut(end),
+            TellResult::Kept => CycleEnd::Kept,
+            TellResult::Memory(end) => {
                 self.desk.close(seat);
                 CycleEnd::Memory(end)
             }

@@ -24,13 +24,13 @@ pub(super) fn numbers_of(alloc: Global, sites: &[DeclaredSwitch]) -> Result<Vec<
 
 // Policies, and the rows of each.
 #[derive(Drop)]
-pub(super) struct Parts {
+pub(super) struct VersionLists {
     pub(super) policies: Vec<Intent>,
     pub(super) rows: Vec<Rows>,
 }
 
-// The parts of versions.
-pub(super) fn parts_of(alloc: Global, versions: Vec<Version>) -> Result<Parts, AllocError>
+// The lists of versions.
+pub(super) fn lists_of(alloc: Global, versions: Vec<Version>) -> Result<VersionLists, AllocError>
     ensures policies { IfOk result (λ p. p.policies.items ≡ pols_of versions.items) }
     ensures rows { IfOk result (λ p. p.rows.items ≡ rows_of versions.items) }
 {
@@ -44,7 +44,7 @@ pub(super) fn parts_of(alloc: Global, versions: Vec<Version>) -> Result<Parts, A
         policies.push(pol)?;
         rows.push(its_rows)?;
     }
-    Ok(Parts { policies, rows })
+    Ok(VersionLists { policies, rows })
 }
 
 // New switches with these numbers.

@@ -17,12 +17,12 @@ use openflow_wire::Octets;
 use outside_net::Link;
 use std::alloc::Global;
 use update_coordinator::Side;
-use worker_desk::{StepKind, Told};
+use worker_desk::{StepKind, TellResult};
 use world_core::{ControllerEvent, Event, StepError, StepFault};
 
 // What a worker received over an end: the bytes of one message, after those of k others.
 #[derive(Drop)]
-pub(super) struct Received<'a, E: Link> {
+pub(super) struct ReceivedBytes<'a, E: Link> {
     pub(super) bytes: &'a [u8],
     pub(super) end: E,
     pub(super) k: u64,
@@ -35,8 +35,8 @@ pub(super) fn tell_at<L: RunName, E: Link>(
     seat: &mut Seat<L>,
     side: Side,
     s: usize,
-    received: Received<'_, E>,
-) -> Told<E>
+    received: ReceivedBytes<'_, E>,
+) -> TellResult<E>
     requires seat { WorksAt (switches L.start) seat.old.worker side s }
     requires name { E.named received.end ≡ present_name (switches L.start) s run.old.held.journal }
     requires stream { TellsWhereKnown (E.received received.end) received.k received.bytes.now }
@@ -60,7 +60,7 @@ fn receive_at<L: RunName, E: Link>(
     side: Side,
     s: usize,
     end: E,
-) -> Told<E>
+) -> TellResult<E>
     requires seat { WorksAt (switches L.start) seat.old.worker side s }
     ensures seat { IsUnmoved seat.old.worker seat.new.worker seat.old.share.parts seat.new.share.parts }
     ensures answer { TakesIn seat.old.worker side s end run.old run.new result }
@@ -76,13 +76,13 @@ fn receive_at<L: RunName, E: Link>(
             if before < run.world().sent_count(s, side) {
                 run.mark(side, s, true);
             }
-            Told::Back {
+            TellResult::Back {
                 end,
                 made: Some(kind),
             }
         }
-        Err(StepError::Fault(StepFault::NotEnabled)) => Told::Back { end, made: None },
-        Err(StepError::Memory) => Told::Memory(end),
+        Err(StepError::Fault(StepFault::NotEnabled)) => TellResult::Back { end, made: None },
+        Err(StepError::Memory) => TellResult::Memory(end),
     }
 }
 
@@ -93,8 +93,8 @@ fn refuse_at<L: RunName, E: Link>(
     seat: &mut Seat<L>,
     side: Side,
     s: usize,
-    received: Received<'_, E>,
-) -> Told<E>
+    received: ReceivedBytes<'_, E>,
+) -> TellResult<E>
     requires seat { WorksAt (switches L.start) seat.old.worker side s }
     requires name { E.named received.end ≡ present_name (switches L.start) s run.old.held.journal }
     requires stream { TellsWhereKnown (E.received received.end) received.k received.bytes.now }
@@ -103,17 +103,17 @@ fn refuse_at<L: RunName, E: Link>(
         run.old run.new result }
     ensures back { GivesBack received.entry.end result }
 {
-    let Received { bytes, end, k } = received;
+    let ReceivedBytes { bytes, end, k } = received;
     if run.told(side, s) != k {
-        return Told::Back { end, made: None };
+        return TellResult::Back { end, made: None };
     }
     let Ok(got) = Octets::from_slice(alloc, bytes) else {
-        return Told::Memory(end);
+        return TellResult::Memory(end);
     };
     match run.cut(alloc, seat, Event::Foreign(s, side, got), end) {
-        Ok(()) => Told::Kept,
-        Err(CutError::NotEnabled(end)) => Told::Back { end, made: None },
-        Err(CutError::Memory(end)) => Told::Memory(end),
+        Ok(()) => TellResult::Kept,
+        Err(CutError::NotEnabled(end)) => TellResult::Back { end, made: None },
+        Err(CutError::Memory(end)) => TellResult::Memory(end),
     }
 }
 
@@ -125,7 +125,7 @@ pub(super) fn lose_at<L: RunName, E: Link>(
     side: Side,
     s: usize,
     end: E,
-) -> Told<E>
+) -> TellResult<E>
     requires seat { WorksAt (switches L.start) seat.old.worker side s }
     requires name { E.named end ≡ present_name (switches L.start) s run.old.held.journal }
     requires failed { 0 < E.faults end }
@@ -141,9 +141,9 @@ pub(super) fn lose_at<L: RunName, E: Link>(
     ) {
         Ok(()) => {
             run.drop_waiting(s);
-            Told::Kept
+            TellResult::Kept
         }
-        Err(CutError::NotEnabled(end)) => Told::Back { end, made: None },
-        Err(CutError::Memory(end)) => Told::Memory(end),
+        Err(CutError::NotEnabled(end)) => TellResult::Back { end, made: None },
+        Err(CutError::Memory(end)) => TellResult::Memory(end),
     }
 }

@@ -17,7 +17,7 @@ use openflow_wire::Message;
 use outside_net::Link;
 use std::alloc::{AllocError, Global};
 use update_coordinator::Side;
-use worker_desk::{Given, Made, StepKind};
+use worker_desk::{MadeStep, StepKind, WorkerTask};
 use world_core::{ControllerEvent, Event, StepError, StepFault, SwitchEvent, World};
 
 // The same where the worker goes on over its end.
@@ -27,7 +27,7 @@ pub(super) fn work_at<L: RunName, E: Link>(
     seat: &mut Seat<L>,
     side: Side,
     s: usize,
-) -> Result<Given<E>, AllocError>
+) -> Result<WorkerTask<E>, AllocError>
     requires seat { WorksAt (switches L.start) seat.old.worker side s }
     ensures seat { IsUnmoved seat.old.worker seat.new.worker seat.old.share.parts seat.new.share.parts }
     ensures fits { IfOk result CanBeWritten }
@@ -37,7 +37,7 @@ pub(super) fn work_at<L: RunName, E: Link>(
     if run.waits(side, s) {
         let message = newest_copy(run.world(), alloc, side, s)?;
         run.mark(side, s, false);
-        return Ok(Given::Out {
+        return Ok(WorkerTask::Out {
             message,
             made: None,
         });
@@ -52,7 +52,7 @@ fn go_on<L: RunName, E: Link>(
     seat: &mut Seat<L>,
     side: Side,
     s: usize,
-) -> Result<Given<E>, AllocError>
+) -> Result<WorkerTask<E>, AllocError>
     requires seat { WorksAt (switches L.start) seat.old.worker side s }
     ensures seat { IsUnmoved seat.old.worker seat.new.worker seat.old.share.parts seat.new.share.parts }
     ensures fits { IfOk result CanBeWritten }
@@ -70,7 +70,7 @@ fn go_on<L: RunName, E: Link>(
     match newest_copy(run.world(), alloc, side, s) {
         Ok(message) => {
             run.mark(side, s, false);
-            Ok(Given::Out {
+            Ok(WorkerTask::Out {
                 message,
                 made: Some(kind),
             })
@@ -89,7 +89,7 @@ fn advance<L: RunName, E: Link>(
     seat: &mut Seat<L>,
     side: Side,
     s: usize,
-) -> Result<Made, AllocError>
+) -> Result<MadeStep, AllocError>
     requires seat { WorksAt (switches L.start) seat.old.worker side s }
     ensures seat { IsUnmoved seat.old.worker seat.new.worker seat.old.share.parts seat.new.share.parts }
     ensures made { IfOk result (Advances seat.old.worker side s run.old run.new) }
@@ -122,13 +122,13 @@ fn advance<L: RunName, E: Link>(
 }
 
 // What is to be done where no message was put on the channel.
-fn rest<E>(world: &World, side: Side, s: usize, made: Made) -> Given<E>
+fn rest<E>(world: &World, side: Side, s: usize, made: MadeStep) -> WorkerTask<E>
     ensures { RestsAs world.now side s made result }
 {
     if world.enabled(&receipt(side, s)) {
-        Given::Expect { made }
+        WorkerTask::Expect { made }
     } else {
-        Given::Nothing { made }
+        WorkerTask::Nothing { made }
     }
 }
 

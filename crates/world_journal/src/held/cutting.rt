@@ -3,7 +3,7 @@
 //! Layer: runs; public. Called by `held`.
 ghost use Rattle.std.specs.Prelude.{◌≡◌, ◌+◌, ◌++◌, ◌∷◌, [], OnOk, OnErr, IfErr};
 
-use super::Held;
+use super::BookedWorld;
 use crate::entry::Entry;
 use crate::name::RunName;
 use crate::seat::Seat;
@@ -23,7 +23,7 @@ pub enum CutError<E: Link> {
     Memory(E),
 }
 
-impl<L: RunName, E: Link> Held<L, E> {
+impl<L: RunName, E: Link> BookedWorld<L, E> {
     ghost use Rattle.world_core.specs.Steps.{Step, IsEnabled};
     ghost use Rattle.world_journal.specs.Makers.{MayMake};
     ghost use Rattle.world_journal.specs.Journals.{entry, MetBy, switches};

@@ -5,7 +5,7 @@ ghost use Rattle.std.specs.Prelude.{◌≡◌, ◌↔◌, IfOk, IsTrue, true};
 ghost use Rattle.world_journal.specs.Arriving.{AreSpent, IsLast, IsSettled};
 
 use super::{Run, RunError};
-use crate::held::Held;
+use crate::held::BookedWorld;
 use crate::name::RunName;
 use crate::seat::Seat;
 use outside_net::Link;
@@ -48,7 +48,7 @@ impl<L: RunName, E: Link> Run<L, E> {
     }
 
     /// The journal, and the caller's seat with all parts again; nothing if the run was closed.
-    pub fn finish(self) -> Result<(Held<L, E>, Seat<L>), RunError>
+    pub fn finish(self) -> Result<(BookedWorld<L, E>, Seat<L>), RunError>
         requires back { self.back ≡ L.all }
         requires all { (L.all ≡ L.parts) × (0 < L.all) }
         requires over { HasEnded L.lines self }

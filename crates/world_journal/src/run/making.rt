@@ -4,7 +4,7 @@
 ghost use Rattle.std.specs.Prelude.{◌≡◌, IfOk, None, replicate, true};
 
 use super::Run;
-use crate::held::Held;
+use crate::held::BookedWorld;
 use crate::line::Line;
 use crate::name::RunName;
 use crate::seat::Seat;
@@ -19,7 +19,7 @@ impl<L: RunName, E: Link> Run<L, E> {
     /// A run that begins: no packet has come in, and each switch's HELLO waits to be handed out.
     pub fn new(
         alloc: Global,
-        held: Held<L, E>,
+        held: BookedWorld<L, E>,
         seat: &mut Seat<L>,
         lines: Vec<Line>,
         all: u64,

@@ -8,14 +8,14 @@ ghost use Rattle.world_journal.specs.Journals.{events_of};
 
 use super::progress::is_done;
 use super::{Bells, RunDesk};
-use crate::ahead::Ahead;
+use crate::ahead::StepsAhead;
 use crate::asks::lay_of;
-use crate::held::Held;
+use crate::held::BookedWorld;
 use crate::name::RunName;
 use crate::poster::Poster;
 use crate::run::RunError;
 use crate::seat::Seat;
-use crate::watched::Watched;
+use crate::watched::WatchedRun;
 use outside_net::Link;
 use std::alloc::{AllocError, Global};
 use std::sync::{Arc, Condvar, Mutex, Wait};
@@ -26,7 +26,7 @@ impl<R: Wait + Drop, L: RunName, P: Poster, E: Link> RunDesk<R, L, P, E> {
     pub fn new(
         rt: R,
         alloc: Global,
-        watched: Watched<L, P, E>,
+        watched: WatchedRun<L, P, E>,
         most: u32,
     ) -> Result<RunDesk<R, L, P, E>, AllocError> {
         let mut pairs = Vec::new(alloc);
@@ -42,7 +42,7 @@ impl<R: Wait + Drop, L: RunName, P: Poster, E: Link> RunDesk<R, L, P, E> {
             alloc,
             run: Arc::new(alloc, Mutex::new(Some(watched)))?,
             bells: Arc::new(alloc, bells)?,
-            ahead: Ahead::new(most),
+            ahead: StepsAhead::new(most),
         })
     }
 
@@ -56,7 +56,7 @@ impl<R: Wait + Drop, L: RunName, P: Poster, E: Link> RunDesk<R, L, P, E> {
             alloc: self.alloc,
             run: Arc::try_clone(&self.run)?,
             bells: Arc::try_clone(&self.bells)?,
-            ahead: Ahead::new(self.ahead.most()),
+            ahead: StepsAhead::new(self.ahead.most()),
         })
     }
 
@@ -68,7 +68,7 @@ impl<R: Wait + Drop, L: RunName, P: Poster, E: Link> RunDesk<R, L, P, E> {
     }
 
     /// Waits until all seats are back and the run is closed or over, and takes it out.
-    pub fn finish(&self) -> Result<(Held<L, E>, Seat<L>, P), RunError>
+    pub fn finish(&self) -> Result<(BookedWorld<L, E>, Seat<L>, P), RunError>
         requires all { (L.all ≡ L.parts) × (0 < L.all) }
         ensures parts { IfOk result (λ r. (r.1.worker ≡ 0) × (r.1.share.parts ≡ L.parts)) }
         ensures steps { IfOk result (λ r. r.1.share.amount ≡ length r.0.journal) }

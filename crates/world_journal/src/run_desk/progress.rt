@@ -6,14 +6,14 @@ ghost use Rattle.world_journal.specs.Finishing.{CanFinish};
 
 use crate::name::RunName;
 use crate::poster::Poster;
-use crate::watched::Watched;
+use crate::watched::WatchedRun;
 use outside_net::Link;
 use update_coordinator::Phase;
-use worker_desk::Given;
+use worker_desk::WorkerTask;
 
 // Whether there was nothing to do.
-pub(super) fn is_idle<E>(given: &Given<E>) -> bool {
-    matches!(given, Given::Nothing { made: None })
+pub(super) fn is_idle<E>(given: &WorkerTask<E>) -> bool {
+    matches!(given, WorkerTask::Nothing { made: None })
 }
 
 // What decides for all workers whether there is something to do: the phase, and whether the coordinator has halted.
@@ -24,7 +24,7 @@ pub(super) struct Progress {
 }
 
 pub(super) fn progress_of<L: RunName, P: Poster, E: Link>(
-    run: &Option<Watched<L, P, E>>,
+    run: &Option<WatchedRun<L, P, E>>,
 ) -> Option<Progress> {
     let watched = run.as_ref()?;
     let coordinator = watched.run.world().coordinator();
@@ -35,7 +35,7 @@ pub(super) fn progress_of<L: RunName, P: Poster, E: Link>(
 }
 
 // Whether there is a run, and it is done.
-pub(super) fn is_done<L: RunName, P: Poster, E: Link>(run: &Option<Watched<L, P, E>>) -> bool
+pub(super) fn is_done<L: RunName, P: Poster, E: Link>(run: &Option<WatchedRun<L, P, E>>) -> bool
     ensures { IsTrue result ↔ CanFinish L.all L.lines run.now }
 {
     match run {

@@ -7,7 +7,7 @@ use super::RunDesk;
 use crate::name::RunName;
 use crate::poster::Poster;
 use crate::seat::Seat;
-use crate::watched::Watched;
+use crate::watched::WatchedRun;
 use outside_net::Link;
 use std::hint::spin_loop;
 use std::sync::{Condvar, MutexGuard, Wait};
@@ -40,7 +40,7 @@ impl<R: Wait + Drop, L: RunName, P: Poster, E: Link> RunDesk<R, L, P, E> {
 
     // Takes the lock. Steps are short and many workers make them, so a worker that finds it taken looks again soon, and
     // then gives way: to sleep and be woken takes longer than most steps.
-    pub(super) fn lock(&self) -> MutexGuard<'_, Option<Watched<L, P, E>>> {
+    pub(super) fn lock(&self) -> MutexGuard<'_, Option<WatchedRun<L, P, E>>> {
         for _ in self.rt.forever() {
             if let Some(guard) = self.look() {
                 return guard;
@@ -51,7 +51,7 @@ impl<R: Wait + Drop, L: RunName, P: Poster, E: Link> RunDesk<R, L, P, E> {
     }
 
     // Looks a number of times whether the lock is free, and takes it if it is.
-    fn look(&self) -> Option<MutexGuard<'_, Option<Watched<L, P, E>>>> {
+    fn look(&self) -> Option<MutexGuard<'_, Option<WatchedRun<L, P, E>>>> {
         for _ in 0..LOOKS {
             if let Some(guard) = self.run.try_lock() {
                 return Some(guard);
@@ -71,7 +71,7 @@ impl<R: Wait + Drop, L: RunName, P: Poster, E: Link> RunDesk<R, L, P, E> {
     }
 
     // Waits, with the lock given up, until it rings.
-    pub(super) fn wait(&self, guard: MutexGuard<'_, Option<Watched<L, P, E>>>, bell: &Condvar) {
+    pub(super) fn wait(&self, guard: MutexGuard<'_, Option<WatchedRun<L, P, E>>>, bell: &Condvar) {
         drop(bell.wait(&self.rt, guard));
     }
 

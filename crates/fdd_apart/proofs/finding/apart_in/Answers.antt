@@ -3,7 +3,7 @@ use Rattle.fdd_differ.specs.declared.frame.Frame.TheVariants.{NoIp, OtherIp}
 use Rattle.fdd_store.specs.Stores.{tree_at}
 use Rattle.fdd_store.proofs.ForkLaws.{if_ok}
 use Rattle.fdd_store.proofs.StoreLaws.{tree_grown}
-use Rattle.fdd_apart.specs.declared.finding.Apart.{Apart}
+use Rattle.fdd_apart.specs.declared.finding.Difference.{Difference}
 use Rattle.fdd_apart.specs.Aparts.{AreAlikeBoth, IsApart}
 use Rattle.fdd_apart.proofs.ApartLaws.{asked_grown, all_kinds, alike_one}
 use Rattle.fdd_apart.proofs.finding.apart_in.Goals as goal
@@ -24,6 +24,6 @@ pub returns-clause-told : goal.returns-clause-told
 returns-clause-told c =
     let a = tree_at c.args.store.now c.args.a in
     let b = tree_at c.args.store.now c.args.b in
-    let one = subst (λ (o : Option Apart). MatchOption o (AreAlikeBoth NoIp OtherIp a b) (IsApart a b)) c.in_default.is c.in_ok-found.ensures.told in
+    let one = subst (λ (o : Option Difference). MatchOption o (AreAlikeBoth NoIp OtherIp a b) (IsApart a b)) c.in_default.is c.in_ok-found.ensures.told in
     if_ok c.apart_in_two_kinds-2.result _ _ c.apart_in_two_kinds-2.ensures.told
     (λ o h. all_kinds a b _ _ o (tree_grown _ _ _ c.in_ok-found.ensures.grows c.requires.has_a) (tree_grown _ _ _ c.in_ok-found.ensures.grows c.requires.has_b) one h)

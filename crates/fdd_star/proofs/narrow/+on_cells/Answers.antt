@@ -2,7 +2,7 @@ use Rattle.std.proofs.Common.{arith, sym, ap, ◌∙◌, subst, List}
 use Rattle.std.proofs.lemmas.Bool.{eqb-true}
 use Rattle.nk_values.specs.declared.packet.Packet.{Packet}
 use Rattle.fdd_nodes.specs.Names.{IsFew}
-use Rattle.fdd_nodes.specs.declared.cell.Known.TheVariants.{No, Yes}
+use Rattle.fdd_nodes.specs.declared.cell.Knowledge.TheVariants.{No, Yes}
 use Rattle.fdd_store.specs.Stores.{tree_at}
 use Rattle.fdd_store.proofs.ForkLaws.{fall_then, fall_else, level}
 use Rattle.fdd_store.proofs.StoreLaws.{grows_on, has_grown, tree_grown}

@@ -5,5 +5,5 @@ use Rattle.switch_model.proofs.replies.replies.Given as goal
 
 abbrev pub invariant-loop-row : goal.invariant-loop-row
 invariant-loop-row l =
-    (l.filling.xid ≡ l.xid) × (l.filling.len ≡ reply_len l.filling.entries) × (l.filling.len ≤ 65535)
-    × AreReplies l.xid (take l.row-index l.rows) (l.filling.full.items ++ to.FlowStatsReply l.xid false l.filling.entries ∷ [])
+    (l.series.xid ≡ l.xid) × (l.series.len ≡ reply_len l.series.entries) × (l.series.len ≤ 65535)
+    × AreReplies l.xid (take l.row-index l.rows) (l.series.full.items ++ to.FlowStatsReply l.xid false l.series.entries ∷ [])

@@ -4,7 +4,7 @@ use Rattle.nk_syntax.specs.Terms.{Term}
 use Rattle.nk_syntax.specs.Views.{term_of}
 use Rattle.fdd_compile.specs.Compiles.{CompiledOf, IsFaultless}
 use Rattle.fdd_compile.specs.Places.{diagram_of}
-use Rattle.fdd_compile.specs.declared.compiled.Compiled.{Compiled}
+use Rattle.fdd_compile.specs.declared.compiled.CompiledPolicy.{CompiledPolicy}
 use Rattle.fdd_compile.proofs.CompileLaws.{leftmost_told, faultless}
 use Rattle.fdd_compile.proofs.compiler.Compiler.compile.Goals as goal
 
@@ -14,7 +14,7 @@ returns-in-Some-clause-told c = leftmost_told (term_of c.args.pol.now) c.in-Some
 pub compile_in-requires-clause-no_fault : goal.compile_in-requires-clause-no_fault
 compile_in-requires-clause-no_fault c = sym c.leftmost_fault.ensures ∙ c.in_default.is
 
-none_here : {E : Type 0} (p : Term) (r : Result Compiled E) (Q : E → Type 0) → MatchResult r (λ c. CompiledOf p (diagram_of c)) Q → OnOk r (IsFaultless p)
+none_here : {E : Type 0} (p : Term) (r : Result CompiledPolicy E) (Q : E → Type 0) → MatchResult r (λ c. CompiledOf p (diagram_of c)) Q → OnOk r (IsFaultless p)
 none_here p (Ok c) Q h = faultless p _ h
 none_here p (Err e) Q h = tt
 

@@ -3,7 +3,7 @@ use Rattle.std.proofs.lemmas.Bool.{cases_lt}
 use Rattle.nk_values.specs.Members.{IsIn}
 use Rattle.packet_tracer.specs.declared.flight.Flight.{Flight}
 use Rattle.flow_index.proofs.Lists.{read, at-in, beyond}
-use Rattle.flight_queues.specs.declared.numbered.Numbered.{Numbered}
+use Rattle.flight_queues.specs.declared.numbered.NumberedFlight.{NumberedFlight}
 use Rattle.flight_queues.specs.Merged.{AreRising, found, marked, numbers_of}
 use Rattle.flight_queues.proofs.Lists.{no-none, read-list, single-get}
 use Rattle.flight_queues.proofs.Merging.{merged-length, marked-within, in-marked, rising, singles}
@@ -46,7 +46,7 @@ flight-requires-clause-held c =
     let within = c.in_ok-mark.ensures.variant.0 refl in
     let at : slice_get marks c.args.place ≡ Some mark = read marks c.args.place mark (omega (arith, within, c.self.inside.marks.ok.0)) c.in_ok-mark.ensures.lookup in
     let there = marked-within queues marks c.self.inside.next c.self.invariant.marked mark (at-in marks c.args.place mark at) in
-    subst (λ (es : List Numbered). IsIn (numbers_of es) mark.number) (sym (read-list queues mark.place c.index.result.now there c.index.ensures)) (in-marked queues marks c.self.inside.next c.self.invariant.marked mark (at-in marks c.args.place mark at))
+    subst (λ (es : List NumberedFlight). IsIn (numbers_of es) mark.number) (sym (read-list queues mark.place c.index.result.now there c.index.ensures)) (in-marked queues marks c.self.inside.next c.self.invariant.marked mark (at-in marks c.args.place mark at))
 
 pub returns : goal.returns
 returns c =

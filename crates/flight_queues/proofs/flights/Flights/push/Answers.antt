@@ -3,7 +3,7 @@ use Rattle.std.specs.HashMap.{get}
 use Rattle.std.specs.Option.{SomeIff}
 use Rattle.nk_values.specs.declared.packet.Packet.{Packet}
 use Rattle.packet_tracer.specs.declared.flight.Flight.{Flight}
-use Rattle.flight_queues.specs.declared.numbered.Numbered.{Numbered}
+use Rattle.flight_queues.specs.declared.numbered.NumberedFlight.{NumberedFlight}
 use Rattle.flight_queues.specs.declared.numbered.Mark.{Mark}
 use Rattle.flight_queues.specs.Merged.{IsKept, merged, queue_at, switch_of}
 use Rattle.flight_queues.proofs.Lists.{any-err, read-list}
@@ -27,7 +27,7 @@ invariant_of-self-in_err-push c =
     let there = kept.within c.newest.result.now.sw place c.in_ok-place.ensures.found in
     let back : slice_set queues place c.push.new.self ≡ queues = set-same queues place c.push.new.self there (c.in_err-push.ensures.err ∙ read-list queues place c.index_mut.result.now there c.index_mut.ensures.value) in
     subst (λ (ms : List Mark). IsKept (get nat_eq c.queue_of.new.places) (slice_set queues place c.push.new.self) ms first.result) (sym c.in_ok-reserve.ensures.items)
-    (subst (λ (qs : List (List Numbered)). IsKept (get nat_eq c.queue_of.new.places) qs first.new.marks.items first.result) (sym back) kept)
+    (subst (λ (qs : List (List NumberedFlight)). IsKept (get nat_eq c.queue_of.new.places) qs first.new.marks.items first.result) (sym back) kept)
 
 pub returns-in_err-push-clause-err : goal.returns-in_err-push-clause-err
 returns-in_err-push-clause-err c =
@@ -53,7 +53,7 @@ invariant_of-self-2 c =
     let at : get nat_eq c.queue_of.new.places (switch_of c.args.flight) ≡ Some place = ap (λ (p : Packet). get nat_eq c.queue_of.new.places p.sw) (sym c.newest.ensures) ∙ c.in_ok-place.ensures.found in
     let there = kept.within (switch_of c.args.flight) place at in
     let now : c.push.new.self ≡ queue_at queues place ++ record { number = first.result; flight = c.args.flight } ∷ [] =
-    c.in_ok-push.ensures.ok ∙ ap (λ (es : List Numbered). es ++ record { number = first.result; flight = c.args.flight } ∷ []) (read-list queues place c.index_mut.result.now there c.index_mut.ensures.value) in
+    c.in_ok-push.ensures.ok ∙ ap (λ (es : List NumberedFlight). es ++ record { number = first.result; flight = c.args.flight } ∷ []) (read-list queues place c.index_mut.result.now there c.index_mut.ensures.value) in
     let marks : c.push_back_reserved.new.self.items ≡ first.new.marks.items ++ record { number = first.result; place = place } ∷ [] =
     c.push_back_reserved.ensures.items ∙ ap (λ (ms : List Mark). ms ++ record { number = first.result; place = place } ∷ []) c.in_ok-reserve.ensures.items in
     let sum : SomeIff (Some c.in_ok-after.after) (first.result + 1 < 18446744073709551616) (first.result + 1) = subst (λ (o : Option ℕ). SomeIff o (first.result + 1 < 18446744073709551616) (first.result + 1)) c.in_ok-after.ensures.ok_part c.checked_add.ensures in
@@ -72,7 +72,7 @@ returns-clause-ok c =
     let at : get nat_eq c.queue_of.new.places (switch_of c.args.flight) ≡ Some place = ap (λ (p : Packet). get nat_eq c.queue_of.new.places p.sw) (sym c.newest.ensures) ∙ c.in_ok-place.ensures.found in
     let there = kept.within (switch_of c.args.flight) place at in
     let now : c.push.new.self ≡ queue_at queues place ++ record { number = first.result; flight = c.args.flight } ∷ [] =
-    c.in_ok-push.ensures.ok ∙ ap (λ (es : List Numbered). es ++ record { number = first.result; flight = c.args.flight } ∷ []) (read-list queues place c.index_mut.result.now there c.index_mut.ensures.value) in
+    c.in_ok-push.ensures.ok ∙ ap (λ (es : List NumberedFlight). es ++ record { number = first.result; flight = c.args.flight } ∷ []) (read-list queues place c.index_mut.result.now there c.index_mut.ensures.value) in
     let marks : c.push_back_reserved.new.self.items ≡ first.new.marks.items ++ record { number = first.result; place = place } ∷ [] =
     c.push_back_reserved.ensures.items ∙ ap (λ (ms : List Mark). ms ++ record { number = first.result; place = place } ∷ []) c.in_ok-reserve.ensures.items in
     ap (merged (slice_set queues place c.push.new.self)) marks

@@ -3,7 +3,7 @@ use Rattle.std.specs.HashMap.{get}
 use Rattle.nk_values.specs.Members.{IsIn}
 use Rattle.packet_tracer.specs.declared.flight.Flight.{Flight}
 use Rattle.flow_index.proofs.Lists.{read, at-in}
-use Rattle.flight_queues.specs.declared.numbered.Numbered.{Numbered}
+use Rattle.flight_queues.specs.declared.numbered.NumberedFlight.{NumberedFlight}
 use Rattle.flight_queues.specs.declared.numbered.Mark.{Mark}
 use Rattle.flight_queues.specs.Merged.{AreRising, IsKept, merged, queue_at, numbers_of, without}
 use Rattle.flight_queues.proofs.Lists.{no-none, read-list}
@@ -37,7 +37,7 @@ take-requires-clause-held c =
     let within = c.in-Some.ensures.variant.0 refl in
     let at : slice_get marks c.args.place ≡ Some mark = read marks c.args.place mark (omega (arith, within, c.self.inside.marks.ok.0)) c.in-Some.ensures.value in
     let there = marked-within queues marks c.self.inside.next c.self.invariant.marked mark (at-in marks c.args.place mark at) in
-    subst (λ (es : List Numbered). IsIn (numbers_of es) mark.number) (sym (read-list queues mark.place c.index_mut.result.now there c.index_mut.ensures.value))
+    subst (λ (es : List NumberedFlight). IsIn (numbers_of es) mark.number) (sym (read-list queues mark.place c.index_mut.result.now there c.index_mut.ensures.value))
     (in-marked queues marks c.self.inside.next c.self.invariant.marked mark (at-in marks c.args.place mark at))
 
 pub invariant_of-self : goal.invariant_of-self
@@ -48,8 +48,8 @@ invariant_of-self c =
     let within = c.in-Some.ensures.variant.0 refl in
     let at : slice_get marks c.args.place ≡ Some mark = read marks c.args.place mark (omega (arith, within, c.self.inside.marks.ok.0)) c.in-Some.ensures.value in
     let there = marked-within queues marks c.self.inside.next c.self.invariant.marked mark (at-in marks c.args.place mark at) in
-    let now : c.take.new.self ≡ without (λ (e : Numbered). e.number) mark.number (queue_at queues mark.place) =
-    c.take.ensures ∙ ap (without (λ (e : Numbered). e.number) mark.number) (read-list queues mark.place c.index_mut.result.now there c.index_mut.ensures.value) in
+    let now : c.take.new.self ≡ without (λ (e : NumberedFlight). e.number) mark.number (queue_at queues mark.place) =
+    c.take.ensures ∙ ap (without (λ (e : NumberedFlight). e.number) mark.number) (read-list queues mark.place c.index_mut.result.now there c.index_mut.ensures.value) in
     subst (λ (ms : List Mark). IsKept (get nat_eq c.self.inside.places) (slice_set queues mark.place c.take.new.self) ms c.self.inside.next) (sym c.in-Some.ensures.items)
     (removed-kept (get nat_eq c.self.inside.places) queues marks c.self.inside.next c.args.place mark c.self.invariant at c.take.new.self now)
 
@@ -61,8 +61,8 @@ returns-in-Some c =
     let within = c.in-Some.ensures.variant.0 refl in
     let at : slice_get marks c.args.place ≡ Some mark = read marks c.args.place mark (omega (arith, within, c.self.inside.marks.ok.0)) c.in-Some.ensures.value in
     let there = marked-within queues marks c.self.inside.next c.self.invariant.marked mark (at-in marks c.args.place mark at) in
-    let now : c.take.new.self ≡ without (λ (e : Numbered). e.number) mark.number (queue_at queues mark.place) =
-    c.take.ensures ∙ ap (without (λ (e : Numbered). e.number) mark.number) (read-list queues mark.place c.index_mut.result.now there c.index_mut.ensures.value) in
+    let now : c.take.new.self ≡ without (λ (e : NumberedFlight). e.number) mark.number (queue_at queues mark.place) =
+    c.take.ensures ∙ ap (without (λ (e : NumberedFlight). e.number) mark.number) (read-list queues mark.place c.index_mut.result.now there c.index_mut.ensures.value) in
     ap (merged (slice_set queues mark.place c.take.new.self)) c.in-Some.ensures.items
     ∙ removed-list (get nat_eq c.self.inside.places) queues marks c.self.inside.next c.args.place mark c.self.invariant at c.take.new.self now
     ∙ ap (λ (fs : List Flight). remove fs c.args.place) c.self.view_is

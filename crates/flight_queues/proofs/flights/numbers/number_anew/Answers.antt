@@ -1,7 +1,7 @@
 use Rattle.std.proofs.Common.{◌≡◌, ℕ, ◌^◌, List, length, Some, slice_get, sym, ap, subst, ◌∙◌, arith}
 use Rattle.nk_values.specs.Members.{IsIn}
 use Rattle.flow_index.proofs.Lists.{read, at-in, some-is}
-use Rattle.flight_queues.specs.declared.numbered.Numbered.{Numbered}
+use Rattle.flight_queues.specs.declared.numbered.NumberedFlight.{NumberedFlight}
 use Rattle.flight_queues.specs.declared.numbered.Mark.{Mark}
 use Rattle.flight_queues.specs.Merged.{AreRising, queue_at, numbers_of, renumbered}
 use Rattle.flight_queues.proofs.Lists.{read-list}
@@ -38,7 +38,7 @@ renumber-requires-clause-held c =
     let long = c.loop-place.invariant.long in
     let at : slice_get marks c.loop-place.place ≡ Some mark = read marks c.loop-place.place mark (omega (arith, c.loop-place-test.true, c.len-place-end.ensures, c.args.marks.now.ok.0, long)) c.index-mark.ensures in
     let there = marked-within queues marks (2 ^ 64) c.loop-place.invariant.marked mark (at-in marks c.loop-place.place mark at) in
-    subst (λ (es : List Numbered). IsIn (numbers_of es) mark.number) (sym (read-list queues mark.place c.index_mut.result.now there c.index_mut.ensures.value))
+    subst (λ (es : List NumberedFlight). IsIn (numbers_of es) mark.number) (sym (read-list queues mark.place c.index_mut.result.now there c.index_mut.ensures.value))
     (in-marked queues marks (2 ^ 64) c.loop-place.invariant.marked mark (at-in marks c.loop-place.place mark at))
 
 pub loop-place-preserved : goal.loop-place-preserved

@@ -4,7 +4,7 @@ use Rattle.std.proofs.lemmas.List.{take-set, drop-set-lt}
 use Rattle.std.proofs.lemmas.List.Elements.{All-append, All-take, All-drop}
 use Rattle.std.proofs.lemmas.Option.{slice_get-get_or}
 use Rattle.openflow_wire.specs.Writing.{Fits}
-use Rattle.switch_model.specs.declared.pending.Pending.{Pending}
+use Rattle.switch_model.specs.declared.pending.PendingMod.{PendingMod}
 use Rattle.switch_model.specs.Switches.{AllFit, SwitchValue, message_of}
 use Rattle.switch_model.proofs.switch.Switch.change.Goals as goal
 
@@ -18,7 +18,7 @@ returns-clause-ok c =
     let left = c.remove.ensures.items ∙ remove-set c.self.inside.pending.items c.args.place c.change_by.new.pending in
     rw (← c.self.view_is) (record {
       change = c.index_mut.result.now;
-      there = slice_get-get_or c.self.inside.pending.items c.args.place c.index_mut.result.now within ∙ ap (λ (p : Pending). Some p) (sym c.index_mut.ensures.value);
+      there = slice_get-get_or c.self.inside.pending.items c.args.place c.index_mut.result.now within ∙ ap (λ (p : PendingMod). Some p) (sym c.index_mut.ensures.value);
       rows = c.change_by.new.table.rows;
       outcome = c.in_ok-change_by.ensures.ok;
       now = λ i. record {
@@ -31,6 +31,6 @@ returns-clause-ok c =
 
 pub invariant_of-self-2 : goal.invariant_of-self-2
 invariant_of-self-2 c =
-    let fits = λ (p : Pending). Fits (message_of p) in
+    let fits = λ (p : PendingMod). Fits (message_of p) in
     let left = c.remove.ensures.items ∙ remove-set c.self.inside.pending.items c.args.place c.change_by.new.pending in
     subst AllFit (sym left) (All-append fits _ _ (All-take fits c.args.place _ c.self.invariant) (All-drop fits (suc c.args.place) _ c.self.invariant))

@@ -3,7 +3,7 @@ use Rattle.std.proofs.lemmas.Option.{slice_get-get_or, slice_get_within}
 use Rattle.std.proofs.lemmas.List.Elements.{All-append, All-take, All-drop}
 use Rattle.nk_values.specs.Changes.{IsFull}
 use Rattle.openflow_wire.specs.Writing.{Fits}
-use Rattle.switch_model.specs.declared.pending.Pending.{Pending}
+use Rattle.switch_model.specs.declared.pending.PendingMod.{PendingMod}
 use Rattle.switch_model.specs.Switches.{AllFit, SwitchValue, message_of}
 use Rattle.switch_model.proofs.switch.Switch.refuse.Goals as goal
 
@@ -16,13 +16,13 @@ returns-clause-ok c =
     let found : slice_get c.self.inside.pending.items c.args.at ≡ Some refused = subst (λ (s : SwitchValue). slice_get s.pending c.args.at ≡ Some refused) (sym c.self.view_is) c.requires.there in
     let full : IsFull c.self.inside.table.capacity c.self.inside.table.rows refused.change = subst (λ (s : SwitchValue). IsFull s.table.capacity s.table.rows refused.change) (sym c.self.view_is) c.requires.full in
     let within = slice_get_within c.self.inside.pending.items c.args.at refused found in
-    let there : slice_get c.self.inside.pending.items c.args.at ≡ Some c.index.result.now = slice_get-get_or c.self.inside.pending.items c.args.at c.index.result.now within ∙ ap (λ (p : Pending). Some p) (sym c.index.ensures) in
+    let there : slice_get c.self.inside.pending.items c.args.at ≡ Some c.index.result.now = slice_get-get_or c.self.inside.pending.items c.args.at c.index.result.now within ∙ ap (λ (p : PendingMod). Some p) (sym c.index.ensures) in
     let same : refused ≡ c.index.result.now = some-is refused c.index.result.now (sym found ∙ there) in
     rw (← c.self.view_is) (record {
       change = c.index.result.now;
       there = there;
       rows = c.self.inside.table.rows;
-      outcome = (subst (λ (p : Pending). IsFull c.self.inside.table.capacity c.self.inside.table.rows p.change) same full, refl, c.in_ok-answer.ensures.error);
+      outcome = (subst (λ (p : PendingMod). IsFull c.self.inside.table.capacity c.self.inside.table.rows p.change) same full, refl, c.in_ok-answer.ensures.error);
       now = λ i. record { sw = c.self.inside.sw; table = c.self.inside.table; pending = c.remove.ensures.items i; awaited = c.self.inside.awaited };
     })
 
@@ -35,5 +35,5 @@ index-requires c =
 
 pub invariant_of-self : goal.invariant_of-self
 invariant_of-self c =
-    let fits = λ (p : Pending). Fits (message_of p) in
+    let fits = λ (p : PendingMod). Fits (message_of p) in
     subst AllFit (sym c.remove.ensures.items) (All-append fits _ _ (All-take fits c.args.at _ c.self.invariant) (All-drop fits (suc c.args.at) _ c.self.invariant))

@@ -3,7 +3,7 @@ use Rattle.std.specs.HashMap.{get}
 use Rattle.std.specs.List.{list_any}
 use Rattle.topology_model.specs.Drafts.{layout}
 use Rattle.topology_model.specs.Ends.{entry}
-use Rattle.topology_model.specs.Layouts.{Layout, place_of, place_in, has_port}
+use Rattle.topology_model.specs.Layouts.{Layout, location_of, place_in, has_port}
 use Rattle.topology_model.specs.Lines.{line_fault}
 use Rattle.topology_model.specs.Wired.{IsSound}
 use Rattle.topology_model.specs.declared.line.DeclaredSwitch.{DeclaredSwitch}
@@ -28,7 +28,7 @@ invariant_of-self-2 c =
     λ e. c.put_edges.ensures e ∙ ap (λ (ps : List ℕ). cond (sw == e.0 && list_any (λ k. k == e.1) ps) (Some None) (entry c.make_room.new.far_ends e)) c.as_slice-2.ensures ∙ ap (λ o. cond (sw == e.0 && list_any (λ k. k == e.1) ports) (Some None) o) (c.in_ok-make_room.ensures.ends e) in
     record {
       places = subst (λ (s : List DeclaredSwitch). (q : ℕ) → get nat_eq c.put_place.new.places q ≡ place_in s q) items (placed t.switches sw ports (get nat_eq c.self.inside.places) (get nat_eq c.put_place.new.places) n.new old.places put);
-      live = subst (λ (s : List DeclaredSwitch). (e : ℕ × ℕ) → is_some (entry c.put_edges.new.far_ends e) ≡ has_port s (place_of e)) items (live t.switches sw ports (entry c.self.inside.far_ends) (entry c.put_edges.new.far_ends) old.live ends);
+      live = subst (λ (s : List DeclaredSwitch). (e : ℕ × ℕ) → is_some (entry c.put_edges.new.far_ends e) ≡ has_port s (location_of e)) items (live t.switches sw ports (entry c.self.inside.far_ends) (entry c.put_edges.new.far_ends) old.live ends);
       far = far t.switches sw ports t.links (entry c.self.inside.far_ends) (entry c.put_edges.new.far_ends) n.new old.live old.far ends;
       sound = subst (λ (s : List DeclaredSwitch). IsSound (record { switches = s; links = t.links })) items (sound t sw ports old.sound c.requires.in_range n);
     }

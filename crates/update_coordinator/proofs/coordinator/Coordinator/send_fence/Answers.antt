@@ -19,8 +19,8 @@ fence-xid-requires-clause-small c =
     λ s e. let here : slice_get old.peers.items c.args.place ≡ Some s = ap (λ (xs : List Peer). slice_get xs c.args.place) (sym c.deref_mut.ensures.value) ∙ e in
     (small_number c0 s (c.self.invariant.0.numbers c.args.place s here), batch_sends s (turn s here))
 
-pub expect-requires-clause-free : goal.expect-requires-clause-free
-expect-requires-clause-free c =
+pub expect-requires-clause-unawaited : goal.expect-requires-clause-unawaited
+expect-requires-clause-unawaited c =
     let old = c.self.inside in
     let c0 : Control = (record { phase = old.phase; halt = old.halt; versions = old.versions.items; peers = old.peers.items; replies = old.replies; rejoins = old.rejoins; overlap = old.overlap; swept = old.swept }) in
     let new = c.fence-xid.new.peers in

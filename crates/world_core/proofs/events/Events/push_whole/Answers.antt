@@ -1,5 +1,5 @@
 use Rattle.std.proofs.Common.{◌∷◌, [], refl, arith, length-append}
-use Rattle.world_core.specs.declared.short.Short.TheVariants.{Whole}
+use Rattle.world_core.specs.declared.short.ShortEvent.TheVariants.{Whole}
 use Rattle.world_core.proofs.Packing.{unpacked-whole, unpacked-length, count-more}
 use Rattle.world_core.proofs.events.Events.push_whole.Goals as goal
 

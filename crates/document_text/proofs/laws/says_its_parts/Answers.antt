@@ -1,5 +1,0 @@
-use Rattle.document_text.proofs.Saying.{reading-says}
-use Rattle.document_text.proofs.laws.says_its_parts.Goals as goal
-
-pub returns : goal.returns
-returns c = reading-says

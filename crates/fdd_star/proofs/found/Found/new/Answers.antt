@@ -1,4 +1,0 @@
-use Rattle.fdd_star.proofs.found.Found.new.Goals as goal
-
-pub returns : goal.returns
-returns c = λ k. record { visits = c.new.ensures k }

@@ -1,8 +1,0 @@
-use Rattle.world_journal.proofs.Growing.{goes-held}
-use Rattle.world_journal.proofs.held.Held.step.Goals as goal
-
-pub invariant_of-self-2 : goal.invariant_of-self-2
-invariant_of-self-2 g c =
-    goes-held g.E.Link.named g.E.Link.faults g.E.Link.received g.L.RunName.start c.self.inside.world c.step.new.self c.self.inside.journal.items c.reserve.new.self.items c.push_reserved.new.self.items
-    c.self.inside.ends.items c.args.seat.now.worker c.args.event c.self.inside.book.total c.add.new.self.total
-    c.self.invariant c.reserve.ensures.items c.push_reserved.ensures.items c.add.ensures.total c.in_ok-step.ensures.ok c.requires.maker c.requires.plain
