@@ -1,16 +1,15 @@
 -- Stars that are followed by an assignment of a field that the iterations leave alone.
-use Rattle.std.specs.Prelude.{IfSome}
-use Rattle.std.proofs.Common.{◌≡◌, ◌⊎◌, ℕ, zero, suc, inl, inr, refl, ap, sym, ◌∙◌, subst, arith, List, [], ◌∷◌}
+use Rattle.std.proofs.Common.{◌≡◌, ℕ, zero, suc, inl, inr, refl, ap, sym, ◌∙◌, subst, List, [], ◌∷◌}
 use Rattle.nk_values.specs.declared.field.Field.{Field}
 use Rattle.nk_values.specs.declared.packet.Packet.{Packet}
 use Rattle.nk_values.specs.declared.lit.Lit.{Lit}
 use Rattle.nk_values.specs.Held.{Holds, put}
 use Rattle.nk_values.specs.Lits.{lit_field, lit_value}
 use Rattle.nk_values.specs.Members.{IsIn}
-use Rattle.nk_values.specs.Packets.{get, IsInRange}
+use Rattle.nk_values.specs.Packets.{get}
 use Rattle.nk_values.proofs.PacketLaws.{get-with_other, get-with_same, field_cases, same_packet}
 use Rattle.fdd_nodes.specs.Cells.{Agrees, cell_of, whole_cell}
-use Rattle.fdd_nodes.specs.Trees.{Tree, leaf_at, apply, answers, Tests, Assigns}
+use Rattle.fdd_nodes.specs.Trees.{Tree, leaf_at, apply, answers}
 use Rattle.fdd_nodes.proofs.CellLaws.{agrees_with, open_agrees}
 use Rattle.fdd_nodes.proofs.MakesLaws.{source, outcome, among_lists}
 use Rattle.fdd_star.specs.Named.{NamesLit}

@@ -1,5 +1,5 @@
 -- How what is reached grows.
-use Rattle.std.proofs.Common.{◌≡◌, ◌⊎◌, ℕ, ◌+◌, ◌-◌, ◌<◌, ◌≤◌, inl, inr, refl, ap, sym, ◌∙◌, subst, arith, true, List, [], ◌∷◌, ◌++◌, length, take, drop, get_or}
+use Rattle.std.proofs.Common.{◌≡◌, ◌⊎◌, ℕ, ◌+◌, ◌-◌, ◌<◌, ◌≤◌, inl, inr, refl, ap, sym, ◌∙◌, subst, arith, true, List, [], ◌∷◌, ◌++◌, length, map, take, drop, get_or}
 use Rattle.std.proofs.lemmas.Bool.{false≢true, or_cases}
 use Rattle.std.proofs.lemmas.List.{append_assoc, append-nil, take_more, take_all, length-drop, get_or-drop, get_or_append_left}
 use Rattle.std.specs.declared.cmp.Ordering.{Ordering}
@@ -26,11 +26,13 @@ use Rattle.fdd_nodes.proofs.CellLaws.{holds_fixed, lit_not_free}
 use Rattle.fdd_nodes.proofs.SplitLaws.{leaf_at-then, leaf_at-else}
 use Rattle.fdd_nodes.proofs.AfterLaws.{after_apply, after_among}
 use Rattle.fdd_nodes.proofs.MakesLaws.{source, outcome, among_lists}
+use Rattle.fdd_star.specs.declared.keys.Key.{Key}
 use Rattle.fdd_star.specs.declared.reach.Reach.{Reach}
-use Rattle.fdd_star.specs.declared.visits.Visit.{Visit}
-use Rattle.fdd_star.specs.Asks.{Asks, AsksMore, ComesTo, IsVisitOf, Walks}
-use Rattle.fdd_star.specs.Reaches.{reached_copies, asked_of, AsksAll, IsTold, NotesPacket, Grows}
+use Rattle.fdd_star.specs.declared.visits.Successor.{Successor}
+use Rattle.fdd_star.specs.Asks.{AreApart, Asks, AsksMore, ComesTo, IsNumberOf, Walks, copy_of}
+use Rattle.fdd_star.specs.Reaches.{reached_copies, asked_of, AreNumbersOf, AsksAll, IsNumbered, NotesNumber, Grows}
 use Rattle.fdd_star.proofs.FillLaws.{leaf_assigns}
+use Rattle.fdd_star.proofs.NumberLaws.{map_end, numbers_have, numbers_made, numbers_next}
 use Rattle.fdd_star.proofs.TurnLaws.{in_same, outcome_left, outcome_in}
 use Rattle.fdd_store.specs.Stores.{Kept, Has, tree_at}
 
@@ -158,28 +160,26 @@ asks_kept ls r s s' a e = record {
 }
 
 -- what a visit asks is what its packet's path asks
-pub asks_visit : (k : Kept) (t : Tree) (q : Packet) (v : Visit) (r s : Reach) → IsVisitOf k t q v → AsksAll v.asked.items r s → AsksMore t q (asked_of r) (asked_of s)
-asks_visit k t q v r s h a = record {
+pub asks_visit : (t : Tree) (q : Packet) (ls : List Lit) (r s : Reach) → AsksMore t q [] ls → AsksAll ls r s → AsksMore t q (asked_of r) (asked_of s)
+asks_visit t q ls r s h a = record {
   kept = a.kept;
-  has = λ m w. a.has m (h.asked.has m w);
+  has = λ m w. a.has m (h.has m w);
   only = λ m i. elim (a.only m i) [
     | inl w ↦ inl w
-    | inr w ↦ elim (h.asked.only m w) [ inl n ↦ absurd n | inr x ↦ inr x ]
+    | inr w ↦ elim (h.only m w) [ inl n ↦ absurd n | inr x ↦ inr x ]
   ];
 }
 
 -- The copies of a leaf after the copy x: new has what they make, beside what old has.
 pub record Adds (c : Packet) (x : List Lit) (ds : List (List Lit)) (old new : Reach) : Type 0 where
-  pub told : IsTold c new
   pub more : List (List Lit)
   pub joined : reached_copies new ≡ reached_copies old ++ more
   pub has : (d : List Lit) → IsIn ds d → IsIn (outcomes (reached_copies new) c) (apply d (apply x c))
-  pub only : (y : List Lit) → IsIn more y → (d : List Lit) × IsIn ds d × (y ≡ after x d)
+  pub only : (y : List Lit) → IsIn more y → (d : List Lit) × IsIn ds d × (y ≡ after x d) × IsCopy x
   pub late : (y : List Lit) → IsIn more y → ¬ IsIn (outcomes (reached_copies old) c) (apply y c)
 
-pub adds_none : (c : Packet) (x : List Lit) (r s : Reach) → IsTold c s → reached_copies s ≡ reached_copies r → Adds c x [] r s
-adds_none c x r s t e = record {
-  told = t;
+pub adds_none : (c : Packet) (x : List Lit) (r s : Reach) → reached_copies s ≡ reached_copies r → Adds c x [] r s
+adds_none c x r s e = record {
   more = [];
   joined = e ∙ sym (append-nil (reached_copies r));
   has = λ d h. absurd h;
@@ -188,23 +188,21 @@ adds_none c x r s t e = record {
 }
 
 -- a copy that makes a packet which is there
-adds_old : (c : Packet) (x : List Lit) (ds : List (List Lit)) (d : List Lit) (r s s' : Reach) → Adds c x ds r s → IsTold c s' → reached_copies s' ≡ reached_copies s → IsIn (outcomes (reached_copies s) c) (apply d (apply x c)) → Adds c x (ds ++ d ∷ []) r s'
-adds_old c x ds d r s s' a t e h = record {
-  told = t;
+adds_old : (c : Packet) (x : List Lit) (ds : List (List Lit)) (d : List Lit) (r s s' : Reach) → Adds c x ds r s → reached_copies s' ≡ reached_copies s → IsIn (outcomes (reached_copies s) c) (apply d (apply x c)) → Adds c x (ds ++ d ∷ []) r s'
+adds_old c x ds d r s s' a e h = record {
   more = a.more;
   joined = e ∙ a.joined;
   has = λ d' k. outcome_in _ _ c _ (sym e) (elim (in-either ds (d ∷ []) d' k) [
     | inl i ↦ a.has d' i
     | inr i ↦ elim i [ inl w ↦ subst (λ (z : List Lit). IsIn (outcomes (reached_copies s) c) (apply z (apply x c))) w h | inr n ↦ absurd n ]
   ]);
-  only = λ y k. let w = a.only y k in (w.0, in-left ds (d ∷ []) w.0 w.1, w.2);
+  only = λ y k. let w = a.only y k in (w.0, in-left ds (d ∷ []) w.0 w.1, w.2, w.3);
   late = a.late;
 }
 
 -- a copy that makes a new one
-adds_new : (c : Packet) (x : List Lit) (ds : List (List Lit)) (d y : List Lit) (r s s' : Reach) → Adds c x ds r s → IsTold c s' → reached_copies s' ≡ reached_copies s ++ y ∷ [] → y ≡ after x d → apply y c ≡ apply d (apply x c) → ¬ IsIn (outcomes (reached_copies s) c) (apply d (apply x c)) → Adds c x (ds ++ d ∷ []) r s'
-adds_new c x ds d y r s s' a t e ey makes new = record {
-  told = t;
+adds_new : (c : Packet) (x : List Lit) (ds : List (List Lit)) (d y : List Lit) (r s s' : Reach) → Adds c x ds r s → reached_copies s' ≡ reached_copies s ++ y ∷ [] → y ≡ after x d → IsCopy x → apply y c ≡ apply d (apply x c) → ¬ IsIn (outcomes (reached_copies s) c) (apply d (apply x c)) → Adds c x (ds ++ d ∷ []) r s'
+adds_new c x ds d y r s s' a e ey copy makes new = record {
   more = a.more ++ y ∷ [];
   joined = e ∙ ap (λ (zs : List (List Lit)). zs ++ y ∷ []) a.joined ∙ append_assoc (reached_copies r) a.more (y ∷ []);
   has = λ d' k. outcome_in _ _ c _ (sym e) (elim (in-either ds (d ∷ []) d' k) [
@@ -215,8 +213,8 @@ adds_new c x ds d y r s s' a t e ey makes new = record {
     ]
   ]);
   only = λ z k. elim (in-either a.more (y ∷ []) z k) [
-    | inl i ↦ let w = a.only z i in (w.0, in-left ds (d ∷ []) w.0 w.1, w.2)
-    | inr i ↦ elim i [ inl w ↦ (d, in-right ds (d ∷ []) d (inl refl), sym w ∙ ey) | inr n ↦ absurd n ]
+    | inl i ↦ let w = a.only z i in (w.0, in-left ds (d ∷ []) w.0 w.1, w.2, w.3)
+    | inr i ↦ elim i [ inl w ↦ (d, in-right ds (d ∷ []) d (inl refl), sym w ∙ ey, copy) | inr n ↦ absurd n ]
   ];
   late = λ z k h. elim (in-either a.more (y ∷ []) z k) [
     | inl i ↦ a.late z i h
@@ -227,31 +225,31 @@ adds_new c x ds d y r s s' a t e ey makes new = record {
   ];
 }
 
-outcomes_more : (xs : List (List Lit)) (y : List Lit) (c : Packet) → outcomes (xs ++ y ∷ []) c ≡ outcomes xs c ++ apply y c ∷ []
-outcomes_more [] y c = refl
-outcomes_more (x ∷ xs) y c = ap (λ (zs : List Packet). apply x c ∷ zs) (outcomes_more xs y c)
+-- The copies of a leaf after the copy x, as they are added one by one: the cells stay numbered.
+abbrev pub AddsSuccessors : List Key → ℕ → Packet → List Lit → List Successor → Reach → Reach → Type 0
+AddsSuccessors keys d c x ss old new = IsNumbered keys d c new × Adds c x (map copy_of ss) old new
 
--- a copy of the leaf more
-pub adds_more : (c : Packet) (x : List Lit) (ds : List (List Lit)) (d : List Lit) (q : Packet) (r s s' : Reach) → IsCopy x → q ≡ apply d (apply x c) → Adds c x ds r s → NotesPacket q (after x d) s s' → Adds c x (ds ++ d ∷ []) r s'
-adds_more c x ds d q r s s' copy e a n =
-    let makes = after_apply x d c copy in
+-- a successor more
+pub adds_more : (keys : List Key) (d : ℕ) (c : Packet) (x : List Lit) (ss : List Successor) (t : Successor) (r s s' : Reach) → AreApart keys → IsNumberOf keys d (apply t.copy (apply x c)) t.number → AddsSuccessors keys d c x ss r s → NotesNumber t.number x t.copy s s' → AddsSuccessors keys d c x (ss ++ t ∷ []) r s'
+adds_more keys d c x ss t r s s' apart number a n =
+    let back = λ (z : Adds c x (map copy_of ss ++ t.copy ∷ []) r s'). subst (λ (ds : List (List Lit)). Adds c x ds r s') (sym (map_end ss t)) z in
     elim n.which [
-      | inl w ↦
-          let told : IsTold c s' = w.1 ∙ a.told ∙ ap (λ (zs : List (List Lit)). outcomes zs c) (sym w.2) in
-          let there = subst (IsIn (outcomes (reached_copies s) c)) e (in_same _ _ q a.told w.0) in
-          adds_old c x ds d r s s' a told w.2 there
+      | inl w ↦ (
+        subst (AreNumbersOf keys d c (reached_copies s')) (sym w.1) (subst (λ (ys : List (List Lit)). AreNumbersOf keys d c ys s.numbers.keys) (sym w.2) a.0),
+        back (adds_old c x (map copy_of ss) t.copy r s s' a.1 w.2 (numbers_made keys d c (reached_copies s) s.numbers.keys (apply t.copy (apply x c)) t.number a.0 number w.0)),
+      )
       | inr w ↦
-          let keys = ap (λ (zs : List Packet). zs ++ q ∷ []) a.told ∙ ap (λ (z : Packet). outcomes (reached_copies s) c ++ z ∷ []) (e ∙ sym makes) in
-          let told : IsTold c s' = w.1 ∙ keys ∙ sym (outcomes_more (reached_copies s) (after x d) c) ∙ ap (λ (zs : List (List Lit)). outcomes zs c) (sym w.2) in
-          let new : ¬ IsIn (outcomes (reached_copies s) c) (apply d (apply x c)) = λ k. w.0 (in_same _ _ q (sym a.told) (subst (IsIn (outcomes (reached_copies s) c)) (sym e) k)) in
-          adds_new c x ds d (after x d) r s s' a told w.2 refl makes new
+          let makes = after_apply x t.copy c w.3 in
+          let next = numbers_next keys d c (reached_copies s) s.numbers.keys (after x t.copy) t.number a.0 (subst (λ (z : Packet). IsNumberOf keys d z t.number) (sym makes) number) in (
+            subst (AreNumbersOf keys d c (reached_copies s')) (sym w.1) (subst (λ (ys : List (List Lit)). AreNumbersOf keys d c ys (s.numbers.keys ++ t.number ∷ [])) (sym w.2) next),
+            back (adds_new c x (map copy_of ss) t.copy (after x t.copy) r s s' a.1 w.2 refl w.3 makes (λ k. w.0 (numbers_have keys d c (reached_copies s) s.numbers.keys (apply t.copy (apply x c)) t.number apart a.0 number k))),
+          )
     ]
 
 -- growing
 
-pub grows_none : (p : Tree) (c : Packet) (r : Reach) → IsTold c r → Grows p c [] r r
-grows_none p c r t = record {
-  told = t;
+pub grows_none : (p : Tree) (c : Packet) (r : Reach) → Grows p c [] r r
+grows_none p c r = record {
   more = [];
   joined = sym (append-nil (reached_copies r));
   has = λ x q h. absurd h;
@@ -264,7 +262,6 @@ grows_none p c r t = record {
 
 pub grows_more : (p : Tree) (c : Packet) (xs ys : List (List Lit)) (r s t : Reach) → Grows p c xs r s → Grows p c ys s t → Grows p c (xs ++ ys) r t
 grows_more p c xs ys r s t g h = record {
-  told = h.told;
   more = g.more ++ h.more;
   joined = h.joined ∙ ap (λ (zs : List (List Lit)). zs ++ h.more) g.joined ∙ append_assoc (reached_copies r) g.more h.more;
   has = λ x q k w. elim (in-either xs ys x k) [
@@ -291,9 +288,8 @@ grows_more p c xs ys r s t g h = record {
 }
 
 -- the copies of the leaf where a copy comes to, and what its path asks
-pub grows_one : (p : Tree) (c : Packet) (x : List Lit) (r s : Reach) → IsCopy x → Adds c x (leaf_at p (apply x c)) r s → AsksMore p (apply x c) (asked_of r) (asked_of s) → Grows p c (x ∷ []) r s
-grows_one p c x r s copy a k = record {
-  told = a.told;
+pub grows_one : (p : Tree) (c : Packet) (x : List Lit) (r s : Reach) → Adds c x (leaf_at p (apply x c)) r s → AsksMore p (apply x c) (asked_of r) (asked_of s) → Grows p c (x ∷ []) r s
+grows_one p c x r s a k = record {
   more = a.more;
   joined = a.joined;
   has = λ y q h w.
@@ -309,12 +305,12 @@ grows_one p c x r s copy a k = record {
         x,
         inl refl,
         record {
-          made = subst (IsIn (answers p (apply x c))) (sym (after_apply x w.0 c copy) ∙ ap (λ (z : List Lit). apply z c) (sym w.2)) (outcome (leaf_at p (apply x c)) w.0 (apply x c) w.1);
+          made = subst (IsIn (answers p (apply x c))) (sym (after_apply x w.0 c w.3) ∙ ap (λ (z : List Lit). apply z c) (sym w.2)) (outcome (leaf_at p (apply x c)) w.0 (apply x c) w.1);
           named = λ m i. elim (after_among x w.0 m (in_same _ _ m w.2 i)) [
             | inl v ↦ inl v
             | inr v ↦ inr (leaf_assigns p (apply x c) m (among_lists (leaf_at p (apply x c)) w.0 m w.1 v))
           ];
-          follows = λ s f pk. ap (λ (z : List Lit). apply z (apply s pk)) w.2 ∙ after_apply x w.0 (apply s pk) copy ∙ ap (apply w.0) (f pk) ∙ sym (after_apply x w.0 pk copy) ∙ ap (λ (z : List Lit). apply z pk) (sym w.2);
+          follows = λ s f pk. ap (λ (z : List Lit). apply z (apply s pk)) w.2 ∙ after_apply x w.0 (apply s pk) w.3 ∙ ap (apply w.0) (f pk) ∙ sym (after_apply x w.0 pk w.3) ∙ ap (λ (z : List Lit). apply z pk) (sym w.2);
         },
       );
   late = a.late;

@@ -10,6 +10,7 @@ pub mod KeptLaws
 pub mod LeadLaws
 pub mod NamedLaws
 pub mod NarrowLaws
+pub mod NumberLaws
 pub mod ShareLaws
 pub mod SharedLaws
 pub mod StarLaws

@@ -50,9 +50,8 @@ fewer_turn : (p : Tree) (n : ℕ) (c q r : Packet) → Fewer p n c q → IsIn (a
 fewer_turn p n c q r h k = (suc h.0, (let b = h.1 in omega (arith, b)), turn_more p h.0 c q r h.2 k)
 
 -- nothing more is reached by the next iteration from what fewer than n iterations reach
-pub turned_start : (f : List Lit) (p : Tree) (c : Packet) (r : Reach) → HoldsAll c f → Starts f c r → IsIterated f p c 0 0 r
+pub turned_start : (f : List Lit) (p : Tree) (c : Packet) (r : Reach) → HoldsAll c f → Starts f r → IsIterated f p c 0 0 r
 turned_start f p c r held s = record {
-  told = s.told;
   within = omega arith;
   made = λ x h. elim (in_same _ _ x s.copies h) [ inl e ↦ (0, omega arith, sym (apply_held f c held) ∙ ap (λ (y : List Lit). apply y c) e) | inr n ↦ absurd n ];
   all = λ q h. outcome_in _ _ c q (sym s.copies) (inl (apply_held f c held ∙ no_turn p h.0 c q (let b = h.1 in omega (arith, b)) h.2));
@@ -87,7 +86,6 @@ turned_more f p c n place r s t g =
     let behind = ap (drop (length (reached_copies r))) g.joined ∙ drop-append_seam (reached_copies r) g.more in
     let from_drop : (x : List Lit) → IsIn (drop place (reached_copies r)) x → IsIn (reached_copies r) x = λ x i. in_same _ _ x (take-append-drop place (reached_copies r)) (in-right (take place (reached_copies r)) (drop place (reached_copies r)) x i) in
     record {
-      told = g.told;
       within = (let e = ap length g.joined ∙ length-append (reached_copies r) g.more in omega (arith, e));
       made = λ x h. elim (in-either (reached_copies r) g.more x (in_same _ _ x g.joined h)) [
         | inl i ↦ fewer_more p (suc n) c (apply x c) (t.made x i)

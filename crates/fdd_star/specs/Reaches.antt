@@ -7,9 +7,11 @@ use Rattle.nk_values.specs.Lits.{lit_field}
 use Rattle.nk_values.specs.Members.{IsIn}
 use Rattle.fdd_nodes.specs.Trees.{Tree, apply, outcomes, answers, SameAnswers, Tests, Assigns}
 use Rattle.fdd_nodes.specs.Cells.{Agrees, IsUnset}
+use Rattle.fdd_nodes.specs.Copies.{IsCopy, after}
 use Rattle.fdd_nodes.specs.Normals.{IsNormal}
+use Rattle.fdd_star.specs.declared.keys.Key.{Key}
 use Rattle.fdd_star.specs.declared.reach.Reach.{Reach}
-use Rattle.fdd_star.specs.Asks.{Asks}
+use Rattle.fdd_star.specs.Asks.{Asks, IsNumberOf}
 use Rattle.fdd_star.specs.Stars.{Iterates, AtMost}
 
 abbrev pub reached_copies : Reach → List (List Lit)
@@ -18,9 +20,16 @@ reached_copies r = r.copies.items
 abbrev pub asked_of : Reach → List Lit
 asked_of r = r.asked.keys
 
--- the cells are those that the copies make of the cell
-abbrev pub IsTold : Packet → Reach → Type 0
-IsTold c r = r.cells.keys ≡ outcomes (reached_copies r) c
+-- the numbers are those of what copies make of a packet that comes to a diagram
+abbrev pub AreNumbersOf : List Key → ℕ → Packet → List (List Lit) → List ℕ → Type 0
+AreNumbersOf keys d c [] [] = Unit {0}
+AreNumbersOf keys d c [] (n ∷ ns) = ⊥
+AreNumbersOf keys d c (x ∷ xs) [] = ⊥
+AreNumbersOf keys d c (x ∷ xs) (n ∷ ns) = IsNumberOf keys d (apply x c) n × AreNumbersOf keys d c xs ns
+
+-- the numbers are those of what the copies make of the cell
+abbrev pub IsNumbered : List Key → ℕ → Packet → Reach → Type 0
+IsNumbered keys d c r = AreNumbersOf keys d c (reached_copies r) r.numbers.keys
 
 -- the packet holds each of the literals
 abbrev pub HoldsAll : Packet → List Lit → Type 0
@@ -30,9 +39,8 @@ HoldsAll c ls = (m : Lit) → IsIn ls m → Holds c m
 abbrev pub Follows : List Lit → List Lit → Type 0
 Follows s x = (pk : Packet) → apply x (apply s pk) ≡ apply x pk
 
--- what the first copy makes of the cell's packet alone, and nothing was asked
-pub record Starts (s : List Lit) (c : Packet) (r : Reach) : Type 0 where
-  pub told : IsTold c r
+-- the first copy alone, and nothing was asked
+pub record Starts (s : List Lit) (r : Reach) : Type 0 where
   pub copies : reached_copies r ≡ s ∷ []
   pub asked : asked_of r ≡ []
 
@@ -42,12 +50,13 @@ pub record AsksAll (ls : List Lit) (old new : Reach) : Type 0 where
   pub has : (m : Lit) → IsIn ls m → IsIn (asked_of new) m
   pub only : (m : Lit) → IsIn (asked_of new) m → IsIn (asked_of old) m ⊎ IsIn ls m
 
--- the packet was there, or it is last now, and so is the copy x
-pub record NotesPacket (q : Packet) (x : List Lit) (old new : Reach) : Type 0 where
+-- the number was there, or it is last now, and so is the copy x with d after it
+pub record NotesNumber (n : ℕ) (x d : List Lit) (old new : Reach) : Type 0 where
   pub asked : asked_of new ≡ asked_of old
-  pub which : (IsIn old.cells.keys q × (new.cells.keys ≡ old.cells.keys) × (reached_copies new ≡ reached_copies old))
-      ⊎ ((¬ IsIn old.cells.keys q) × (new.cells.keys ≡ old.cells.keys ++ q ∷ []) ×
-      (reached_copies new ≡ reached_copies old ++ x ∷ []))
+  pub which : (IsIn old.numbers.keys n × (new.numbers.keys ≡ old.numbers.keys) ×
+      (reached_copies new ≡ reached_copies old))
+      ⊎ ((¬ IsIn old.numbers.keys n) × (new.numbers.keys ≡ old.numbers.keys ++ n ∷ []) ×
+      (reached_copies new ≡ reached_copies old ++ after x d ∷ []) × IsCopy x)
 
 -- the copy y makes an answer to what the copy x makes, and has only literals of x and what is assigned
 pub record IsNextCopy (p : Tree) (c : Packet) (x y : List Lit) : Type 0 where
@@ -58,7 +67,6 @@ pub record IsNextCopy (p : Tree) (c : Packet) (x y : List Lit) : Type 0 where
 -- Behind the copies of old, new has copies that make the answers to what the copies xs make; and what is asked of
 -- these.
 pub record Grows (p : Tree) (c : Packet) (xs : List (List Lit)) (old new : Reach) : Type 0 where
-  pub told : IsTold c new
   pub more : List (List Lit)
   pub joined : reached_copies new ≡ reached_copies old ++ more
   pub has : (x : List Lit) (q : Packet) → IsIn xs x → IsIn (answers p (apply x c)) q →
@@ -77,7 +85,6 @@ Fewer p n pk out = (k : ℕ) × (k < n) × Iterates p k pk out
 -- After the first copy s and n iterations the copies make exactly what at most n iterations reach from the cell's
 -- packet. Those before the place make what fewer do, and what they ask is noted; the others make nothing of that.
 pub record IsIterated (s : List Lit) (p : Tree) (c : Packet) (n place : ℕ) (r : Reach) : Type 0 where
-  pub told : IsTold c r
   pub within : place ≤ length (reached_copies r)
   pub made : (x : List Lit) → IsIn (reached_copies r) x → Fewer p (suc n) c (apply x c)
   pub all : (q : Packet) → Fewer p (suc n) c q → IsIn (outcomes (reached_copies r) c) q

@@ -43,7 +43,8 @@ abbrev pub IsShallow : Tree → Type 0
 IsShallow p = (pk out : Packet) → ¬ IsDeep p pk out
 
 -- On each packet in range r answers what the assignment l makes of what p makes in any number of iterations, of which
--- 512 do. r is normal, and names only what p names, and l. No packet in range has an output of p that takes 513 iterations.
+-- 512 do. r is normal, and names only what p names, and l. No packet in range has an output of p that takes 513
+-- iterations.
 pub record EndedStarOf (p : Tree) (l : Lit) (r : Tree) : Type 0 where
   pub made : (pk out : Packet) → IsIn (answers r pk) out → (q : Packet) × AtMost p 512 pk q × (out ≡ put l q)
   pub all : (n : ℕ) (pk q : Packet) → IsInRange pk → Iterates p n pk q → IsIn (answers r pk) (put l q)

@@ -3,38 +3,38 @@
 //! Layer: diagrams; private. Called by `parts`.
 use crate::fault::{StarError, StarFault};
 use crate::scope::Scope;
-use crate::visits::{Visit, Visits, visit_of};
-use fdd_nodes::{Assignments, Cell};
+use crate::visits::{Visit, Visits};
+use fdd_nodes::Assignments;
 use fdd_store::Store;
 use indexmap::IndexSet;
 use nk_values::Lit;
 use std::alloc::{AllocError, Global};
 use std::collections::BTreeSet;
 
-/// The cells that are reached, each once and in the order of iterations, with a copy that makes each of the first;
-/// and the tests that were asked on the way at fields which nothing fixes.
+/// The cells that are reached, by their numbers, each once and in the order of iterations, with a copy that makes each
+/// of the first; and the tests that were asked on the way at fields which nothing fixes.
 #[derive(Drop)]
 pub(crate) struct Reach {
-    cells: IndexSet<Cell>,
+    numbers: IndexSet<usize>,
     pub(crate) copies: Vec<Assignments>,
     pub(crate) asked: BTreeSet<Lit>,
 }
 
 impl Reach {
-    ghost use Rattle.std.specs.Prelude.{◌≡◌, ◌≤◌, [], ◌∷◌, length, drop, MatchResult, IfOk, OnOk};
+    ghost use Rattle.std.specs.Prelude.{◌≡◌, ◌≤◌, ℕ, List, [], ◌∷◌, length, drop, MatchResult, IfOk, OnOk};
+    ghost use Rattle.nk_values.specs.declared.packet.Packet.{Packet};
     ghost use Rattle.nk_values.specs.Packets.{IsInRange};
     ghost use Rattle.fdd_nodes.specs.Cells.{IsValid, IsFresh};
-    ghost use Rattle.fdd_nodes.specs.Copies.{after};
-    ghost use Rattle.fdd_nodes.specs.Roots.{IsLeaf};
-    ghost use Rattle.fdd_nodes.specs.Trees.{Tree, apply};
-    ghost use Rattle.fdd_star.specs.Asks.{AreVisits, IsVisitOf};
+    ghost use Rattle.fdd_nodes.specs.Trees.{apply};
+    ghost use Rattle.fdd_star.specs.declared.keys.Key.{Key};
+    ghost use Rattle.fdd_star.specs.Asks.{AreApart, AreVisits, IsNumberOf, IsVisitAt, KeepsNumbers, numbered};
     ghost use Rattle.fdd_star.specs.Faults.{IsErrorIn};
-    ghost use Rattle.fdd_star.specs.Reaches.{reached_copies, HoldsAll, Starts, IsTold, NotesPacket, AsksAll, Grows};
+    ghost use Rattle.fdd_star.specs.Reaches.{reached_copies, HoldsAll, Starts, IsNumbered, NotesNumber, AsksAll, Grows};
     ghost use Rattle.fdd_star.specs.Reaches.{IsClosed};
-    ghost use Rattle.fdd_store.specs.Stores.{Has, tree_at};
+    ghost use Rattle.fdd_store.specs.Stores.{Has, Kept, tree_at};
 
-    /// What any number of iterations reach after the first copy, or an output that takes 513 iterations. The fault fills
-    /// the cell with another packet, which has nothing that the diagram names.
+    /// What any number of iterations reach after the first copy, or an output that takes 513 iterations. The fault
+    /// fills the cell with another packet, which has nothing that the diagram names.
     pub(crate) fn of(
         alloc: Global,
         store: &Store,
@@ -52,7 +52,8 @@ impl Reach {
             (λ r. IsClosed scope.now.first.now (tree_at store.now scope.now.body) scope.now.cell.now r)
             (λ e. IsErrorIn (tree_at store.now scope.now.body) scope.now.cell.now scope.now.other.now e) }
     {
-        let mut all = Reach::start(alloc, scope.cell, scope.first)?;
+        visits.forget_many();
+        let mut all = Reach::start(alloc, visits, scope)?;
         let mut from = 0;
         for iteration in 0..513u64 {
             let until = all.copies.len();
@@ -73,17 +74,20 @@ impl Reach {
     }
 
     // The packet of the cell, before the first iteration. It holds the first copy.
-    fn start(alloc: Global, cell: &Cell, first: &Assignments) -> Result<Reach, AllocError>
-        requires { HoldsAll cell.now first.now }
-        ensures { IfOk result (λ r. Starts first.now cell.now r) }
+    fn start(alloc: Global, visits: &mut Visits, scope: &Scope<'_>) -> Result<Reach, AllocError>
+        requires { HoldsAll scope.now.cell.now scope.now.first.now }
+        ensures visits { (k : Kept) → AreVisits k visits.old → OnOk result (AreVisits k visits.new) }
+        ensures starts { IfOk result (λ r. Starts scope.now.first.now r) }
+        ensures numbered { IfOk result (λ r. IsNumbered (numbered visits.new) scope.now.body scope.now.cell.now r) }
     {
         let mut all = Reach {
-            cells: IndexSet::new(alloc),
+            numbers: IndexSet::new(alloc),
             copies: Vec::new(alloc),
             asked: BTreeSet::new(alloc),
         };
-        all.cells.insert(*cell)?;
-        all.copies.push(first.copy()?)?;
+        let number = visits.number(scope.body, scope.cell)?;
+        all.numbers.insert(number)?;
+        all.copies.push(scope.first.copy()?)?;
         Ok(all)
     }
 
@@ -99,20 +103,23 @@ impl Reach {
         requires has { Has store.now scope.now.body }
         requires visits { AreVisits store.now visits.old }
         requires place { from ≤ length (reached_copies self.old) }
-        requires told { IsTold scope.now.cell.now self.old }
+        requires numbered { IsNumbered (numbered visits.old) scope.now.body scope.now.cell.now self.old }
         ensures visits { OnOk result (AreVisits store.now visits.new) }
+        ensures numbered { OnOk result
+            (IsNumbered (numbered visits.new) scope.now.body scope.now.cell.now self.new) }
         ensures grown { OnOk result
             (Grows (tree_at store.now scope.now.body) scope.now.cell.now (drop from (reached_copies self.old)) self.old
             self.new) }
     {
         for i in from..self.copies.len() {
             let copy = self.copies[i].copy()?;
-            self.step(alloc, store, visits, scope, &copy)?;
+            let number = self.numbers[i];
+            self.step(alloc, store, visits, scope, &copy, number)?;
         }
         Ok(())
     }
 
-    // One iteration more for a copy.
+    // One iteration more for a copy that makes the cell of a number.
     fn step(
         &mut self,
         alloc: Global,
@@ -120,43 +127,37 @@ impl Reach {
         visits: &mut Visits,
         scope: &Scope<'_>,
         copy: &Assignments,
+        number: usize,
     ) -> Result<(), AllocError>
         requires has { Has store.now scope.now.body }
         requires visits { AreVisits store.now visits.old }
-        requires told { IsTold scope.now.cell.now self.old }
+        requires numbered { IsNumbered (numbered visits.old) scope.now.body scope.now.cell.now self.old }
+        requires number { IsNumberOf (numbered visits.old) scope.now.body (apply copy.now scope.now.cell.now) number }
         ensures visits { OnOk result (AreVisits store.now visits.new) }
+        ensures numbered { OnOk result
+            (IsNumbered (numbered visits.new) scope.now.body scope.now.cell.now self.new) }
         ensures grown { OnOk result
             (Grows (tree_at store.now scope.now.body) scope.now.cell.now (copy.now ∷ []) self.old self.new) }
     {
-        let Scope { body, cell, .. } = *scope;
-        let here = cell.after(copy);
-        if let Some(known) = visits.get(body, &here) {
-            return self.follow(alloc, store, cell, copy, known);
+        if let Some(visit) = visits.get(number) {
+            return self.follow(alloc, copy, visit);
         }
-        let made = visit_of(alloc, store, body, &here)?;
-        self.follow(alloc, store, cell, copy, &made)?;
-        visits.keep(body, &here, made)
+        let here = scope.cell.after(copy);
+        let made = visits.visit(alloc, store, scope.body, &here)?;
+        self.follow(alloc, copy, &made)?;
+        visits.keep(number, made);
+        Ok(())
     }
 
     // Adds what a visit's leaf makes of a copy's packet, and notes what was asked.
-    fn follow(
-        &mut self,
-        alloc: Global,
-        store: &Store,
-        cell: &Cell,
-        copy: &Assignments,
-        visit: &Visit,
-    ) -> Result<(), AllocError>
-        requires told { IsTold cell.now self.old }
-        requires has { Has store.now visit.now.leaf }
-        requires leaf { IsLeaf (tree_at store.now visit.now.leaf) }
-        ensures { (t : Tree) → IsVisitOf store.now t (apply copy.now cell.now) visit.now →
-            OnOk result (Grows t cell.now (copy.now ∷ []) self.old self.new) }
+    fn follow(&mut self, alloc: Global, copy: &Assignments, visit: &Visit) -> Result<(), AllocError>
+        ensures { (keys : List Key) (k : Kept) (d : ℕ) (c : Packet) → AreApart keys → IsNumbered keys d c self.old →
+            IsVisitAt k keys d (apply copy.now c) visit.now →
+            OnOk result (IsNumbered keys d c self.new × Grows (tree_at k d) c (copy.now ∷ []) self.old self.new) }
     {
-        let here = cell.after(copy);
         self.note(&visit.asked)?;
-        for next in store.leaf(visit.leaf).copies() {
-            self.add(alloc, here.after(next), copy, next)?;
+        for next in &visit.successors {
+            self.add(alloc, next.number, copy, &next.copy)?;
         }
         Ok(())
     }
@@ -164,7 +165,7 @@ impl Reach {
     // Notes tests that were asked.
     fn note(&mut self, asked: &[Lit]) -> Result<(), AllocError>
         ensures asked { OnOk result (AsksAll asked.now self.old self.new) }
-        ensures cells { self.new.cells ≡ self.old.cells }
+        ensures numbers { self.new.numbers ≡ self.old.numbers }
         ensures copies { self.new.copies ≡ self.old.copies }
     {
         for l in asked {
@@ -173,17 +174,17 @@ impl Reach {
         Ok(())
     }
 
-    // Adds a cell that is made by one copy after another, where it is not there.
+    // Adds the number of a cell that is made by one copy after another, if it is not there.
     fn add(
         &mut self,
         alloc: Global,
-        cell: Cell,
+        number: usize,
         copy: &Assignments,
         next: &Assignments,
     ) -> Result<(), AllocError>
-        ensures { OnOk result (NotesPacket cell (after copy.now next.now) self.old self.new) }
+        ensures { OnOk result (NotesNumber number copy.now next.now self.old self.new) }
     {
-        if self.cells.insert(cell)? {
+        if self.numbers.insert(number)? {
             self.copies.push(copy.followed_by(alloc, next)?)?;
         }
         Ok(())

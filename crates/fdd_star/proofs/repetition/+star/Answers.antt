@@ -9,7 +9,7 @@ use Rattle.nk_values.specs.Held.{put}
 use Rattle.nk_values.specs.Lits.{lit_field}
 use Rattle.nk_values.proofs.MemberLaws.{in-left, in-right}
 use Rattle.fdd_nodes.specs.Cells.{IsFresh, IsValid}
-use Rattle.fdd_nodes.specs.Names.{AreFew, IsFew}
+use Rattle.fdd_nodes.specs.Names.{AreFew}
 use Rattle.fdd_nodes.specs.Trees.{Assigns, Leaf}
 use Rattle.fdd_nodes.proofs.CellLaws.{valid_with}
 use Rattle.fdd_nodes.proofs.OpenLaws.{open_fields, fewer_open}

@@ -5,7 +5,7 @@ use Rattle.fdd_star.proofs.TurnLaws.{turned_start, turned_next, closed_of, deep_
 use Rattle.fdd_star.proofs.reach.Reach.of.Goals as goal
 
 pub loop-iteration-init : goal.loop-iteration-init
-loop-iteration-init c = (turned_start _ _ _ _ c.requires.held c.in_ok-all.ensures, c.requires.visits)
+loop-iteration-init c = (turned_start _ _ _ _ c.requires.held c.in_ok-all.ensures.starts, c.in_ok-all.ensures.visits _ (c.forget_many.ensures _ c.requires.visits), c.in_ok-all.ensures.numbered)
 
 pub returns-then-from-until : goal.returns-then-from-until
 returns-then-from-until c =
@@ -19,7 +19,7 @@ pub loop-iteration-preserved : goal.loop-iteration-preserved
 loop-iteration-preserved c =
     let f = c.len-until.ensures in
     let k = c.loop-iteration.all.copies.ok in
-    (turned_next _ _ _ _ _ _ _ _ (omega (arith, f, k)) c.loop-iteration.invariant.0 c.in_ok-iterate.ensures.grown, c.in_ok-iterate.ensures.visits)
+    (turned_next _ _ _ _ _ _ _ _ (omega (arith, f, k)) c.loop-iteration.invariant.0 c.in_ok-iterate.ensures.grown, c.in_ok-iterate.ensures.visits, c.in_ok-iterate.ensures.numbered)
 
 pub returns-in-None : goal.returns-in-None
 returns-in-None c =

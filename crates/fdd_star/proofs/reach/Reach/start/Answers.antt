@@ -1,18 +1,9 @@
-use Rattle.std.proofs.Common.{◌≡◌, rules, ap, sym, ◌∙◌, List, [], ◌∷◌}
-use Rattle.nk_values.specs.declared.packet.Packet.{Packet}
-use Rattle.nk_values.specs.declared.lit.Lit.{Lit}
-use Rattle.fdd_nodes.specs.Trees.{outcomes}
-use Rattle.fdd_star.specs.declared.reach.Reach.{Reach}
-use Rattle.fdd_star.specs.Reaches.{HoldsAll, Starts, asked_of, reached_copies}
-use Rattle.fdd_star.proofs.FirstLaws.{apply_held}
+use Rattle.std.proofs.Common.{rules}
+use Rattle.fdd_star.proofs.NumberLaws.{start_numbered}
 use Rattle.fdd_star.proofs.reach.Reach.start.Goals as goal
 
-starts_of : (s : List Lit) (c : Packet) (r : Reach) → HoldsAll c s → r.cells.keys ≡ c ∷ [] → reached_copies r ≡ s ∷ [] → asked_of r ≡ [] → Starts s c r
-starts_of s c r held k e a = record {
-  told = k ∙ ap (λ (z : Packet). z ∷ []) (sym (apply_held s c held)) ∙ ap (λ (cs : List (List Lit)). outcomes cs c) (sym e);
-  copies = e;
-  asked = a;
-}
+pub returns-clause-visits : goal.returns-clause-visits
+returns-clause-visits c = λ k h. c.in_ok-number.ensures.visits k h
 
-pub returns : goal.returns
-returns c = starts_of _ _ _ c.requires (search rules) (search rules) (search rules)
+pub returns-clause-numbered : goal.returns-clause-numbered
+returns-clause-numbered c = start_numbered _ _ c.in_ok-number.number _ _ _ _ c.requires c.in_ok-number.ensures.number (search rules) (search rules)
