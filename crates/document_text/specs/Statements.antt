@@ -42,15 +42,18 @@ headed _ ws = ([], TopLevel)
 abbrev pub statement_of : Stand → ℕ → List ℕ → List (List ℕ) → List Statement × Stand
 statement_of TopLevel n line [] = ([], TopLevel)
 statement_of TopLevel n line (w ∷ ws) = headed (head_of w) ws
-statement_of (InPolicy text) n line ws = if is_end ws then (PolicyText text ∷ [], TopLevel) else ([], InPolicy (text ++ line))
+statement_of (InPolicy text) n line ws =
+    if is_end ws then (PolicyText text ∷ [], TopLevel) else ([], InPolicy (text ++ line))
 statement_of InSchedule n line [] = ([], InSchedule)
-statement_of InSchedule n line (w ∷ ws) = if is_end (w ∷ ws) then ([], TopLevel) else (EventLine n (w ∷ ws) ∷ [], InSchedule)
+statement_of InSchedule n line (w ∷ ws) =
+    if is_end (w ∷ ws) then ([], TopLevel) else (EventLine n (w ∷ ws) ∷ [], InSchedule)
 
 -- the statements of the lines from the one with this number on
 abbrev pub statements_from : Stand → ℕ → List (List ℕ) → List Statement
 statements_from at n [] = []
 statements_from at n (line ∷ lines) =
-    (statement_of at n line (words_of line)).0 ++ statements_from (statement_of at n line (words_of line)).1 (n + 1) lines
+    (statement_of at n line (words_of line)).0 ++
+    statements_from (statement_of at n line (words_of line)).1 (n + 1) lines
 
 abbrev pub statements_of : List ℕ → List Statement
 statements_of text = statements_from TopLevel 1 (lines_of text)

@@ -2,13 +2,13 @@
 //!
 //! Layer: switches outside; private. Adds calls to `Drive`.
 ghost use Rattle.std.specs.Prelude.{◌≡◌, ◌≢◌, ◌<◌, ◌↔◌, None, IfOk, OnErr, IsTrue, length};
-ghost use Rattle.worker_desk.specs.Answers.{CanBeWritten, GivesBack, OnNewEnd, OnShutNewEnd};
+ghost use Rattle.worker_desk.specs.Answers.{CanBeWritten, GivesBack, OnNewEnd};
 ghost use Rattle.worker_desk.specs.Streams.{TellsWhereKnown};
 ghost use Rattle.openflow_wire.specs.Writing.{Fits};
 ghost use Rattle.drive_journal.specs.declared.element.Element.TheVariants as elements;
-ghost use Rattle.drive_journal.specs.Calls.{DriveGives, GivesEcho, GivesNext, IsAwaited, IsNextElement, DriveLoses};
-ghost use Rattle.drive_journal.specs.Calls.{RestsAs, HearsAs, RunsOut, Shuts, DriveTells};
-ghost use Rattle.drive_journal.specs.Drives.{Stops, echo_at};
+ghost use Rattle.drive_journal.specs.Calls.{DriveGives, GivesEcho, GivesNext, IsAwaited, IsNextElement};
+ghost use Rattle.drive_journal.specs.Calls.{RestsAs, HearsAs, RunsOut, DriveTells};
+ghost use Rattle.drive_journal.specs.Drives.{echo_at};
 ghost use Rattle.drive_journal.specs.Journals.{told_before};
 
 use crate::drive::Drive;
@@ -16,11 +16,11 @@ use crate::element::{Element, read_element};
 use crate::name::DriveName;
 use crate::refused::Rejection;
 use crate::steering::Steering;
-use openflow_wire::{Message, WireFault};
+use openflow_wire::Message;
 use outside_net::{Link, Receipt};
 use session_core::echo_reply;
 use std::alloc::{AllocError, Global};
-use worker_desk::{IdleTask, StepKind, TellResult, WorkerTask};
+use worker_desk::{StepKind, TellResult, WorkerTask};
 
 impl<L: DriveName, E: Link, Q: Receipt> Drive<L, E, Q> {
     /// What the worker of the switch at a place is to do next: to stop; to send the answer to what it told last, or
@@ -151,52 +151,6 @@ impl<L: DriveName, E: Link, Q: Receipt> Drive<L, E, Q> {
             }
             Err(Rejection::NotEnabled(end)) => TellResult::Back { end, made: None },
             Err(Rejection::Memory(end)) => TellResult::Memory(end),
-        }
-    }
-
-    // The stream has a fault.
-    fn garble(&mut self, place: usize, fault: WireFault, end: E) -> TellResult<E>
-        requires place { place < length L.start.peers }
-        requires name { E.named end ≡ place }
-        requires next { IsNextElement (told_before place self.old.held.journal) (E.received end)
-            (elements.Fault fault) }
-        ensures answer { HearsAs place (elements.Fault fault) end self.old self.new result }
-        ensures back { GivesBack end result }
-    {
-        match self.cut(Steering::Garbled(place, fault), end) {
-            Ok(None) => TellResult::Kept,
-            Ok(Some(_)) => unreachable!(),
-            Err(Rejection::NotEnabled(end)) => TellResult::Back { end, made: None },
-            Err(Rejection::Memory(end)) => TellResult::Memory(end),
-        }
-    }
-
-    /// The end of the switch at a place failed: the session is lost, unless the coordinator has halted.
-    pub fn lost(&mut self, place: usize, end: E) -> TellResult<E>
-        requires place { place < length L.start.peers }
-        requires name { E.named end ≡ place }
-        requires failed { 0 < E.faults end }
-        ensures answer { DriveLoses place end self.old self.new result }
-        ensures back { GivesBack end result }
-    {
-        match self.cut(Steering::Lost(place), end) {
-            Ok(None) => TellResult::Kept,
-            Ok(Some(_)) => unreachable!(),
-            Err(Rejection::NotEnabled(end)) => TellResult::Back { end, made: None },
-            Err(Rejection::Memory(end)) => TellResult::Memory(end),
-        }
-    }
-
-    /// Whether the worker of the switch at a place, whose end is closed, is to stop.
-    pub fn shut(&self, place: usize) -> IdleTask<E>
-        requires { place < length L.start.peers }
-        ensures answer { Shuts (Stops self.now place) result }
-        ensures same_end { OnShutNewEnd (λ _. ⊥) result }
-    {
-        if self.stops(place) {
-            IdleTask::Stop
-        } else {
-            IdleTask::Nothing
         }
     }
 }

@@ -9,6 +9,7 @@ mod desk_calls;
 mod drive;
 mod drive_desk;
 mod element;
+mod ends;
 mod intake;
 mod laws;
 mod moment;

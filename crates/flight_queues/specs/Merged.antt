@@ -69,13 +69,13 @@ pub record AreMarked (queues : List (List NumberedFlight)) (marks : List Mark) (
   pub agree : (place : ℕ) → numbers_of (queue_at queues place) ≡ mark_numbers (filter (leads_to place) marks)
 
 -- Each switch has a queue of its own, and each copy is in that of the switch that it came to.
-pub record IsKept (place_of : ℕ → Option ℕ) (queues : List (List NumberedFlight)) (marks : List Mark) (next : ℕ) : Type 0
-  where
-    pub within : (switch place : ℕ) → place_of switch ≡ Some place → place < length queues
-    pub apart : (one other place : ℕ) → place_of one ≡ Some place → place_of other ≡ Some place → one ≡ other
-    pub stands : (place : ℕ) (f : Flight) → IsIn (flights_of (queue_at queues place)) f →
-        place_of (switch_of f) ≡ Some place
-    pub marked : AreMarked queues marks next
+pub record IsKept (place_of : ℕ → Option ℕ) (queues : List (List NumberedFlight)) (marks : List Mark) (next : ℕ) :
+    Type 0 where
+  pub within : (switch place : ℕ) → place_of switch ≡ Some place → place < length queues
+  pub apart : (one other place : ℕ) → place_of one ≡ Some place → place_of other ≡ Some place → one ≡ other
+  pub stands : (place : ℕ) (f : Flight) → IsIn (flights_of (queue_at queues place)) f →
+      place_of (switch_of f) ≡ Some place
+  pub marked : AreMarked queues marks next
 
 -- ---- one copy less, and one with another number
 

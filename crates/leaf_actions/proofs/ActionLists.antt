@@ -17,7 +17,7 @@ use Rattle.nk_values.specs.Tags.{IsVlanId}
 use Rattle.nk_values.proofs.PacketLaws.{get-with_same, get-with_other, field_cases}
 use Rattle.fdd_nodes.specs.Cells.{whole_cell}
 use Rattle.fdd_nodes.specs.Trees.{apply}
-use Rattle.leaf_actions.specs.declared.made.ActionsFault.{ActionsFault}
+use Rattle.leaf_actions.specs.declared.fault.ActionsFault.{ActionsFault}
 use Rattle.leaf_actions.specs.declared.route.Route.{Route}
 use Rattle.leaf_actions.specs.declared.view.PortView.{PortView}
 use Rattle.leaf_actions.specs.declared.view.SwitchPort.{SwitchPort}

@@ -5,7 +5,7 @@ use Rattle.nk_values.specs.declared.field.Field.{Field}
 use Rattle.nk_values.specs.declared.lit.Lit.{Lit}
 use Rattle.nk_values.specs.declared.packet.Packet.{Packet}
 use Rattle.nk_values.specs.Members.{IsIn}
-use Rattle.leaf_actions.specs.declared.made.ActionsFault.{ActionsFault}
+use Rattle.leaf_actions.specs.declared.fault.ActionsFault.{ActionsFault}
 use Rattle.leaf_actions.specs.declared.route.Route.{Route}
 use Rattle.leaf_actions.specs.Changes.{changes, Includes, first_of_fields, goes_beyond, first_beyond}
 use Rattle.leaf_actions.specs.Laws.{ChainsHaveNoFirstPair, ListsExcludeFaults}

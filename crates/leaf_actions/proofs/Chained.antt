@@ -11,7 +11,7 @@ use Rattle.nk_values.specs.Ranges.{IsValue}
 use Rattle.fdd_nodes.specs.Cells.{unset, IsValid}
 use Rattle.fdd_nodes.specs.Trees.{apply}
 use Rattle.leaf_actions.specs.declared.route.Route.{Route}
-use Rattle.leaf_actions.specs.declared.made.ActionsFault.{ActionsFault}
+use Rattle.leaf_actions.specs.declared.fault.ActionsFault.{ActionsFault}
 use Rattle.leaf_actions.specs.Chains.{loses, keeps_fields, keeps, Climbs}
 use Rattle.leaf_actions.specs.Changes.{changes, bit, count_of, change_count, Includes, first_of_fields, goes_beyond, first_beyond}
 use Rattle.leaf_actions.specs.Listing.{IsChain, told_apart, apart, or_else, first_from, first_apart}

@@ -12,9 +12,9 @@ use Rattle.nk_values.specs.declared.rows.PortKind.TheVariants.{Edge, Linked}
 use Rattle.nk_values.specs.Members.{IsIn}
 use Rattle.nk_values.specs.Packets.{get}
 use Rattle.fdd_nodes.specs.Trees.{apply}
-use Rattle.leaf_actions.specs.declared.made.ActionsFault.{ActionsFault}
-use Rattle.leaf_actions.specs.declared.made.ActionsError.{ActionsError}
-use Rattle.leaf_actions.specs.declared.made.ActionsError.TheVariants as error
+use Rattle.leaf_actions.specs.declared.fault.ActionsFault.{ActionsFault}
+use Rattle.leaf_actions.specs.declared.fault.ActionsError.{ActionsError}
+use Rattle.leaf_actions.specs.declared.fault.ActionsError.TheVariants as error
 use Rattle.leaf_actions.specs.declared.route.Route.{Route}
 use Rattle.leaf_actions.specs.declared.view.PortView.{PortView}
 use Rattle.leaf_actions.specs.Changes.{Includes, first_beyond}

@@ -4,6 +4,7 @@
 #![tactic(auto)]
 
 mod alone;
+mod fault;
 mod fields;
 mod laws;
 mod made;
@@ -15,8 +16,9 @@ mod settable;
 mod staying;
 mod view;
 
+pub use fault::{ActionsError, ActionsFault};
 pub use laws::{chains_have_no_first_pair, lists_are_one, lists_exclude_faults};
-pub use made::{ActionsError, ActionsFault, actions};
+pub use made::actions;
 pub use route::Route;
 pub use settable::are_settable;
 pub use view::{PortView, SwitchPort, SwitchPorts};

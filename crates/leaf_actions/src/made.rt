@@ -1,7 +1,7 @@
 //! The actions of a leaf.
 //!
-//! Layer: rows and packets; public. Called by many modules here, and by table_emitter and table_tests. Clauses of
-//! workload_laws name it.
+//! Layer: rows and packets; public. Called by `alone`, `moves` and `staying` here, and by table_emitter and
+//! table_tests.
 ghost use Rattle.std.specs.List.{AllByRecursion};
 ghost use Rattle.std.specs.Prelude.{◌≡◌, ◌≢◌, OnOk, IfOk, IfErr, true, [], ◌∷◌, ◌++◌};
 ghost use Rattle.nk_values.specs.Fitting.{FitsAction};
@@ -15,6 +15,7 @@ ghost use Rattle.leaf_actions.specs.Listing.{RefusesLeaf};
 ghost use Rattle.leaf_actions.specs.Settable.{AreSettable, settable};
 
 use crate::alone::listed_alone;
+use crate::fault::{ActionsError, ActionsFault};
 use crate::moves::{all_move, moved};
 use crate::order::{climbs, listing};
 use crate::pairs::first_apart;
@@ -24,46 +25,6 @@ use crate::view::PortView;
 use fdd_nodes::{Cell, Leaf};
 use nk_values::{Action, Actions, Field, IN_PORT, List, Packet, PortKind};
 use std::alloc::{AllocError, Global};
-use std::fmt;
-use thiserror::Error;
-
-/// Why no list of actions makes all copies: no action gives a field back its original number. The copies `a` and `b`,
-/// in the order of listing, each set a header field which the other leaves and the path does not fix. The first such
-/// field of each is told.
-#[derive(Drop, Error)]
-#[error("no order of the copies makes both")]
-pub struct ActionsFault {
-    pub a: Route,
-    pub b: Route,
-    pub field_a: Field,
-    pub field_b: Field,
-}
-
-impl fmt::Debug for ActionsFault {
-    fn fmt<W: fmt::Write>(&self, f: &mut fmt::Formatter<W>) -> fmt::Result {
-        f.write_str("ActionsFault")
-    }
-}
-
-/// No list of actions makes all the copies, or memory ran out.
-#[derive(Debug, Drop, Error)]
-pub enum ActionsError {
-    #[error("{0}")]
-    Fault(ActionsFault),
-    #[error("out of memory")]
-    Memory,
-}
-
-impl From<AllocError> for ActionsError {
-    ghost use Rattle.std.specs.Prelude.{◌≡◌};
-    ghost use Rattle.leaf_actions.specs.declared.made.ActionsError.TheVariants.{Memory};
-
-    ghost from_gives = { λ f e. e ≡ Memory };
-
-    fn from(_error: AllocError) -> Self {
-        ActionsError::Memory
-    }
-}
 
 /// The actions that make the copies of a leaf, for the packets of a cell at a port (OpenFlow 1.0.0, 5.2.4). Copies to
 /// ports that are not declared are left out. The others are listed by the number of header fields that they set and the

@@ -4,8 +4,8 @@
 ghost use Rattle.std.specs.Prelude.{◌≡◌, IfOk};
 ghost use Rattle.leaf_actions.specs.Listing.{apart, first_from, first_apart};
 
+use crate::fault::ActionsFault;
 use crate::fields::first_beyond;
-use crate::made::ActionsFault;
 use crate::route::Route;
 use fdd_nodes::Cell;
 use std::alloc::AllocError;

@@ -55,8 +55,8 @@ line_fault t (Switch sw ports) =
 line_fault t (Link a b) =
     if not (has_switch t.switches a.0 && has_switch t.switches b.0) then Some UnknownSwitch
     else (if not (has_port t.switches (location_of a) && has_port t.switches (location_of b)) then Some UnknownPort
-    else (if is_linked t (location_of a) || is_linked t (location_of b) || same_location (location_of a) (location_of b) then Some
-    PortUsedTwice
+    else (if is_linked t (location_of a) || is_linked t (location_of b)
+    || same_location (location_of a) (location_of b) then Some PortUsedTwice
     else None))
 
 -- the fault at a place of the list: that of its line, and after the last line that there is no edge port

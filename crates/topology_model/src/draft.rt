@@ -3,8 +3,8 @@
 //! Layer: values and policies; public. Called by `building` and `topology` here, and by document_text.
 ghost use Rattle.std.specs.Prelude.{◌≡◌, ◌&&◌, ◌++◌, IfOk, OnOk, Option, option_map, not, map, filter};
 ghost use Rattle.std.specs.List.{flat_map};
-ghost use Rattle.topology_model.specs.Layouts.{location_of, place_in, has_switch, has_port, far_end, is_linked, is_edge};
-ghost use Rattle.topology_model.specs.Layouts.{locations_at, edges_of};
+ghost use Rattle.topology_model.specs.Layouts.{location_of, place_in, has_switch, has_port, far_end};
+ghost use Rattle.topology_model.specs.Layouts.{is_linked, is_edge, locations_at, edges_of};
 
 use crate::line::{DeclaredSwitch, PortRef};
 use std::alloc::{AllocError, Global};

@@ -6,8 +6,8 @@ ghost use Rattle.std.specs.Prelude.{slice_get, map, take};
 ghost use Rattle.std.specs.List.{flat_map};
 ghost use Rattle.nk_values.specs.Members.{IsIn};
 ghost use Rattle.history_meaning.specs.Network.{Location};
-ghost use Rattle.topology_model.specs.Layouts.{location_of, locations_at, both_ways, place_in, has_switch, has_port, far_end};
-ghost use Rattle.topology_model.specs.Layouts.{is_edge, wiring};
+ghost use Rattle.topology_model.specs.Layouts.{location_of, locations_at, both_ways, place_in, has_switch};
+ghost use Rattle.topology_model.specs.Layouts.{has_port, far_end, is_edge, wiring};
 
 use crate::draft::Draft;
 use crate::line::{DeclaredSwitch, PortRef};

@@ -4,35 +4,17 @@
 ghost use Rattle.std.specs.Prelude.{◌≡◌, ◌++◌, ◌∷◌, [], ◌-◌, ◌==◌, None, Some, IfOk, OnOk, take};
 ghost use Rattle.std.specs.List.{filter};
 ghost use Rattle.update_plan.specs.Batches.{internal_rows, ports_at};
-ghost use Rattle.update_coordinator.specs.Batches.{held, internal_of, portion_at, portion_len, portion_of, planned, version_at};
+ghost use Rattle.update_coordinator.specs.Batches.{held, internal_of, portion_at, portion_of};
+ghost use Rattle.update_coordinator.specs.Batches.{planned, version_at};
 
 use crate::batch::version_at;
 use crate::coordinator::Coordinator;
 use crate::drains::draining_in;
 use crate::phase::Phase;
+use crate::portion::Portion;
 use nk_values::{Band, Duplicate, PortKind, PortRows, Row, Rows};
 use std::alloc::{AllocError, Global};
 use update_plan::internal;
-
-/// How many rows are there of a list that comes or goes round by round.
-#[derive(Clone, Copy, PartialEq, Eq)]
-pub(crate) enum Portion {
-    /// A number of the first ones.
-    First(usize),
-    /// All but a number of the last ones.
-    AllBut(usize),
-}
-
-impl Portion {
-    fn len(self, all: usize) -> usize
-        ensures { result ≡ portion_len self all }
-    {
-        match self {
-            Portion::First(count) => count,
-            Portion::AllBut(count) => all.saturating_sub(count),
-        }
-    }
-}
 
 impl Coordinator {
     /// The rows that the switch with this number holds once the batch of the phase is done, if it refuses none. A halt

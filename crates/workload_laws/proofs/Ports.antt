@@ -18,7 +18,7 @@ use Rattle.nk_values.specs.Ranges.{place}
 use Rattle.nk_values.proofs.PacketLaws.{get-with_other}
 use Rattle.fdd_nodes.specs.Cells.{unset}
 use Rattle.fdd_nodes.specs.Trees.{apply}
-use Rattle.leaf_actions.specs.declared.made.ActionsFault.{ActionsFault}
+use Rattle.leaf_actions.specs.declared.fault.ActionsFault.{ActionsFault}
 use Rattle.leaf_actions.specs.declared.route.Route.{Route}
 use Rattle.leaf_actions.specs.declared.view.PortView.{PortView}
 use Rattle.leaf_actions.specs.declared.view.SwitchPort.{SwitchPort}

@@ -226,7 +226,8 @@ TellsNow w side s bytes k end old new told =
 
 -- What `tell` answers over an end with this name: in its present session the front is received, where it can be; other
 -- bytes end the session, where they came next.
-abbrev pub RunTells : {E : Type 0} → ℕ → ℕ → ℕ → Side → ℕ → List ℕ → ℕ → E → RunValue E → RunValue E → TellResult E → Type 0
+abbrev pub RunTells : {E : Type 0} → ℕ → ℕ → ℕ → Side → ℕ → List ℕ → ℕ → E → RunValue E → RunValue E →
+    TellResult E → Type 0
 RunTells n name w side s bytes k end old new told =
     (IsPresent n s name old × TellsNow w side s bytes k end old new told) ⊎
     ((¬ IsPresent n s name old) × IsStale end old new told)

@@ -2,14 +2,14 @@ use Rattle.std.proofs.Common.{◌++◌, ◌∙◌, List, ℕ, ap, sym, subst, st
 use Rattle.std.specs.Str.{IsAscii}
 use Rattle.std.proofs.lemmas.Result.{on_ok_weaker}
 use Rattle.std.proofs.lemmas.Str.{IsUtf8-from_ascii}
-use Rattle.value_text.proofs.Macs.{half_ascii}
+use Rattle.value_text.proofs.Macs.{mac_ascii}
 use Rattle.value_text.proofs.Puts.{pushed}
-use Rattle.value_text.proofs.values.put_hex_half.Goals as goal
+use Rattle.value_text.proofs.hex.put_mac.Goals as goal
 
 pub from_utf8_unchecked-requires : goal.from_utf8_unchecked-requires
-from_utf8_unchecked-requires c = IsUtf8-from_ascii _ (subst IsAscii (sym c.half_digits-digits.ensures) (half_ascii c.args.number))
+from_utf8_unchecked-requires c = IsUtf8-from_ascii _ (subst IsAscii (sym c.mac_digits-digits.ensures) (mac_ascii c.args.number))
 
 pub returns : goal.returns
 returns c =
-    on_ok_weaker c.push_str.result (λ g. g ∙ ap (λ (x : List ℕ). string_bytes c.args.out.now ++ x) (c.from_utf8_unchecked.ensures ∙ c.half_digits-digits.ensures))
+    on_ok_weaker c.push_str.result (λ g. g ∙ ap (λ (x : List ℕ). string_bytes c.args.out.now ++ x) (c.from_utf8_unchecked.ensures ∙ c.mac_digits-digits.ensures))
     (pushed _ (string_bytes c.args.out.now) _ c.from_utf8_unchecked.result.now c.push_str.ensures.bytes)
