@@ -14,9 +14,11 @@ use std::hash::{Hash, Hasher};
 use std::marker::Model;
 
 mod copies;
+mod ranks;
 
 pub(crate) use copies::{are_disjoint_from, made_by, makes};
 use copies::{copied, is_rising, makes_all, place_for};
+use ranks::sorted;
 
 /// The copies of a leaf, each once, in rising order. Clauses see the list of them.
 pub struct Leaf {
@@ -74,10 +76,22 @@ impl Leaf {
         Ok(Leaf { copies })
     }
 
-    /// The leaf of some copies. They are taken as they are if they rise, and else sorted first.
-    pub fn gathered(alloc: Global, mut copies: Vec<Assignments>) -> Result<Leaf, AllocError>
+    /// The leaf of copies in rising order.
+    pub fn of_rising(copies: Vec<Assignments>) -> Leaf
+        requires { IsStrictlySortedBy copy_cmp copies.items }
+        ensures { result ≡ copies.items }
+    {
+        Leaf { copies }
+    }
+
+    /// The leaf of some copies. They are taken as they are if they rise, and else sorted first, and each is put once.
+    pub fn gathered(alloc: Global, copies: Vec<Assignments>) -> Result<Leaf, AllocError>
         ensures { IfOk result (λ r. SameMembers r copies.items) }
     {
+        if is_rising(&copies) {
+            return Ok(Leaf { copies });
+        }
+        let mut copies = sorted(alloc, copies)?;
         if is_rising(&copies) {
             return Ok(Leaf { copies });
         }

@@ -1,0 +1,7 @@
+-- Copies with the ranks of their first literals.
+use Rattle.std.specs.Prelude.{List}
+use Rattle.nk_values.specs.declared.lit.Lit.{Lit}
+use Rattle.fdd_nodes.specs.declared.leaf.ranks.Ranked.{Ranked}
+
+abbrev pub copy_of : Ranked → List Lit
+copy_of r = r.copy
