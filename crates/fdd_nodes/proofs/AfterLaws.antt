@@ -243,6 +243,14 @@ empty_list (x ∷ xs) e = absurd (omega (arith, e))
 pub none_step : (xs ys : List Lit) → length xs ≡ 0 → IsCopy ys → ys ≡ after xs ys
 none_step xs ys e k = sym (ap (λ (z : List Lit). after z ys) (empty_list xs e) ∙ after_none ys k)
 
+-- a list that is compared with one after another
+
+pub ended : (xs ys zs : List Lit) → length zs ≡ 0 → xs ≡ ys → xs ≡ after ys zs
+ended xs ys zs e h = h ∙ sym (ap (after ys) (empty_list zs e))
+
+pub put_first : (all others zs : List Lit) (x m : Lit) → all ≡ x ∷ others → x ≡ m → others ≡ zs → all ≡ m ∷ zs
+put_first all others zs x m h e k = h ∙ ap (λ (y : Lit). y ∷ others) e ∙ ap (λ (ys : List Lit). m ∷ ys) k
+
 pub on_ok : {A E P Q : Type 0} (o : Result A E) → (P → Q) → OnOk o P → OnOk o Q
 on_ok (Ok x) f h = f h
 on_ok (Err e) f h = tt

@@ -235,14 +235,14 @@ adds_more keys d c x ss t r s s' apart number a n =
     let back = λ (z : Adds c x (map copy_of ss ++ t.copy ∷ []) r s'). subst (λ (ds : List (List Lit)). Adds c x ds r s') (sym (map_end ss t)) z in
     elim n.which [
       | inl w ↦ (
-        subst (AreNumbersOf keys d c (reached_copies s')) (sym w.1) (subst (λ (ys : List (List Lit)). AreNumbersOf keys d c ys s.numbers.keys) (sym w.2) a.0),
-        back (adds_old c x (map copy_of ss) t.copy r s s' a.1 w.2 (numbers_made keys d c (reached_copies s) s.numbers.keys (apply t.copy (apply x c)) t.number a.0 number w.0)),
+        subst (AreNumbersOf keys d c (reached_copies s')) (sym w.1) (subst (λ (ys : List (List Lit)). AreNumbersOf keys d c ys s.numbers) (sym w.2) a.0),
+        back (adds_old c x (map copy_of ss) t.copy r s s' a.1 w.2 (numbers_made keys d c (reached_copies s) s.numbers (apply t.copy (apply x c)) t.number a.0 number w.0)),
       )
       | inr w ↦
           let makes = after_apply x t.copy c w.3 in
-          let next = numbers_next keys d c (reached_copies s) s.numbers.keys (after x t.copy) t.number a.0 (subst (λ (z : Packet). IsNumberOf keys d z t.number) (sym makes) number) in (
-            subst (AreNumbersOf keys d c (reached_copies s')) (sym w.1) (subst (λ (ys : List (List Lit)). AreNumbersOf keys d c ys (s.numbers.keys ++ t.number ∷ [])) (sym w.2) next),
-            back (adds_new c x (map copy_of ss) t.copy (after x t.copy) r s s' a.1 w.2 refl w.3 makes (λ k. w.0 (numbers_have keys d c (reached_copies s) s.numbers.keys (apply t.copy (apply x c)) t.number apart a.0 number k))),
+          let next = numbers_next keys d c (reached_copies s) s.numbers (after x t.copy) t.number a.0 (subst (λ (z : Packet). IsNumberOf keys d z t.number) (sym makes) number) in (
+            subst (AreNumbersOf keys d c (reached_copies s')) (sym w.1) (subst (λ (ys : List (List Lit)). AreNumbersOf keys d c ys (s.numbers ++ t.number ∷ [])) (sym w.2) next),
+            back (adds_new c x (map copy_of ss) t.copy (after x t.copy) r s s' a.1 w.2 refl w.3 makes (λ k. w.0 (numbers_have keys d c (reached_copies s) s.numbers (apply t.copy (apply x c)) t.number apart a.0 number k))),
           )
     ]
 

@@ -1,5 +1,5 @@
 -- The cells that iterations lead to.
-use Rattle.std.proofs.Common.{◌≡◌, ℕ, ◌+◌, ◌<◌, inl, inr, ap, sym, ◌∙◌, subst, arith, Bool, true, false, cond, List, [], ◌∷◌, ◌++◌, length, take, get_or}
+use Rattle.std.proofs.Common.{◌≡◌, ℕ, ◌+◌, ◌<◌, inl, inr, refl, ap, sym, ◌∙◌, subst, arith, Bool, true, false, cond, List, [], ◌∷◌, ◌++◌, length, take, get_or}
 use Rattle.std.proofs.lemmas.List.{append_assoc, append-nil, take_more, take_all, take-append-le}
 use Rattle.std.proofs.lemmas.Option.{slice_get_cases}
 use Rattle.std.specs.List.{list_any}
@@ -18,11 +18,11 @@ use Rattle.fdd_nodes.specs.Trees.{Tree, Leaf, Node, apply, outcomes}
 use Rattle.fdd_nodes.proofs.CellLaws.{fill_fixed, holds_fixed}
 use Rattle.fdd_nodes.proofs.MakesLaws.{source, outcome}
 use Rattle.fdd_nodes.proofs.SplitLaws.{leaf_at-then, leaf_at-else}
+use Rattle.fdd_star.specs.Marks.{PutsNumber}
 use Rattle.fdd_star.specs.Cells.{AllLead, AllLeadOn, Among, IsClosed, Leads, LeadsOn}
 use Rattle.fdd_star.proofs.EqualLaws.{cell_eq, same_cell}
 use Rattle.fdd_star.proofs.FillLaws.{fill_agrees, apply_fill}
-use Rattle.fdd_star.proofs.NamedLaws.{found_in, with_has, with_only}
-use Rattle.fdd_star.proofs.FieldLaws.{id_eq, same_id}
+use Rattle.fdd_star.proofs.NamedLaws.{with_has}
 use Rattle.fdd_star.proofs.TurnLaws.{in_same}
 use Rattle.fdd_store.specs.Stores.{Kept, tree_at}
 
@@ -105,11 +105,12 @@ leads_both l t e c cs g h = record {
 pub lead_first : (k : Kept) (d : Packet) (as' : List ℕ) (cs : List Packet) → as' ≡ [] → AllLead k d as' cs
 lead_first k d as' cs e = record { each = λ a i. absurd (in_same _ _ a e i) }
 
-pub lead_more : (k : Kept) (d : Packet) (as' bs : List ℕ) (a : ℕ) (cs : List Packet) → bs ≡ insert_key id_eq as' a → AllLead k d as' cs → Leads (tree_at k a) d cs → AllLead k d bs cs
-lead_more k d as' bs a cs e h f = record {
-  each = λ b i. elim (with_only id_eq same_id a as' b (in_same _ _ b e i)) [
+pub lead_more : (k : Kept) (d : Packet) (as' bs : List ℕ) (a : ℕ) (b : Bool) (cs : List Packet) → PutsNumber a b as' bs → AllLead k d as' cs → Leads (tree_at k a) d cs → AllLead k d bs cs
+lead_more k d as' bs a false cs e h f = subst (λ (xs : List ℕ). AllLead k d xs cs) (sym (e.kept refl).1) h
+lead_more k d as' bs a true cs e h f = record {
+  each = λ b i. elim (in-either as' (a ∷ []) b (in_same _ _ b (e.put refl).1 i)) [
     | inl j ↦ h.each b j
-    | inr s ↦ subst (λ (x : ℕ). Leads (tree_at k x) d cs) s f
+    | inr s ↦ elim s [ inl t ↦ subst (λ (x : ℕ). Leads (tree_at k x) d cs) t f | inr o ↦ absurd o ]
   ];
 }
 
@@ -143,8 +144,8 @@ closed_of p c n cs f h = record {
 -- a diagram that is gone through
 
 module _ (k : Kept) (d : Packet) (old : List Packet) where
-  pub gone_there : (as' : List ℕ) (a : ℕ) → list_any (id_eq a) as' ≡ true → AllLead k d as' old → AllLeadOn k (tree_at k a) d old old as'
-  gone_there as' a e h = record { on = record { more = []; joined = sym (append-nil old); leads = h.each a (found_in id_eq same_id a as' e) }; done = h }
+  pub gone_there : (as' : List ℕ) (a : ℕ) → IsIn as' a → AllLead k d as' old → AllLeadOn k (tree_at k a) d old old as'
+  gone_there as' a i h = record { on = record { more = []; joined = sym (append-nil old); leads = h.each a i }; done = h }
 
   pub gone_as : (t : Tree) (mid new : List Packet) (as' bs : List ℕ) → new ≡ mid → bs ≡ as' → AllLeadOn k t d old mid as' → AllLeadOn k t d old new bs
   gone_as t mid new as' bs e e' g = subst (λ (x : List Packet). AllLeadOn k t d old x bs) (sym e) (subst (AllLeadOn k t d old mid) (sym e') g)
@@ -167,5 +168,5 @@ module _ (k : Kept) (d : Packet) (old : List Packet) where
   }
 
   -- and then it is done
-  pub gone_done : (a : ℕ) (new : List Packet) (as' bs : List ℕ) → bs ≡ insert_key id_eq as' a → AllLeadOn k (tree_at k a) d old new as' → AllLeadOn k (tree_at k a) d old new bs
-  gone_done a new as' bs e g = record { on = g.on; done = lead_more k d as' bs a new e g.done g.on.leads }
+  pub gone_done : (a : ℕ) (b : Bool) (new : List Packet) (as' bs : List ℕ) → PutsNumber a b as' bs → AllLeadOn k (tree_at k a) d old new as' → AllLeadOn k (tree_at k a) d old new bs
+  gone_done a b new as' bs e g = record { on = g.on; done = lead_more k d as' bs a b new e g.done g.on.leads }

@@ -8,6 +8,7 @@ pub mod FoundLaws
 pub mod GrowLaws
 pub mod KeptLaws
 pub mod LeadLaws
+pub mod MarkLaws
 pub mod NamedLaws
 pub mod NarrowLaws
 pub mod NumberLaws

@@ -1,8 +1,8 @@
 -- Cells by their numbers.
 use Rattle.std.specs.Prelude.{slice_get, slice_set, OnOk}
 use Rattle.std.specs.List.{list_any}
-use Rattle.std.proofs.Common.{rules, ◌≡◌, ◌⊎◌, ℕ, zero, suc, ◌<◌, inl, inr, refl, ap, sym, ◌∙◌, subst, arith, Bool, true, false, not, Option, Some, None, List, [], ◌∷◌, ◌++◌, length, get_or, map, nat_eq, Result, Ok, Err, if◌then◌else◌}
-use Rattle.std.proofs.lemmas.Bool.{eqb-true, false≢true, not-false, not-true}
+use Rattle.std.proofs.Common.{rules, ◌≡◌, ◌⊎◌, ℕ, zero, suc, ◌<◌, inl, inr, refl, ap, sym, ◌∙◌, subst, arith, Bool, true, false, not, Option, Some, None, List, [], ◌∷◌, ◌++◌, length, get_or, map, Result, Ok, Err, if◌then◌else◌}
+use Rattle.std.proofs.lemmas.Bool.{false≢true, not-false, not-true}
 use Rattle.std.proofs.lemmas.List.{append_assoc, append-nil}
 use Rattle.indexmap.specs.IndexSet.{insert_key}
 use Rattle.nk_values.specs.declared.packet.Packet.{Packet}
@@ -18,9 +18,10 @@ use Rattle.fdd_star.specs.declared.visits.Visit.{Visit}
 use Rattle.fdd_star.specs.declared.visits.Visits.{Visits}
 use Rattle.fdd_star.specs.Asks.{AreApart, AreVisits, IsNumberOf, IsVisitAt, KeepsNumbers, copy_of, numbered}
 use Rattle.fdd_star.specs.declared.reach.Reach.{Reach}
+use Rattle.fdd_star.specs.Marks.{PutsNumber}
 use Rattle.fdd_star.specs.Reaches.{AreNumbersOf, HoldsAll, NotesNumber, asked_of, reached_copies}
 use Rattle.fdd_star.proofs.FirstLaws.{apply_held}
-use Rattle.fdd_star.proofs.NamedLaws.{found_in, there_found}
+use Rattle.fdd_star.proofs.NamedLaws.{there_found}
 use Rattle.fdd_store.specs.Stores.{Kept}
 
 -- keys
@@ -196,7 +197,7 @@ module _ (u v : Visits) (key : Key) (keys : numbered v ≡ insert_key key_eq (nu
 
 -- a visit that is kept
 
-set_at : {X : Type 0} (xs : List X) (n m : ℕ) (x y : X) → slice_get (slice_set xs n x) m ≡ Some y → ((m ≡ n) × (x ≡ y)) ⊎ (slice_get xs m ≡ Some y)
+pub set_at : {X : Type 0} (xs : List X) (n m : ℕ) (x y : X) → slice_get (slice_set xs n x) m ≡ Some y → ((m ≡ n) × (x ≡ y)) ⊎ (slice_get xs m ≡ Some y)
 set_at [] n m x y h = search rules
 set_at (z ∷ xs) zero zero x y h = inl (refl, some_same x y h)
 set_at (z ∷ xs) zero (suc m) x y h = inr h
@@ -237,18 +238,11 @@ successors_next keys d q ss ts s e h k t i = elim (in-either ss (s ∷ []) t (su
 
 -- numbers that are noted
 
-number_itself : (n : ℕ) → nat_eq n n ≡ true
-number_itself n = search rules
+pub noted_old : (n : ℕ) (x d : List Lit) (old new : Reach) → PutsNumber n false old.numbers new.numbers → reached_copies new ≡ reached_copies old → asked_of new ≡ asked_of old → NotesNumber n x d old new
+noted_old n x d old new p copies asked = let w = p.kept refl in record { asked = asked; which = inl (w.0, w.1, copies) }
 
-pub noted_old : (n : ℕ) (x d : List Lit) (old new : Reach) → false ≡ not (list_any (nat_eq n) old.numbers.keys) → new.numbers.keys ≡ insert_key nat_eq old.numbers.keys n → reached_copies new ≡ reached_copies old → asked_of new ≡ asked_of old → NotesNumber n x d old new
-noted_old n x d old new b keys copies asked =
-    let there = not-false (list_any (nat_eq n) old.numbers.keys) (sym b) in
-    record { asked = asked; which = inl (found_in nat_eq eqb-true n old.numbers.keys there, keys ∙ ap (λ (c : Bool). if c then old.numbers.keys else old.numbers.keys ++ n ∷ []) there, copies) }
-
-pub noted_new : (n : ℕ) (x d : List Lit) (old new : Reach) → true ≡ not (list_any (nat_eq n) old.numbers.keys) → new.numbers.keys ≡ insert_key nat_eq old.numbers.keys n → reached_copies new ≡ reached_copies old ++ after x d ∷ [] → IsCopy x → asked_of new ≡ asked_of old → NotesNumber n x d old new
-noted_new n x d old new b keys copies copy asked =
-    let away = not-true (list_any (nat_eq n) old.numbers.keys) (sym b) in
-    record { asked = asked; which = inr ((λ k. false≢true (sym away ∙ there_found nat_eq number_itself n old.numbers.keys k)), keys ∙ ap (λ (c : Bool). if c then old.numbers.keys else old.numbers.keys ++ n ∷ []) away, copies, copy) }
+pub noted_new : (n : ℕ) (x d : List Lit) (old new : Reach) → PutsNumber n true old.numbers new.numbers → reached_copies new ≡ reached_copies old ++ after x d ∷ [] → IsCopy x → asked_of new ≡ asked_of old → NotesNumber n x d old new
+noted_new n x d old new p copies copy asked = let w = p.put refl in record { asked = asked; which = inr (w.0, w.1, copies, copy) }
 
 -- the first copy
 

@@ -4,6 +4,7 @@ pub mod Faults
 pub mod Found
 pub mod Kept
 pub mod Named
+pub mod Marks
 pub mod Narrow
 pub mod Parts
 pub mod Reaches

@@ -29,7 +29,7 @@ AreNumbersOf keys d c (x ∷ xs) (n ∷ ns) = IsNumberOf keys d (apply x c) n ×
 
 -- the numbers are those of what the copies make of the cell
 abbrev pub IsNumbered : List Key → ℕ → Packet → Reach → Type 0
-IsNumbered keys d c r = AreNumbersOf keys d c (reached_copies r) r.numbers.keys
+IsNumbered keys d c r = AreNumbersOf keys d c (reached_copies r) r.numbers
 
 -- the packet holds each of the literals
 abbrev pub HoldsAll : Packet → List Lit → Type 0
@@ -53,9 +53,9 @@ pub record AsksAll (ls : List Lit) (old new : Reach) : Type 0 where
 -- the number was there, or it is last now, and so is the copy x with d after it
 pub record NotesNumber (n : ℕ) (x d : List Lit) (old new : Reach) : Type 0 where
   pub asked : asked_of new ≡ asked_of old
-  pub which : (IsIn old.numbers.keys n × (new.numbers.keys ≡ old.numbers.keys) ×
+  pub which : (IsIn old.numbers n × (new.numbers ≡ old.numbers) ×
       (reached_copies new ≡ reached_copies old))
-      ⊎ ((¬ IsIn old.numbers.keys n) × (new.numbers.keys ≡ old.numbers.keys ++ n ∷ []) ×
+      ⊎ ((¬ IsIn old.numbers n) × (new.numbers ≡ old.numbers ++ n ∷ []) ×
       (reached_copies new ≡ reached_copies old ++ after x d ∷ []) × IsCopy x)
 
 -- the copy y makes an answer to what the copy x makes, and has only literals of x and what is assigned

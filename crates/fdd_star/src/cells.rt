@@ -6,10 +6,12 @@ ghost use Rattle.fdd_nodes.specs.Trees.{Leaf};
 ghost use Rattle.fdd_star.specs.Cells.{AllLead, AllLeadOn, IsClosed, LeadsOn};
 ghost use Rattle.fdd_store.specs.Stores.{Has, tree_at};
 
+use crate::found::Places;
+use crate::numbers::NumberSet;
 use fdd_nodes::{Assignments, Cell, Knowledge};
 use fdd_store::{Id, Look, Store};
 use indexmap::IndexSet;
-use std::alloc::{AllocError, Global};
+use std::alloc::AllocError;
 
 // How many cells are gone through at most, and how many places of a diagram for all of them.
 const MOST_CELLS: usize = 4_096;
@@ -20,9 +22,8 @@ const MOST_PLACES: usize = 262_144;
 /// unset fields. It tells whether all are there: not if they are many, or if too much of the diagram would be gone
 /// through for them. What was gone through is taken from the allowance.
 pub(crate) fn add_led_to(
-    alloc: Global,
     store: &Store,
-    allowance: &mut usize,
+    places: &mut Places,
     cells: &mut IndexSet<Cell>,
     p: Id,
     cell: &Cell,
@@ -30,7 +31,7 @@ pub(crate) fn add_led_to(
     requires { Has store.now p }
     ensures { IfOk result (λ all. IsTrue all → IsClosed (tree_at store.now p) cell.now cells.new.keys) }
 {
-    let Some(least) = allowance.checked_sub(MOST_PLACES) else {
+    let Some(least) = places.allowance.checked_sub(MOST_PLACES) else {
         return Ok(false);
     };
     cells.insert(*cell)?;
@@ -39,45 +40,45 @@ pub(crate) fn add_led_to(
             return Ok(true);
         };
         let here = *here;
-        let places = add_from(alloc, store, cells, &here, p)?;
-        *allowance = allowance.saturating_sub(places);
-        if *allowance <= least {
+        add_from(store, places, cells, &here, p)?;
+        if places.allowance <= least {
             return Ok(false);
         }
     }
     Ok(false)
 }
 
-// Adds the cells that a diagram leads to from one, and counts the places of the diagram that were gone through.
+// Adds the cells that a diagram leads to from one, and takes the places that were gone through from the allowance.
 fn add_from(
-    alloc: Global,
     store: &Store,
+    places: &mut Places,
     cells: &mut IndexSet<Cell>,
     here: &Cell,
     p: Id,
-) -> Result<usize, AllocError>
+) -> Result<(), AllocError>
     requires { Has store.now p }
     ensures { OnOk result (LeadsOn (tree_at store.now p) here.now cells.old.keys cells.new.keys) }
 {
-    let mut done = IndexSet::new(alloc);
-    add_cells(store, cells, &mut done, here, p)?;
-    Ok(done.len())
+    places.done.clear();
+    add_cells(store, cells, &mut places.done, here, p)?;
+    places.allowance = places.allowance.saturating_sub(places.done.len());
+    Ok(())
 }
 
 // The same, if the diagram was not gone through before.
 fn add_cells(
     store: &Store,
     cells: &mut IndexSet<Cell>,
-    done: &mut IndexSet<Id>,
+    done: &mut NumberSet,
     here: &Cell,
     a: Id,
 ) -> Result<(), AllocError>
     requires has { Has store.now a }
-    requires done { AllLead store.now here.now done.old.keys cells.old.keys }
+    requires done { AllLead store.now here.now done.old cells.old.keys }
     ensures { OnOk result (AllLeadOn store.now (tree_at store.now a) here.now cells.old.keys cells.new.keys
-        done.new.keys) }
+        done.new) }
 {
-    if done.contains(&a) {
+    if done.contains(a.place()) {
         return Ok(());
     }
     match store.look(a) {
@@ -91,7 +92,7 @@ fn add_cells(
             }
         },
     }
-    done.insert(a)?;
+    done.insert(a.place())?;
     Ok(())
 }
 

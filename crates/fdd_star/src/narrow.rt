@@ -10,6 +10,7 @@ ghost use Rattle.fdd_store.specs.Canonical.{IsCanonical};
 ghost use Rattle.fdd_store.specs.Stores.{Has, Grows, tree_at};
 
 use crate::cells::add_led_to;
+use crate::found::Places;
 use crate::scope::Scope;
 use crate::shared::is_shared;
 use fdd_nodes::{Cell, Knowledge};
@@ -24,7 +25,7 @@ use std::alloc::{AllocError, Global};
 pub(crate) fn narrowed(
     alloc: Global,
     store: &mut Store,
-    allowance: &mut usize,
+    places: &mut Places,
     scope: &Scope<'_>,
     asked: &[Lit],
 ) -> Result<Id, AllocError>
@@ -41,7 +42,7 @@ pub(crate) fn narrowed(
     if many < 2 {
         return Ok(scope.body);
     }
-    let body = on_reached(alloc, store, allowance, scope.body, scope.cell)?;
+    let body = on_reached(alloc, store, places, scope.body, scope.cell)?;
     if parts(alloc, store, scope.assigned, body, asked)? < many {
         Ok(body)
     } else {
@@ -53,7 +54,7 @@ pub(crate) fn narrowed(
 fn on_reached(
     alloc: Global,
     store: &mut Store,
-    allowance: &mut usize,
+    places: &mut Places,
     p: Id,
     cell: &Cell,
 ) -> Result<Id, AllocError>
@@ -63,7 +64,7 @@ fn on_reached(
     ensures body { IfOk result (IsDiagramAt store.new (IsNarrowed (tree_at store.old p) cell.now)) }
 {
     let mut cells = IndexSet::new(alloc);
-    if add_led_to(alloc, store, allowance, &mut cells, p, cell)? {
+    if add_led_to(store, places, &mut cells, p, cell)? {
         on_cells(alloc, store, p, cells.as_slice())
     } else {
         Ok(p)

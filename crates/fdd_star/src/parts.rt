@@ -64,12 +64,12 @@ impl Parts {
             (λ e. IsErrorIn (tree_at store.old scope.now.body) scope.now.cell.now scope.now.other.now e) }
     {
         let Progress { found, missed } = progress;
-        let Reach { copies, asked, .. } = Reach::of(alloc, store, &mut found.visits, scope)?;
-        found.allowance = found.allowance.saturating_add(copies.len() / 4);
+        let Reach { copies, asked, .. } = Reach::of(alloc, store, found, scope)?;
+        found.places.allow(copies.len() / 4);
         let left = left_of(alloc, missed, asked)?;
         let leaf = Leaf::gathered(alloc, copies)?;
         let all = store.put_leaf(alloc, leaf)?;
-        let body = narrowed(alloc, store, &mut found.allowance, scope, &left)?;
+        let body = narrowed(alloc, store, &mut found.places, scope, &left)?;
         Ok(Parts {
             all,
             left,

@@ -1,6 +1,6 @@
 //! Where packets come to in a diagram.
 //!
-//! Layer: diagrams; private. Called by `found` and `reach`.
+//! Layer: diagrams; private. Called by `additions`, `found` and `reach`.
 ghost use Rattle.std.specs.Prelude.{IfOk};
 ghost use Rattle.fdd_star.specs.Asks.{Walks};
 ghost use Rattle.fdd_store.specs.Stores.{Has, tree_at};

@@ -1,7 +1,7 @@
 //! Assignments after others, and without those that a cell fixes.
 //!
 //! Layer: diagrams; private. Adds calls to `Assignments`.
-ghost use Rattle.std.specs.Prelude.{◌≡◌, ◌++◌, IfOk, OnOk};
+ghost use Rattle.std.specs.Prelude.{◌≡◌, ◌++◌, IfOk, IsTrue, OnOk};
 ghost use Rattle.nk_values.specs.declared.lit.Lit.{Lit};
 ghost use Rattle.fdd_nodes.specs.Copies.{IsCopy, strip, after};
 
@@ -41,6 +41,14 @@ impl Assignments {
         push_after(&mut both, lits, more)?;
         Assignments::new(alloc, both)
     }
+
+    /// Whether these are what two others make, one after the other.
+    pub fn is_sequence_of(&self, first: &Assignments, later: &Assignments) -> bool
+        ensures after { IsTrue result → self.now ≡ after first.now later.now }
+        ensures copy { IsCopy first.now }
+    {
+        is_after(self.lits(), first.lits(), later.lits())
+    }
 }
 
 fn unfixed(alloc: Global, cell: &Cell, lits: &[Lit]) -> Result<SmallVec<Lit, 4>, AllocError>
@@ -79,6 +87,32 @@ fn push_after(out: &mut SmallVec<Lit, 4>, lits: &[Lit], later: &[Lit]) -> Result
         } else {
             push_after(out, lits, more)
         }
+    }
+}
+
+// Whether literals are others and later ones in field order: of a field that both have, the later one.
+#[cycle(sequence)]
+fn is_after(all: &[Lit], lits: &[Lit], later: &[Lit]) -> bool
+    requires lits { IsCopy lits.now }
+    requires later { IsCopy later.now }
+    ensures { IsTrue result → all.now ≡ after lits.now later.now }
+{
+    let Some((l, more)) = later.split_first() else {
+        return all == lits;
+    };
+    let Some((m, rest)) = lits.split_first() else {
+        return all == later;
+    };
+    let Some((n, others)) = all.split_first() else {
+        return false;
+    };
+    let (place, other) = (l.field().place(), m.field().place());
+    if other < place {
+        n == m && is_after(others, rest, later)
+    } else if other == place {
+        n == l && is_after(others, rest, more)
+    } else {
+        n == l && is_after(others, lits, more)
     }
 }
 

@@ -11,4 +11,4 @@ pub returns-in_default-get_index : goal.returns-in_default-get_index
 returns-in_default-get_index c = λ _. closed_of _ _ _ _ (λ b. false≢true (c.in_default-get_index.ensures.found.1 b)) c.loop-i.invariant
 
 pub loop-i-preserved : goal.loop-i-preserved
-loop-i-preserved c = closes_more _ _ c.in-Some-get_index.here.now _ _ _ (c.in-Some-get_index.ensures.found.0 refl) (get_or_from_slice_get c.loop-i.cells.keys c.loop-i.i c.in-Some-get_index.here.now c.in-Some-get_index.here.now (sym c.in-Some-get_index.ensures.key)) c.loop-i.invariant c.in_ok-places.ensures
+loop-i-preserved c = closes_more _ _ c.in-Some-get_index.here.now _ _ _ (c.in-Some-get_index.ensures.found.0 refl) (get_or_from_slice_get c.loop-i.cells.keys c.loop-i.i c.in-Some-get_index.here.now c.in-Some-get_index.here.now (sym c.in-Some-get_index.ensures.key)) c.loop-i.invariant c.in_ok-add_from.ensures

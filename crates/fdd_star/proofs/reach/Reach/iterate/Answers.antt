@@ -25,8 +25,8 @@ index-requires c =
     let n = c.loop-i.invariant.2 in
     omega (arith, e, b, n)
 
-pub index-number-requires : goal.index-number-requires
-index-number-requires c =
+pub at-requires : goal.at-requires
+at-requires c =
     let g = c.loop-i.invariant.0 in
     let e = ap length g.joined ∙ length-append (reached_copies c.args.self.now) g.more in
     let b = c.loop-i-test.true in
@@ -41,7 +41,7 @@ step-requires-clause-number c =
     let b = c.loop-i-test.true in
     let n = c.loop-i.invariant.2 in
     let there = slice_get-get_or (reached_copies c.loop-i.self) c.loop-i.i c.index.result.now (omega (arith, e, b, n)) ∙ ap (λ (x : List Lit). Some x) (sym c.index.ensures) in
-    numbers_at _ _ _ (reached_copies c.loop-i.self) c.loop-i.self.numbers.keys c.loop-i.i c.index-number.result.now c.in_ok-copy.copy c.loop-i.invariant.4 (there ∙ ap (λ (x : List Lit). Some x) (sym c.in_ok-copy.ensures)) c.index-number.ensures
+    numbers_at _ _ _ (reached_copies c.loop-i.self) c.loop-i.self.numbers c.loop-i.i c.at.result c.in_ok-copy.field-0 c.loop-i.invariant.4 (there ∙ ap (λ (x : List Lit). Some x) (sym c.in_ok-copy.ensures)) c.at.ensures
 
 pub loop-i-preserved : goal.loop-i-preserved
 loop-i-preserved c =

@@ -7,4 +7,4 @@ use Rattle.fdd_star.proofs.reach.Reach.iterate.Given as goal
 abbrev pub invariant-loop-i : goal.invariant-loop-i
 invariant-loop-i l =
     Grows (tree_at l.store l.scope.body) l.scope.cell.now (take (l.i - l.from) (drop l.from (reached_copies l.fn.self))) l.fn.self l.self × (l.from ≤ l.i) × (l.i-end ≡ length (reached_copies l.fn.self))
-    × AreVisits l.store l.visits × IsNumbered (numbered l.visits) l.scope.body l.scope.cell.now l.self
+    × AreVisits l.store l.found.visits × IsNumbered (numbered l.found.visits) l.scope.body l.scope.cell.now l.self

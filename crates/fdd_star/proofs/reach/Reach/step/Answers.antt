@@ -16,27 +16,27 @@ pub keep-requires : goal.keep-requires
 keep-requires c =
     let visits = c.in_ok-made.ensures.visits c.args.store.now c.requires.visits in
     let count = visits.count in
-    let within = at_within (numbered c.visit.new.self) c.args.number _ (number_kept c.args.visits.now c.visit.new.self _ _ _ c.in_ok-made.ensures.keeps c.requires.number) in
+    let within = at_within (numbered c.visit.new.self) c.args.here.now.number _ (number_kept c.args.found.now.visits c.visit.new.self _ _ _ c.in_ok-made.ensures.keeps c.requires.number) in
     omega (arith, count, within)
 
 pub returns-clause-visits : goal.returns-clause-visits
 returns-clause-visits c =
-    let number = number_kept c.args.visits.now c.visit.new.self _ _ _ c.in_ok-made.ensures.keeps c.requires.number in
-    let made = subst (λ (q : Packet). IsVisitAt c.args.store.now (numbered c.visit.new.self) c.args.scope.now.body q c.in_ok-made.made) c.after-here.ensures.made c.in_ok-made.ensures.visit in
+    let number = number_kept c.args.found.now.visits c.visit.new.self _ _ _ c.in_ok-made.ensures.keeps c.requires.number in
+    let made = subst (λ (q : Packet). IsVisitAt c.args.store.now (numbered c.visit.new.self) c.args.scope.now.body q c.in_ok-made.made) c.after-cell.ensures.made c.in_ok-made.ensures.visit in
     c.keep.ensures.visits c.args.store.now _ _ (c.in_ok-made.ensures.visits c.args.store.now c.requires.visits) number made
 
 pub returns-clause-numbered : goal.returns-clause-numbered
 returns-clause-numbered c =
-    let made = subst (λ (q : Packet). IsVisitAt c.args.store.now (numbered c.visit.new.self) c.args.scope.now.body q c.in_ok-made.made) c.after-here.ensures.made c.in_ok-made.ensures.visit in
+    let made = subst (λ (q : Packet). IsVisitAt c.args.store.now (numbered c.visit.new.self) c.args.scope.now.body q c.in_ok-made.made) c.after-cell.ensures.made c.in_ok-made.ensures.visit in
     let visits = c.in_ok-made.ensures.visits c.args.store.now c.requires.visits in
-    let before = numbers_kept c.args.visits.now c.visit.new.self _ _ _ _ c.in_ok-made.ensures.keeps c.requires.numbered in
+    let before = numbers_kept c.args.found.now.visits c.visit.new.self _ _ _ _ c.in_ok-made.ensures.keeps c.requires.numbered in
     let grown = c.in_ok-follow.ensures (numbered c.visit.new.self) c.args.store.now c.args.scope.now.body c.args.scope.now.cell.now visits.apart before made in
     subst (λ (keys : List Key). IsNumbered keys c.args.scope.now.body c.args.scope.now.cell.now c.follow-2.new.self) (sym (ap (λ x. x.keys) c.keep.ensures.cells)) grown.0
 
 pub returns-clause-grown : goal.returns-clause-grown
 returns-clause-grown c =
-    let made = subst (λ (q : Packet). IsVisitAt c.args.store.now (numbered c.visit.new.self) c.args.scope.now.body q c.in_ok-made.made) c.after-here.ensures.made c.in_ok-made.ensures.visit in
+    let made = subst (λ (q : Packet). IsVisitAt c.args.store.now (numbered c.visit.new.self) c.args.scope.now.body q c.in_ok-made.made) c.after-cell.ensures.made c.in_ok-made.ensures.visit in
     let visits = c.in_ok-made.ensures.visits c.args.store.now c.requires.visits in
-    let before = numbers_kept c.args.visits.now c.visit.new.self _ _ _ _ c.in_ok-made.ensures.keeps c.requires.numbered in
+    let before = numbers_kept c.args.found.now.visits c.visit.new.self _ _ _ _ c.in_ok-made.ensures.keeps c.requires.numbered in
     let grown = c.in_ok-follow.ensures (numbered c.visit.new.self) c.args.store.now c.args.scope.now.body c.args.scope.now.cell.now visits.apart before made in
     grown.1
