@@ -148,6 +148,13 @@ no_candidate k cs f found copies none =
     (λ x t. inl t) (λ x v. v) (first_found found)
     (λ x t b. none t.one t.among x t.sets t.field (b, field_free k cs cs f x copies copies t))
 
+-- with no copy that leaves the field too
+pub no_keepers : (k : List Bar) (cs ds : List (List Lit)) (f : Field) (found : Option Lit) → length ds ≡ 0 → IsFirstWith found (FieldThreat k cs ds f) found
+no_keepers k cs [] f found e =
+    first_stays (λ x. found ≡ Some x) (FieldThreat k cs [] f) (λ x. (found ≡ Some x) ⊎ FieldThreat k cs [] f x) found
+    (λ x t. inl t) (λ x v. v) (first_found found) (λ x t b. t.has_other)
+no_keepers k cs (d ∷ ds) f found e = absurd (omega (arith, e))
+
 abbrev pub AreKeepers : List (List Lit) → List (List Lit) → Field → Type 0
 AreKeepers cs ds f = (d : List Lit) → IsIn ds d ↔ (IsIn cs d × KeepsField d f)
 

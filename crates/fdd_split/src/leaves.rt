@@ -78,6 +78,9 @@ fn threat_beside(
     requires keepers { (d : List Lit) → IsIn keepers.now d → IsCopy d × KeepsField d field }
     ensures { IsFirstWith found (FieldThreat bars.now copies.now keepers.now field) result }
 {
+    if keepers.is_empty() {
+        return found;
+    }
     let mut first = found;
     for c in copies {
         if let Some(l) = literal_of(c.lits(), field) {

@@ -6,9 +6,12 @@ use Rattle.nk_values.specs.Lits.{lit_field}
 use Rattle.nk_values.specs.Members.{IsIn}
 use Rattle.fdd_split.specs.Pairs.{FieldThreat, MeetsSome, IsFirstWith}
 use Rattle.fdd_split.specs.Threats.{KeepsField}
-use Rattle.fdd_split.proofs.FieldLaws.{next_taken, denied, copy_stays, copy_moves, sets_none, is_no_candidate, meets_none}
+use Rattle.fdd_split.proofs.FieldLaws.{next_taken, denied, copy_stays, copy_moves, no_keepers, sets_none, is_no_candidate, meets_none}
 use Rattle.fdd_split.proofs.leaves.threat_beside.Goals as goal
 use Rattle.fdd_split.proofs.leaves.threat_beside.Goals.{in-Some+then-is_candidate+then-meets_some, in-Some+else-is_candidate, else-is_candidate-via-then-is_candidate+else-meets_some, else-is_candidate-via-else-is_candidate, in_default}
+
+pub returns-then-is_empty : goal.returns-then-is_empty
+returns-then-is_empty c = no_keepers _ _ _ _ _ (search rules)
 
 pub loop-c-preserved : goal.loop-c-preserved
 loop-c-preserved c =
