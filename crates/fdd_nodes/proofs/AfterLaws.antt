@@ -229,6 +229,17 @@ module _ (xs ys c d : List Lit) (m l : Lit) (hx : xs ≡ m ∷ c) (hy : ys ≡ l
   pub later_step : place (lit_field l) < place (lit_field m) → (out mid new : List Lit) → mid ≡ out ++ l ∷ [] → new ≡ mid ++ after xs d → new ≡ out ++ after xs ys
   later_step n out mid new p q = glued out mid new l _ _ p ((λ i. after (hx i) (hy i)) ∙ after_later m l c d n (subst IsCopy hx h) (subst IsCopy hy k) ∙ ap (λ (z : List Lit). l ∷ after z d) (sym hx)) q
 
+  -- the first literal of the whole is that of one of them
+
+  pub some_first : (zs : List Lit) × (x : Lit) × (after xs ys ≡ x ∷ zs)
+  some_first = elim (told_lt (place (lit_field m)) (place (lit_field l))) [
+    | inl y ↦ (_, m, sym (first_step y.1 [] (m ∷ []) _ refl refl))
+    | inr y ↦ elim (told_lt (place (lit_field l)) (place (lit_field m))) [
+      | inl z ↦ (_, l, sym (later_step z.1 [] (l ∷ []) _ refl refl))
+      | inr z ↦ (_, l, sym (same_step (omega (arith, y.1, z.1)) [] (l ∷ []) _ refl refl))
+    ]
+  ]
+
   -- where the rest leaves nothing, nor does the whole
   pub later_covers : place (lit_field l) < place (lit_field m) → after xs d ≡ d → after xs ys ≡ ys
   later_covers n e = (λ i. after (hx i) (hy i)) ∙ after_later m l c d n (subst IsCopy hx h) (subst IsCopy hy k) ∙ ap (λ (z : List Lit). l ∷ after z d) (sym hx) ∙ ap (λ (z : List Lit). l ∷ z) e ∙ sym hy
@@ -245,11 +256,27 @@ none_step xs ys e k = sym (ap (λ (z : List Lit). after z ys) (empty_list xs e) 
 
 -- a list that is compared with one after another
 
-pub ended : (xs ys zs : List Lit) → length zs ≡ 0 → xs ≡ ys → xs ≡ after ys zs
-ended xs ys zs e h = h ∙ sym (ap (after ys) (empty_list zs e))
+pub ended : (ys zs : List Lit) → length zs ≡ 0 → ys ≡ after ys zs
+ended ys zs e = sym (ap (after ys) (empty_list zs e))
 
 pub put_first : (all others zs : List Lit) (x m : Lit) → all ≡ x ∷ others → x ≡ m → others ≡ zs → all ≡ m ∷ zs
 put_first all others zs x m h e k = h ∙ ap (λ (y : Lit). y ∷ others) e ∙ ap (λ (ys : List Lit). m ∷ ys) k
+
+-- lists with a first literal are equal exactly if the literals are and the rests are
+
+pub one_first : (all others zs : List Lit) (x m : Lit) → all ≡ x ∷ others → all ≡ m ∷ zs → (x ≡ m) × (others ≡ zs)
+one_first all others zs x m h k = (ap (λ (ys : List Lit). head ys) (sym h ∙ k), ap (λ (ys : List Lit). tail ys) (sym h ∙ k))
+  where
+    head : List Lit → Lit
+    head [] = x
+    head (y ∷ ys) = y
+
+    tail : List Lit → List Lit
+    tail [] = []
+    tail (y ∷ ys) = ys
+
+pub not_empty : (all zs : List Lit) (m : Lit) → length all ≡ 0 → ¬ (all ≡ m ∷ zs)
+not_empty all zs m e k = let b = ap length k in omega (arith, e, b)
 
 pub on_ok : {A E P Q : Type 0} (o : Result A E) → (P → Q) → OnOk o P → OnOk o Q
 on_ok (Ok x) f h = f h

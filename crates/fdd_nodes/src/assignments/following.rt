@@ -1,7 +1,7 @@
 //! Assignments after others, and without those that a cell fixes.
 //!
 //! Layer: diagrams; private. Adds calls to `Assignments`.
-ghost use Rattle.std.specs.Prelude.{◌≡◌, ◌++◌, IfOk, IsTrue, OnOk};
+ghost use Rattle.std.specs.Prelude.{◌≡◌, ◌↔◌, ◌++◌, IfOk, IsTrue, OnOk};
 ghost use Rattle.nk_values.specs.declared.lit.Lit.{Lit};
 ghost use Rattle.fdd_nodes.specs.Copies.{IsCopy, strip, after};
 
@@ -44,7 +44,7 @@ impl Assignments {
 
     /// Whether these are what two others make, one after the other.
     pub fn is_sequence_of(&self, first: &Assignments, later: &Assignments) -> bool
-        ensures after { IsTrue result → self.now ≡ after first.now later.now }
+        ensures after { IsTrue result ↔ (self.now ≡ after first.now later.now) }
         ensures copy { IsCopy first.now }
     {
         is_after(self.lits(), first.lits(), later.lits())
@@ -95,7 +95,7 @@ fn push_after(out: &mut SmallVec<Lit, 4>, lits: &[Lit], later: &[Lit]) -> Result
 fn is_after(all: &[Lit], lits: &[Lit], later: &[Lit]) -> bool
     requires lits { IsCopy lits.now }
     requires later { IsCopy later.now }
-    ensures { IsTrue result → all.now ≡ after lits.now later.now }
+    ensures { IsTrue result ↔ (all.now ≡ after lits.now later.now) }
 {
     let Some((l, more)) = later.split_first() else {
         return all == lits;
