@@ -7,6 +7,6 @@ pub mod Names
 pub mod Normals
 pub mod Paths
 pub mod Proofs
-pub mod Ranked
+pub mod Ranks
 pub mod Roots
 pub mod Trees

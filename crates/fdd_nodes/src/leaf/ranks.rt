@@ -3,7 +3,7 @@
 //! Layer: diagrams; private. Called by `leaf`.
 ghost use Rattle.std.specs.Prelude.{◌≡◌, IfOk, map};
 ghost use Rattle.nk_values.specs.Members.{SameMembers};
-ghost use Rattle.fdd_nodes.specs.Ranked.{copy_of};
+ghost use Rattle.fdd_nodes.specs.Ranks.{copy_of};
 
 use crate::assignments::Assignments;
 use nk_values::Lit;
@@ -14,7 +14,7 @@ const FEW: usize = 32;
 
 // A copy, and the ranks of its first three literals, which tell most copies apart with no look at them.
 #[derive(Drop)]
-struct Ranked {
+struct RankedCopy {
     ranks: (u64, u64, u64),
     copy: Assignments,
 }
@@ -35,23 +35,23 @@ pub(super) fn sorted(
     without_ranks(alloc, all)
 }
 
-fn with_ranks(alloc: Global, copies: Vec<Assignments>) -> Result<Vec<Ranked>, AllocError>
+fn with_ranks(alloc: Global, copies: Vec<Assignments>) -> Result<Vec<RankedCopy>, AllocError>
     ensures { IfOk result (λ r. map copy_of r.items ≡ copies.items) }
 {
     let mut all = Vec::with_capacity(alloc, copies.len())?;
     for copy in copies {
         let ranks = ranks_of(copy.lits());
-        all.push(Ranked { ranks, copy })?;
+        all.push(RankedCopy { ranks, copy })?;
     }
     Ok(all)
 }
 
-fn without_ranks(alloc: Global, all: Vec<Ranked>) -> Result<Vec<Assignments>, AllocError>
+fn without_ranks(alloc: Global, all: Vec<RankedCopy>) -> Result<Vec<Assignments>, AllocError>
     ensures { IfOk result (λ r. r.items ≡ map copy_of all.items) }
 {
     let mut copies = Vec::with_capacity(alloc, all.len())?;
     for one in all {
-        let Ranked { copy, ranks: _ } = one;
+        let RankedCopy { copy, ranks: _ } = one;
         copies.push(copy)?;
     }
     Ok(copies)

@@ -2,7 +2,7 @@ use Rattle.std.proofs.Common.{subst, List, map}
 use Rattle.std.specs.List.Sorted.{IsPermutation}
 use Rattle.std.proofs.lemmas.List.Sorted.{IsPermutation-map}
 use Rattle.nk_values.specs.declared.lit.Lit.{Lit}
-use Rattle.fdd_nodes.specs.Ranked.{copy_of}
+use Rattle.fdd_nodes.specs.Ranks.{copy_of}
 use Rattle.fdd_nodes.proofs.GatherLaws.{if_ok, same_as, same_itself, same_sorted}
 use Rattle.fdd_nodes.proofs.leaf.ranks.sorted.Goals as goal
 

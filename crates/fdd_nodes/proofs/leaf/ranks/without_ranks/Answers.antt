@@ -3,7 +3,7 @@ use Rattle.std.proofs.lemmas.Iterator.Consumers.{YieldsList-end}
 use Rattle.std.proofs.lemmas.Iterator.Adapters.{YieldsList-from_vec}
 use Rattle.std.proofs.lemmas.List.{map-append, map-id}
 use Rattle.nk_values.specs.declared.lit.Lit.{Lit}
-use Rattle.fdd_nodes.specs.Ranked.{copy_of}
+use Rattle.fdd_nodes.specs.Ranks.{copy_of}
 use Rattle.fdd_nodes.proofs.leaf.ranks.without_ranks.Goals as goal
 
 pub loop-one-preserved : goal.loop-one-preserved

@@ -1,5 +1,5 @@
 use Rattle.std.proofs.Common.{◌≡◌, map}
-use Rattle.fdd_nodes.specs.Ranked.{copy_of}
+use Rattle.fdd_nodes.specs.Ranks.{copy_of}
 use Rattle.fdd_nodes.proofs.leaf.ranks.without_ranks.Given as goal
 
 abbrev pub invariant-loop-one : goal.invariant-loop-one

@@ -1,7 +1,7 @@
 -- Copies with the ranks of their first literals.
 use Rattle.std.specs.Prelude.{List}
 use Rattle.nk_values.specs.declared.lit.Lit.{Lit}
-use Rattle.fdd_nodes.specs.declared.leaf.ranks.Ranked.{Ranked}
+use Rattle.fdd_nodes.specs.declared.leaf.ranks.RankedCopy.{RankedCopy}
 
-abbrev pub copy_of : Ranked → List Lit
+abbrev pub copy_of : RankedCopy → List Lit
 copy_of r = r.copy
