@@ -41,7 +41,7 @@ pub fn report_text(
         (option_map (λ c. c.now) standing.now.updates.halt)) standing.now.flights.now standing.now.arrivals.now t) }
 {
     let mut out = String::new(alloc);
-    put_events(&mut out, standing.switches, events)?;
+    put_events(alloc, &mut out, standing.switches, events)?;
     put_state(alloc, &mut out, standing.updates)?;
     put_arrivals(alloc, &mut out, standing.arrivals, standing.flights)?;
     Ok(Text::new(out))
