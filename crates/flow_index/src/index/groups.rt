@@ -5,17 +5,15 @@ ghost use Rattle.std.specs.Prelude.{◌≡◌, ◌≢◌, ◌<◌, [], ℕ, Some
 ghost use Rattle.nk_values.specs.Members.{IsIn};
 ghost use Rattle.flow_index.specs.declared.indexed_row.IndexedRow.{IndexedRow as EntryValue};
 ghost use Rattle.flow_index.specs.Entries.{IsPut, IsTaken, IsRenamed};
-ghost use Rattle.flow_index.specs.Indexes.{entries_of, IsNumbered, AreAllRanked, KeepsOthers, same_corner};
+ghost use Rattle.flow_index.specs.Indexes.{entries_of, IsNumbered, AreAllRanked, KeepsOthers};
+ghost use Rattle.flow_index.specs.Numbers.{number_at};
 
 use super::Index;
 use crate::group::Group;
 use crate::indexed_row::IndexedRow;
 use std::alloc::{AllocError, Global};
-use std::collections::HashMap;
 
 impl Index {
-    ghost use Rattle.std.specs.HashMap.{get};
-
     // The rows of a group, where there are some.
     pub(super) fn group(&self, corner: Option<(u16, u16)>) -> Option<&Group>
         requires { IsNumbered self.now }
@@ -25,8 +23,8 @@ impl Index {
         match corner {
             None => Some(&self.common),
             Some(corner) => {
-                let number = self.numbers.get(&corner)?;
-                Some(&self.groups[*number])
+                let number = self.numbers.get(corner)?;
+                Some(&self.groups[number])
             }
         }
     }
@@ -66,7 +64,7 @@ impl Index {
         match corner {
             None => self.common.take(entry),
             Some(corner) => {
-                if let Some(number) = self.numbers.get(&corner).copied() {
+                if let Some(number) = self.numbers.find(corner) {
                     self.groups[number].take(entry);
                 }
             }
@@ -85,7 +83,7 @@ impl Index {
         match corner {
             None => self.common.rename(entry, place),
             Some(corner) => {
-                if let Some(number) = self.numbers.get(&corner).copied() {
+                if let Some(number) = self.numbers.get(corner) {
                     self.groups[number].rename(entry, place);
                 }
             }
@@ -97,10 +95,10 @@ impl Index {
         requires { IsNumbered self.old }
         ensures numbered { IsNumbered self.new }
         ensures same { (q : Option (ℕ × ℕ)) → entries_of self.new q ≡ entries_of self.old q }
-        ensures number { IfOk result (λ n. get same_corner self.new.numbers corner ≡ Some n) }
+        ensures number { IfOk result (λ n. number_at self.new.numbers corner ≡ Some n) }
     {
-        if let Some(number) = self.numbers.get(&corner) {
-            return Ok(*number);
+        if let Some(number) = self.numbers.find(corner) {
+            return Ok(number);
         }
         let number = self.groups.len();
         self.groups.reserve(1)?;
