@@ -2,6 +2,8 @@
 //!
 //! Layer: updates; private. Adds calls to `Switch`.
 ghost use Rattle.std.specs.Prelude.{◌≡◌, ◌<◌, ◌≤◌, ◌↔◌, None, Some, Err, IfOk, IfSome, IsOk, OnOk, OnErr, length};
+ghost use Rattle.std.specs.Prelude.{vec_len};
+ghost use Rattle.std.specs.List.{remove};
 ghost use Rattle.nk_values.specs.Changes.{IsFull};
 ghost use Rattle.flow_table.specs.declared.table.ChangeError.TheVariants.{Fault};
 ghost use Rattle.flow_table.specs.Changed.{Removes};
@@ -50,7 +52,7 @@ impl Switch {
         ensures err { OnErr result (self.new ≡ self.old) }
     {
         change_by(alloc, &mut self.table, &mut self.pending[place])?;
-        self.pending.remove(place);
+        take_out(&mut self.pending, place);
         Ok(())
     }
 
@@ -63,8 +65,20 @@ impl Switch {
         ensures err { OnErr result (self.new ≡ self.old) }
     {
         let answer = table_full(alloc, &self.pending[at])?;
-        self.pending.remove(at);
+        take_out(&mut self.pending, at);
         Ok(answer)
+    }
+}
+
+// The flow mod at a place goes. It mostly is the last, which goes without a move of others.
+fn take_out(pending: &mut Vec<PendingMod>, place: usize)
+    requires { place < vec_len pending.old }
+    ensures { pending.new.items ≡ remove pending.old.items place }
+{
+    if place + 1 == pending.len() {
+        pending.pop();
+    } else {
+        pending.remove(place);
     }
 }
 

@@ -15,7 +15,7 @@ remove-set xs i y = λ j. take-set xs i y j ++ drop-set-lt (suc i) xs i y (omega
 pub returns-clause-ok : goal.returns-clause-ok
 returns-clause-ok c =
     let within : c.args.place < length c.self.inside.pending.items = omega (arith, c.requires, ap (λ (s : SwitchValue). length s.pending) c.self.view_is) in
-    let left = c.remove.ensures.items ∙ remove-set c.self.inside.pending.items c.args.place c.change_by.new.pending in
+    let left = c.take_out.ensures ∙ remove-set c.self.inside.pending.items c.args.place c.change_by.new.pending in
     rw (← c.self.view_is) (record {
       change = c.index_mut.result.now;
       there = slice_get-get_or c.self.inside.pending.items c.args.place c.index_mut.result.now within ∙ ap (λ (p : PendingMod). Some p) (sym c.index_mut.ensures.value);
@@ -32,5 +32,5 @@ returns-clause-ok c =
 pub invariant_of-self-2 : goal.invariant_of-self-2
 invariant_of-self-2 c =
     let fits = λ (p : PendingMod). Fits (message_of p) in
-    let left = c.remove.ensures.items ∙ remove-set c.self.inside.pending.items c.args.place c.change_by.new.pending in
+    let left = c.take_out.ensures ∙ remove-set c.self.inside.pending.items c.args.place c.change_by.new.pending in
     subst AllFit (sym left) (All-append fits _ _ (All-take fits c.args.place _ c.self.invariant) (All-drop fits (suc c.args.place) _ c.self.invariant))

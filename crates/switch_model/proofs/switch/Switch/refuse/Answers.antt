@@ -23,7 +23,7 @@ returns-clause-ok c =
       there = there;
       rows = c.self.inside.table.rows;
       outcome = (subst (λ (p : PendingMod). IsFull c.self.inside.table.capacity c.self.inside.table.rows p.change) same full, refl, c.in_ok-answer.ensures.error);
-      now = λ i. record { sw = c.self.inside.sw; table = c.self.inside.table; pending = c.remove.ensures.items i; awaited = c.self.inside.awaited };
+      now = λ i. record { sw = c.self.inside.sw; table = c.self.inside.table; pending = c.take_out.ensures i; awaited = c.self.inside.awaited };
     })
 
 pub index-requires : goal.index-requires
@@ -36,4 +36,4 @@ index-requires c =
 pub invariant_of-self : goal.invariant_of-self
 invariant_of-self c =
     let fits = λ (p : PendingMod). Fits (message_of p) in
-    subst AllFit (sym c.remove.ensures.items) (All-append fits _ _ (All-take fits c.args.at _ c.self.invariant) (All-drop fits (suc c.args.at) _ c.self.invariant))
+    subst AllFit (sym c.take_out.ensures) (All-append fits _ _ (All-take fits c.args.at _ c.self.invariant) (All-drop fits (suc c.args.at) _ c.self.invariant))
