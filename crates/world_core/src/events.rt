@@ -64,6 +64,7 @@ impl Events {
     }
 
     /// Makes room for one more.
+    #[inline(always)]
     pub fn reserve(&mut self) -> Result<(), AllocError>
         ensures items { self.new.items ≡ self.old.items }
         ensures ok { OnOk result (0 < self.new.room) }
@@ -73,6 +74,7 @@ impl Events {
     }
 
     /// Puts an event at the end, for which there is room.
+    #[inline(always)]
     pub fn push_reserved(&mut self, event: Event)
         requires { 0 < self.old.room }
         ensures items { self.new.items ≡ self.old.items ++ event ∷ [] }
