@@ -1,7 +1,7 @@
 //! Rows as text.
 //!
 //! Layer: tests; private. Called by `reports`.
-use nk_values::{Action, Actions, List, Pattern, Prefix, Row};
+use nk_values::{Action, Actions, List, NetworkMatch, Pattern, Prefix, Row, StationMatch};
 use openflow_wire::{FlowStats, Message};
 use std::alloc::{AllocError, Global};
 
@@ -79,7 +79,7 @@ fn add_word(row: &mut Row, word: &str) {
     } else if let Some(port) = word.strip_prefix("in=") {
         row.pattern.in_port = port.parse().ok();
     } else if let Some(address) = word.strip_prefix("ethDst=") {
-        row.pattern.dl_dst = address.parse().ok();
+        row.pattern.dl_dst = StationMatch::of(address.parse().ok());
     } else if let Ok(priority) = word.parse() {
         row.priority = priority;
     }
@@ -89,15 +89,15 @@ fn add_word(row: &mut Row, word: &str) {
 fn exact() -> Pattern {
     Pattern {
         in_port: Some(0),
-        dl_src: Some(0),
-        dl_dst: Some(0),
+        dl_src: StationMatch::of(Some(0)),
+        dl_dst: StationMatch::of(Some(0)),
         dl_vlan: Some(0),
         dl_vlan_pcp: Some(0),
         dl_type: Some(0),
         nw_tos: Some(0),
         nw_proto: Some(0),
-        nw_src: Some(ZERO),
-        nw_dst: Some(ZERO),
+        nw_src: NetworkMatch::of(Some(ZERO)),
+        nw_dst: NetworkMatch::of(Some(ZERO)),
         tp_src: Some(0),
         tp_dst: Some(0),
     }
@@ -124,7 +124,7 @@ pub fn key_text(alloc: Global, row: &Row) -> Result<String, AllocError> {
     if let Some(port) = row.pattern.in_port {
         text.push_str(&format!(in alloc; " in={port}")?)?;
     }
-    if let Some(address) = row.pattern.dl_dst {
+    if let Some(address) = row.pattern.dl_dst.get() {
         text.push_str(&format!(in alloc; " ethDst={address}")?)?;
     }
     Ok(text)

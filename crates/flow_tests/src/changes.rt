@@ -2,7 +2,7 @@
 //!
 //! Layer: tests; private. Its tests are run by `rt test`.
 use flow_table::{ChangeError, ChangeFault, Table};
-use nk_values::{ANY_PORT, Action, Actions, FlowCommand, FlowMod, Pattern};
+use nk_values::{ANY_PORT, Action, Actions, FlowCommand, FlowMod, Pattern, StationMatch};
 use std::alloc::Global;
 
 // The pattern of packets that come in by port 1.
@@ -17,7 +17,7 @@ fn at() -> Pattern {
 fn to_five() -> Pattern {
     Pattern {
         in_port: Some(1),
-        dl_dst: Some(5),
+        dl_dst: StationMatch::of(Some(5)),
         ..Pattern::any()
     }
 }

@@ -2,7 +2,7 @@
 //!
 //! Layer: tests; private. Its tests are run by `rt test`.
 use flow_table::{hits, narrows};
-use nk_values::{Header, Pattern, Prefix, Tag, UNTAGGED};
+use nk_values::{Header, NetworkMatch, Pattern, Prefix, StationMatch, Tag, UNTAGGED};
 
 const HEADER: Header = Header {
     eth_typ: 2048,
@@ -22,8 +22,8 @@ fn hit(pattern: Pattern) -> bool {
 
 #[test]
 fn by_port_and_tag(rt: HostRuntime) {
+    assert!(rt; hit(Pattern::any()));
     let any = Pattern::any();
-    assert!(rt; hit(any));
     for (in_port, wanted) in [(Some(3), true), (Some(4), false)] {
         assert_eq!(rt; hit(Pattern { in_port, ..any }), wanted);
     }
@@ -38,10 +38,12 @@ fn by_port_and_tag(rt: HostRuntime) {
 #[test]
 fn by_ethernet(rt: HostRuntime) {
     let any = Pattern::any();
-    for (dl_src, wanted) in [(Some(1), true), (Some(2), false)] {
+    for (number, wanted) in [(Some(1), true), (Some(2), false)] {
+        let dl_src = StationMatch::of(number);
         assert_eq!(rt; hit(Pattern { dl_src, ..any }), wanted);
     }
-    for (dl_dst, wanted) in [(Some(2), true), (Some(1), false)] {
+    for (number, wanted) in [(Some(2), true), (Some(1), false)] {
+        let dl_dst = StationMatch::of(number);
         assert_eq!(rt; hit(Pattern { dl_dst, ..any }), wanted);
     }
     for (dl_type, wanted) in [(Some(2048), true), (Some(2054), false)] {
@@ -74,7 +76,7 @@ fn by_transport(rt: HostRuntime) {
 // The pattern of packets whose source begins with these bits.
 fn from_source(address: u32, length: u8) -> Pattern {
     Pattern {
-        nw_src: Some(Prefix { address, length }),
+        nw_src: NetworkMatch::of(Some(Prefix { address, length })),
         ..Pattern::any()
     }
 }
@@ -101,10 +103,10 @@ fn by_high_bits(rt: HostRuntime) {
 
 #[test]
 fn by_high_bits_of_a_destination(rt: HostRuntime) {
-    let nw_dst = Some(Prefix {
+    let nw_dst = NetworkMatch::of(Some(Prefix {
         address: 0x0a01_0200,
         length: 24,
-    });
+    }));
     assert!(rt;
         hit(Pattern {
             nw_dst,

@@ -3,7 +3,8 @@
 //! Layer: tests; private. Its tests are run by `rt test`.
 use flow_index::{ChangeError, ChangeFault, Table};
 use nk_values::{
-    ANY_PORT, Action, Actions, FlowCommand, FlowMod, Header, Pattern, Prefix, Tag, UNTAGGED,
+    ANY_PORT, Action, Actions, FlowCommand, FlowMod, Header, NetworkMatch, Pattern, Prefix,
+    StationMatch, Tag, UNTAGGED,
 };
 use std::alloc::Global;
 use std::test::Fail;
@@ -31,21 +32,21 @@ fn at_one() -> Pattern {
 fn exact() -> Pattern {
     Pattern {
         in_port: Some(1),
-        dl_src: Some(1),
-        dl_dst: Some(2),
+        dl_src: StationMatch::of(Some(1)),
+        dl_dst: StationMatch::of(Some(2)),
         dl_vlan: Some(UNTAGGED),
         dl_vlan_pcp: Some(0),
         dl_type: Some(2048),
         nw_tos: Some(0),
         nw_proto: Some(6),
-        nw_src: Some(Prefix {
+        nw_src: NetworkMatch::of(Some(Prefix {
             address: 0x0a00_0001,
             length: 32,
-        }),
-        nw_dst: Some(Prefix {
+        })),
+        nw_dst: NetworkMatch::of(Some(Prefix {
             address: 0x0a01_0203,
             length: 32,
-        }),
+        })),
         tp_src: Some(80),
         tp_dst: Some(443),
     }

@@ -77,8 +77,8 @@ fn fixed(destination: Destination, pattern: &Pattern) -> Option<u64>
     ensures { result ≡ fixed destination pattern.now }
 {
     match destination {
-        Destination::Frame => pattern.dl_dst,
-        Destination::Network => whole(pattern.nw_dst),
+        Destination::Frame => pattern.dl_dst.get(),
+        Destination::Network => whole(pattern.nw_dst.get()),
     }
 }
 

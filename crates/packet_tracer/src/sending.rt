@@ -65,12 +65,12 @@ fn is_hit(pattern: &Pattern, port: u16, header: &Header, tag: Tag) -> bool
 fn may_hit(pattern: &Pattern, header: &Header) -> bool
     ensures { (i : Incoming) → i.header ≡ header.now → result ≡ false → hits pattern.now i ≡ false }
 {
-    let frame = match pattern.dl_dst {
+    let frame = match pattern.dl_dst.get() {
         None => true,
         Some(number) => number == header.eth_dst,
     };
     frame
-        && match pattern.nw_dst {
+        && match pattern.nw_dst.get() {
             None => true,
             Some(prefix) => prefix.length != 32 || u64::from(prefix.address) == header.ip4_dst,
         }

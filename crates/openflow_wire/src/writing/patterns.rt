@@ -37,14 +37,14 @@ pub fn wildcards(p: &Pattern) -> u32
 {
     wild(&p.in_port)
         + 2 * wild(&p.dl_vlan)
-        + 4 * wild(&p.dl_src)
-        + 8 * wild(&p.dl_dst)
+        + 4 * wild(&p.dl_src.get())
+        + 8 * wild(&p.dl_dst.get())
         + 16 * wild(&p.dl_type)
         + 32 * wild(&p.nw_proto)
         + 64 * wild(&p.tp_src)
         + 128 * wild(&p.tp_dst)
-        + 256 * wild_bits(&p.nw_src)
-        + 16384 * wild_bits(&p.nw_dst)
+        + 256 * wild_bits(&p.nw_src.get())
+        + 16384 * wild_bits(&p.nw_dst.get())
         + 1048576 * wild(&p.dl_vlan_pcp)
         + 2097152 * wild(&p.nw_tos)
 }
@@ -108,8 +108,8 @@ fn put_frame(out: &mut BytesMut, p: &Pattern)
 {
     put_word(out, wildcards(p));
     put_half(out, half(p.in_port));
-    put_station(out, station(p.dl_src));
-    put_station(out, station(p.dl_dst));
+    put_station(out, station(p.dl_src.get()));
+    put_station(out, station(p.dl_dst.get()));
     put_half(out, half(p.dl_vlan));
     put_byte(out, byte(p.dl_vlan_pcp));
     put_byte(out, 0);
@@ -124,8 +124,8 @@ fn put_network(out: &mut BytesMut, p: &Pattern)
     put_byte(out, byte(p.nw_tos));
     put_byte(out, byte(p.nw_proto));
     put_half(out, 0);
-    put_word(out, address(p.nw_src));
-    put_word(out, address(p.nw_dst));
+    put_word(out, address(p.nw_src.get()));
+    put_word(out, address(p.nw_dst.get()));
     put_half(out, half(p.tp_src));
     put_half(out, half(p.tp_dst));
 }

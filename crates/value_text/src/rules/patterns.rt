@@ -50,15 +50,15 @@ fn put_frame(out: &mut String, pattern: &Pattern) -> Result<(), AllocError>
 {
     put_fixed(out, Field::EthTyp, half(pattern.dl_type))?;
     put_fixed(out, Field::IpProto, byte(pattern.nw_proto))?;
-    put_fixed(out, Field::EthSrc, pattern.dl_src)?;
-    put_fixed(out, Field::EthDst, pattern.dl_dst)
+    put_fixed(out, Field::EthSrc, pattern.dl_src.get())?;
+    put_fixed(out, Field::EthDst, pattern.dl_dst.get())
 }
 
 fn put_network(out: &mut String, pattern: &Pattern) -> Result<(), AllocError>
     ensures { OnOk result (string_bytes out.new ≡ string_bytes out.old ++ network_text pattern.now) }
 {
-    put_fixed(out, Field::Ip4Src, address(pattern.nw_src))?;
-    put_fixed(out, Field::Ip4Dst, address(pattern.nw_dst))?;
+    put_fixed(out, Field::Ip4Src, address(pattern.nw_src.get()))?;
+    put_fixed(out, Field::Ip4Dst, address(pattern.nw_dst.get()))?;
     put_fixed(out, Field::TcpSrcPort, half(pattern.tp_src))?;
     put_fixed(out, Field::TcpDstPort, half(pattern.tp_dst))
 }
