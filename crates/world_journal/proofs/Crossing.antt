@@ -30,8 +30,8 @@ use Rattle.world_journal.specs.contracts.entry.Entry as entry
 use Rattle.world_journal.proofs.entry.Entry.TheSendSync as entries
 use Rattle.world_journal.specs.contracts.line.Line as line
 use Rattle.world_journal.proofs.line.Line.TheSendSync as lines
-use Rattle.world_journal.specs.contracts.run_desk.Bells as bell
-use Rattle.world_journal.proofs.run_desk.Bells.TheSendSync as bells
+use Rattle.world_journal.specs.contracts.bell.Bell as bell
+use Rattle.world_journal.proofs.bell.Bell.TheSendSync as bells
 use Rattle.world_journal.proofs.ahead.StepsAhead.TheSendSync as aheads
 use Rattle.world_journal.specs.declared.name.RunName as RunName
 use Rattle.world_journal.specs.declared.poster.Poster as Poster
@@ -174,7 +174,7 @@ desk-send R L P E a b d q c r p e =
         (
           arcs.the_send (mutex.the_row (option.the_row row)) global.the_row heap.ghosts lock globals.the_send shared globals.the_sync heaps.the_frees,
           (
-            arcs.the_send bell.the_row global.the_row heap.ghosts bells.the_send globals.the_send bells.the_sync globals.the_sync heaps.the_frees,
+            arcs.the_send (vecs.the_row bell.the_row global.the_row heap.ghosts) global.the_row heap.ghosts (vec-send bell.the_row bells.the_send) globals.the_send (listed.the_sync bell.the_row global.the_row heap.ghosts bells.the_sync globals.the_sync) globals.the_sync heaps.the_frees,
             (aheads.the_send, tt),
           ),
         ),

@@ -1,6 +1,6 @@
 //! What a worker did ahead of its calls, under one lock: its next calls hand it out one by one, and take no lock.
 //!
-//! Layer: runs; private. Called by `making` and `run_desk`.
+//! Layer: runs; private. Called by `making`, `run_desk` and `steps`.
 ghost use Rattle.std.specs.Prelude.{◌≡◌, ◌%◌, [], IfSome};
 ghost use Rattle.worker_desk.specs.Answers.{CanBeWritten, OnNewEnd};
 ghost use Rattle.world_journal.specs.Ahead.{IsWork};
@@ -93,6 +93,27 @@ impl Letter {
     }
 }
 
+/// What a worker did ahead, in order, while more is put at its end.
+#[derive(Drop)]
+pub(crate) struct WorkQueue {
+    works: VecDeque<Work>,
+}
+
+impl WorkQueue {
+    /// Makes room for one more.
+    pub(crate) fn reserve(&mut self) -> Result<(), AllocError> {
+        self.works.reserve(1)
+    }
+
+    /// Puts what was given at the end. It is lost if there is no room for it.
+    pub(crate) fn push<E: Link>(&mut self, given: WorkerTask<E>)
+        requires fits { CanBeWritten given }
+        requires work { IsWork given }
+    {
+        let _ = self.works.push_back(Work::of(given));
+    }
+}
+
 /// What one worker is to do, made ahead of its calls, in order; how many steps it makes so at most; and whether the
 /// other side is still to be woken.
 #[derive(Drop)]
@@ -140,26 +161,19 @@ impl StepsAhead {
         Some(next?.give())
     }
 
-    /// Makes room for one more.
-    pub(crate) fn reserve(&self, alloc: Global) -> Result<(), AllocError> {
-        let mut works = match self.works.take() {
-            Some(works) => works,
-            None => VecDeque::new(alloc),
-        };
-        let made = works.reserve(1);
-        self.works.set(Some(works));
-        made
+    /// Takes all of them out, so that more can be put at the end.
+    pub(crate) fn queue(&self, alloc: Global) -> WorkQueue {
+        WorkQueue {
+            works: match self.works.take() {
+                Some(works) => works,
+                None => VecDeque::new(alloc),
+            },
+        }
     }
 
-    /// Puts what was given at the end. It is lost if there is no room for it.
-    pub(crate) fn push<E: Link>(&self, given: WorkerTask<E>)
-        requires fits { CanBeWritten given }
-        requires work { IsWork given }
-    {
-        let Some(mut works) = self.works.take() else {
-            return;
-        };
-        let _ = works.push_back(Work::of(given));
+    /// Lays a queue back.
+    pub(crate) fn lay(&self, queue: WorkQueue) {
+        let WorkQueue { works } = queue;
         self.works.set(Some(works));
     }
 

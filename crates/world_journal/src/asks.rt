@@ -1,7 +1,7 @@
 //! What a desk asks of the run that lies under its lock: each has the clause of the run's own call, and posts the step
 //! that the call made. If the run was taken out, nothing happens and whoever asks is to stop.
 //!
-//! Layer: runs; private. Called by `making` and `run_desk`.
+//! Layer: runs; private. Called by `making`, `run_desk` and `steps`.
 ghost use Rattle.std.specs.Prelude.{◌≡◌, ◌<◌, ◌%◌, ◌⊎◌, [], IfOk, IfSome, IfNone, IsTrue, OnErr, None};
 ghost use Rattle.worker_desk.specs.Answers.{CanBeWritten, GivesBack, OnNewEnd, OnShutNewEnd};
 ghost use Rattle.worker_desk.specs.Streams.{TellsWhereKnown};

@@ -6,6 +6,7 @@
 mod ahead;
 mod asked_moves;
 mod asks;
+mod bell;
 mod calls;
 mod entry;
 mod held;

@@ -2,43 +2,38 @@
 //!
 //! Layer: runs; public. Called by fleet_workers.
 ghost use Rattle.std.specs.Prelude.{◌≡◌, ◌<◌, ◌%◌, None};
-ghost use Rattle.world_journal.specs.Calls.{IsUnmoved, IsWorker, place_of};
+ghost use Rattle.world_journal.specs.Calls.{IsWorker, place_of};
 ghost use Rattle.world_journal.specs.Journals.{switches};
 
 use crate::ahead::StepsAhead;
-use crate::asks::{close_of, given_of, lost_of, more_of, shut_of, told_of};
+use crate::asks::{close_of, given_of, lost_of, shut_of, told_of};
+use crate::bell::Bell;
 use crate::name::RunName;
 use crate::poster::Poster;
 use crate::seat::Seat;
 use crate::watched::WatchedRun;
 use outside_net::Link;
 use std::alloc::{AllocError, Global};
-use std::sync::{Arc, Condvar, Mutex, Wait};
+use std::sync::{Arc, Mutex, Wait};
 use worker_desk::{Desk, IdleTask, TellResult, WorkerTask};
 
 mod making;
 mod moves;
 mod progress;
+mod steps;
 mod waiting;
 
-use progress::{is_idle, progress_of};
-
-// What wakes the workers that wait for steps of others: those of each switch, and all others.
-#[derive(Drop)]
-struct Bells {
-    pairs: Vec<Condvar>,
-    others: Condvar,
-}
+use progress::{goes_on, is_idle, is_out, progress_of};
 
 /// A run beside its pen under their one lock, as its workers share them. A call locks once, or not at all if the desk
 /// made the worker's step ahead. What it answers under the lock is stated of one function: for `give` that is
-/// `given_of`, and so on (`asks`, `asked_moves`). A worker that is told there is nothing to do waits, with the lock
-/// given up, until a step was made that may have changed this.
+/// `given_of`, and so on (`asks`, `asked_moves`). A worker that is told there is nothing to do waits until its bell
+/// rings: the caller's is the first, then come those of the sessions, and then those of the switches.
 pub struct RunDesk<R, L: RunName, P: Poster, E: Link> {
     rt: R,
     alloc: Global,
     run: Arc<Mutex<Option<WatchedRun<L, P, E>>>>,
-    bells: Arc<Bells>,
+    bells: Arc<Vec<Bell>>,
     ahead: StepsAhead,
 }
 
@@ -79,16 +74,25 @@ impl<R: Wait + Drop, L: RunName, P: Poster, E: Link> Desk for RunDesk<R, L, P, E
             self.ring_owed(seat);
         }
         if let Some(given) = next {
+            if is_idle(&given) {
+                self.wait(seat);
+            }
             return Ok(given);
         }
+        self.silence(seat);
         let mut guard = self.lock();
         let given = given_of(&mut *guard, self.alloc, seat);
         match &given {
-            Ok(WorkerTask::Nothing { made: None }) => self.wait(guard, self.bell(seat.worker())),
-            Ok(WorkerTask::Out { .. }) => {
-                self.go_ahead(&mut *guard, seat);
+            Ok(WorkerTask::Nothing { made: None }) => {
                 drop(guard);
-                self.owe(seat);
+                self.wait(seat);
+            }
+            Ok(given) if goes_on(given) => {
+                let gave = self.go_ahead(&mut *guard, seat);
+                drop(guard);
+                if gave || is_out(given) {
+                    self.owe(seat);
+                }
             }
             Ok(WorkerTask::Stop) => {
                 drop(guard);
@@ -101,20 +105,21 @@ impl<R: Wait + Drop, L: RunName, P: Poster, E: Link> Desk for RunDesk<R, L, P, E
 
     fn tell(&self, seat: &mut Seat<L>, bytes: &[u8], end: E, k: u64) -> TellResult<E> {
         self.ring_owed(seat);
+        self.silence(seat);
         let mut guard = self.lock();
         let before = progress_of(&guard);
         let told = told_of(&mut *guard, self.alloc, seat, bytes, end, k);
-        let rings = match &told {
-            TellResult::Back { made: Some(_), .. } => self.go_ahead(&mut *guard, seat),
-            TellResult::Back { made: None, .. } => false,
-            TellResult::Kept | TellResult::Memory(_) => true,
-        };
+        let gave = matches!(told, TellResult::Back { made: Some(_), .. })
+            && self.go_ahead(&mut *guard, seat);
         let after = progress_of(&guard);
         drop(guard);
-        if before != after {
-            self.wake_all();
-        } else if rings {
+        if gave {
             self.owe(seat);
+        }
+        if !matches!(told, TellResult::Back { .. }) {
+            self.wake_all();
+        } else if before != after {
+            self.wake_after(after);
         }
         told
     }
@@ -129,10 +134,10 @@ impl<R: Wait + Drop, L: RunName, P: Poster, E: Link> Desk for RunDesk<R, L, P, E
     fn shut(&self, seat: &mut Seat<L>) -> IdleTask<E> {
         self.ahead.clear();
         self.ring_owed(seat);
-        let mut guard = self.lock();
-        let shut = shut_of(&mut *guard, seat);
+        self.silence(seat);
+        let shut = shut_of(&mut *self.lock(), seat);
         if matches!(shut, IdleTask::Nothing) {
-            self.wait(guard, self.bell(seat.worker()));
+            self.wait(seat);
         }
         shut
     }
@@ -157,31 +162,5 @@ impl<R: Wait + Drop, L: RunName, P: Poster, E: Link> RunDesk<R, L, P, E> {
     pub fn close_all(&self) {
         close_of(&mut *self.lock());
         self.wake_all();
-    }
-
-    // Makes further steps of a worker ahead of its calls, up to one that gives no message. Says whether one gave a
-    // message.
-    fn go_ahead(&self, run: &mut Option<WatchedRun<L, P, E>>, seat: &mut Seat<L>) -> bool
-        requires { IsWorker (switches L.start) seat.old.worker }
-        ensures { IsUnmoved seat.old.worker seat.new.worker seat.old.share.parts seat.new.share.parts }
-    {
-        let mut gave = false;
-        for _ in 0..self.ahead.most() {
-            let Ok(()) = self.ahead.reserve(self.alloc) else {
-                return gave;
-            };
-            let Some(given) = more_of(run, self.alloc, seat) else {
-                return gave;
-            };
-            let is_out = matches!(given, WorkerTask::Out { .. });
-            if !is_idle(&given) {
-                self.ahead.push(given);
-            }
-            if !is_out {
-                return gave;
-            }
-            gave = true;
-        }
-        gave
     }
 }

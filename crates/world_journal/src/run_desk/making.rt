@@ -6,10 +6,11 @@ ghost use Rattle.watch_laws.specs.Watching.{ArePosts, IsPosted};
 ghost use Rattle.world_journal.specs.Arriving.{IsOver};
 ghost use Rattle.world_journal.specs.Journals.{events_of};
 
+use super::RunDesk;
 use super::progress::is_done;
-use super::{Bells, RunDesk};
 use crate::ahead::StepsAhead;
 use crate::asks::lay_of;
+use crate::bell::Bell;
 use crate::held::BookedWorld;
 use crate::name::RunName;
 use crate::poster::Poster;
@@ -18,7 +19,7 @@ use crate::seat::Seat;
 use crate::watched::WatchedRun;
 use outside_net::Link;
 use std::alloc::{AllocError, Global};
-use std::sync::{Arc, Condvar, Mutex, Wait};
+use std::sync::{Arc, Mutex, Wait};
 use std::thread;
 
 impl<R: Wait + Drop, L: RunName, P: Poster, E: Link> RunDesk<R, L, P, E> {
@@ -29,14 +30,12 @@ impl<R: Wait + Drop, L: RunName, P: Poster, E: Link> RunDesk<R, L, P, E> {
         watched: WatchedRun<L, P, E>,
         most: u32,
     ) -> Result<RunDesk<R, L, P, E>, AllocError> {
-        let mut pairs = Vec::new(alloc);
+        let mut bells = Vec::new(alloc);
+        bells.push(Bell::new())?;
         for _ in 0..watched.run.switch_count() {
-            pairs.push(Condvar::new())?;
+            bells.push(Bell::new())?;
+            bells.push(Bell::new())?;
         }
-        let bells = Bells {
-            pairs,
-            others: Condvar::new(),
-        };
         Ok(RunDesk {
             rt,
             alloc,

@@ -24,13 +24,12 @@ impl<R: Wait + Drop, L: RunName, P: Poster, E: Link> RunDesk<R, L, P, E> {
         requires { IsCaller seat.old.worker }
         ensures { IsUnmoved seat.old.worker seat.new.worker seat.old.share.parts seat.new.share.parts }
     {
-        let mut guard = self.lock();
-        let update = update_of(&mut *guard, self.alloc, seat);
-        if update == Ok(Update::Nothing) {
-            self.wait(guard, &self.bells.others);
-        } else {
-            drop(guard);
-            self.wake_all();
+        self.silence(seat);
+        let update = update_of(&mut *self.lock(), self.alloc, seat);
+        match update {
+            Ok(Update::Nothing) => self.wait(seat),
+            Ok(Update::Step) => self.wake_sessions(),
+            _ => self.wake_all(),
         }
         update
     }
@@ -58,7 +57,7 @@ impl<R: Wait + Drop, L: RunName, P: Poster, E: Link> RunDesk<R, L, P, E> {
         ensures { IsUnmoved seat.old.worker seat.new.worker seat.old.share.parts seat.new.share.parts }
     {
         let did = come_in_of(&mut *self.lock(), self.alloc, seat, place);
-        self.bells.others.notify_all();
+        self.ring_at(0);
         did
     }
 
@@ -68,7 +67,7 @@ impl<R: Wait + Drop, L: RunName, P: Poster, E: Link> RunDesk<R, L, P, E> {
         ensures { IsUnmoved seat.old.worker seat.new.worker seat.old.share.parts seat.new.share.parts }
     {
         let did = hop_on_of(&mut *self.lock(), self.alloc, seat);
-        self.bells.others.notify_all();
+        self.ring_at(0);
         did
     }
 }

@@ -1,6 +1,6 @@
 //! How far a run is, as its workers compare it.
 //!
-//! Layer: runs; private. Called by `making` and `run_desk`.
+//! Layer: runs; private. Called by many modules.
 ghost use Rattle.std.specs.Prelude.{◌<◌, ◌↔◌, None, IsTrue};
 ghost use Rattle.world_journal.specs.Finishing.{CanFinish};
 
@@ -16,11 +16,24 @@ pub(super) fn is_idle<E>(given: &WorkerTask<E>) -> bool {
     matches!(given, WorkerTask::Nothing { made: None })
 }
 
+// Whether there is a message to be sent.
+pub(super) fn is_out<E>(given: &WorkerTask<E>) -> bool {
+    matches!(given, WorkerTask::Out { .. })
+}
+
+// Whether a step was made after which the worker goes on without another.
+pub(super) fn goes_on<E>(given: &WorkerTask<E>) -> bool {
+    matches!(
+        given,
+        WorkerTask::Out { .. } | WorkerTask::Nothing { made: Some(_) }
+    )
+}
+
 // What decides for all workers whether there is something to do: the phase, and whether the coordinator has halted.
 #[derive(Clone, Copy, Debug, PartialEq, Eq)]
 pub(super) struct Progress {
     phase: Phase,
-    halted: bool,
+    pub(super) halted: bool,
 }
 
 pub(super) fn progress_of<L: RunName, P: Poster, E: Link>(

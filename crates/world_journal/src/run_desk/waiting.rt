@@ -1,25 +1,37 @@
 //! The lock of a run, and the bells by which its workers wake one another.
 //!
 //! Layer: runs; private. Adds calls to `RunDesk`.
-ghost use Rattle.std.specs.Prelude.{◌<◌, ◌%◌, None};
-
 use super::RunDesk;
+use super::progress::Progress;
 use crate::name::RunName;
 use crate::poster::Poster;
 use crate::seat::Seat;
 use crate::watched::WatchedRun;
 use outside_net::Link;
 use std::hint::spin_loop;
-use std::sync::{Condvar, MutexGuard, Wait};
+use std::sync::{MutexGuard, Wait};
 use std::thread;
 
 // How often a worker looks whether the lock is free before it gives way.
 const LOOKS: u32 = 50;
 
 impl<R: Wait + Drop, L: RunName, P: Poster, E: Link> RunDesk<R, L, P, E> {
-    // Wakes the workers of the same switch that wait.
+    // Wakes a worker, if it has a bell.
+    pub(super) fn ring_at(&self, worker: usize) {
+        if let Some(bell) = self.bells.get(worker) {
+            bell.ring(&self.rt);
+        }
+    }
+
+    // Wakes the worker at the other side of the same switch.
     pub(super) fn ring(&self, seat: &Seat<L>) {
-        self.bell(seat.worker()).notify_all();
+        let switches = self.bells.len() / 2;
+        let worker = seat.worker();
+        if worker <= switches {
+            self.ring_at(worker + switches);
+        } else {
+            self.ring_at(worker - switches);
+        }
     }
 
     // A message was made for the other side. If steps are made ahead, that side is woken when all of them are sent.
@@ -61,25 +73,41 @@ impl<R: Wait + Drop, L: RunName, P: Poster, E: Link> RunDesk<R, L, P, E> {
         None
     }
 
-    // What wakes the workers of a switch, or else the others.
-    pub(super) fn bell(&self, worker: usize) -> &Condvar {
-        let pairs = &self.bells.pairs;
-        if worker == 0 || pairs.is_empty() {
-            return &self.bells.others;
+    // Forgets what woke the worker before. It does so before it takes the lock: what is done after it looked at the run
+    // rings again.
+    pub(super) fn silence(&self, seat: &Seat<L>) {
+        if let Some(bell) = self.bells.get(seat.worker()) {
+            bell.silence(&self.rt);
         }
-        &pairs[(worker - 1) % pairs.len()]
     }
 
-    // Waits, with the lock given up, until it rings.
-    pub(super) fn wait(&self, guard: MutexGuard<'_, Option<WatchedRun<L, P, E>>>, bell: &Condvar) {
-        drop(bell.wait(&self.rt, guard));
+    // Waits until the worker is woken, if it was not since it silenced its bell.
+    pub(super) fn wait(&self, seat: &Seat<L>) {
+        if let Some(bell) = self.bells.get(seat.worker()) {
+            bell.wait(&self.rt);
+        }
     }
 
-    // Wakes all workers that wait.
+    // Wakes those for whom something has changed by how far the run is: the sessions and the caller, and all workers if
+    // the run goes no further. A session that stops wakes its switch.
+    pub(super) fn wake_after(&self, progress: Option<Progress>) {
+        match progress {
+            Some(Progress { halted: false, .. }) => self.wake_sessions(),
+            _ => self.wake_all(),
+        }
+    }
+
+    // Wakes the caller and the sessions.
+    pub(super) fn wake_sessions(&self) {
+        for bell in self.bells.iter().take(self.bells.len() / 2 + 1) {
+            bell.ring(&self.rt);
+        }
+    }
+
+    // Wakes all workers.
     pub(super) fn wake_all(&self) {
-        for bell in &self.bells.pairs {
-            bell.notify_all();
+        for bell in self.bells.iter() {
+            bell.ring(&self.rt);
         }
-        self.bells.others.notify_all();
     }
 }
