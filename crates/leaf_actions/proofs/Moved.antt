@@ -1,8 +1,6 @@
 -- Copies that set no header field: what they leave, and their actions.
-use Rattle.std.proofs.Common.{ℕ, Some, ◌≡◌, ◌≢◌, ◌+◌, inl, inr, refl, ap, sym, ◌∙◌, subst, cond, Bool, true, false, ◌==◌, List, [], ◌∷◌, ◌++◌}
+use Rattle.std.proofs.Common.{Some, ◌≡◌, ◌≢◌, ◌+◌, inl, inr, refl, ap, sym, ◌∙◌, subst, cond, Bool, true, false, ◌==◌, List, [], ◌∷◌, ◌++◌}
 use Rattle.std.specs.Prelude.{◌&&◌, not}
-use denote.Enum.Bare.{sameb}
-use Rattle.nk_values.specs.contracts.rows.PortKind.{the_type}
 use Rattle.std.proofs.lemmas.Bool.{eq-eqb}
 use Rattle.nk_values.specs.declared.action.Action.{Action}
 use Rattle.nk_values.specs.declared.action.Action.TheVariants.{Output}
@@ -11,7 +9,6 @@ use Rattle.nk_values.specs.declared.field.Field.TheVariants.{Pt, EthSrc, EthDst,
 use Rattle.nk_values.specs.declared.packet.Packet.{Packet}
 use Rattle.nk_values.specs.declared.lit.Lit.{Lit}
 use Rattle.nk_values.specs.declared.rows.PortKind.{PortKind}
-use Rattle.nk_values.specs.declared.rows.PortKind.TheVariants.{Edge, Linked}
 use Rattle.nk_values.specs.Held.{put}
 use Rattle.nk_values.specs.Lits.{lit_field, lit_value}
 use Rattle.nk_values.specs.Members.{IsIn}
@@ -104,20 +101,6 @@ moves_ready x v cs ds rs ns as' ed en m l e =
       actions = e ∙ ap (moved v v.kind) en ∙ sym (listed_moved v x x v.kind rs (λ f i. refl) each);
     })
 
--- kinds that are found equal are
-pub same_kind : (a b : PortKind) → true ≡ sameb the_type a b → a ≡ b
-same_kind Edge Edge e = refl
-same_kind Edge Linked e = cc
-same_kind Linked Edge e = cc
-same_kind Linked Linked e = refl
-
--- between ports of one kind no tag changes
-same_tag : (stamp : ℕ) (k : PortKind) → retagged stamp k k ≡ []
-same_tag stamp Edge = refl
-same_tag stamp Linked = refl
-
--- A copy that sets no header field is one output, if its port is of the ingress port's kind.
-pub lone_output : (v : PortView) (x : Packet) (c : List Lit) (p : SwitchPort) → p.kind ≡ v.kind → Moves c → listed v x x v.kind (route_by x c (Some p) ++ []) ≡ Output (port_number v p.pt) ∷ []
-lone_output v x c p k m =
-    ap (λ (l : List Action). l ++ (retagged v.stamp v.kind p.kind ++ Output (port_number v p.pt) ∷ [])) (no_changes x c m) ∙
-    ap (λ (l : List Action). l ++ Output (port_number v p.pt) ∷ []) (ap (λ (q : PortKind). retagged v.stamp v.kind q) k ∙ same_tag v.stamp v.kind)
+-- A copy that sets no header field changes the tag, if the kinds of port differ, and is one output.
+pub lone_move : (v : PortView) (x : Packet) (c : List Lit) (p : SwitchPort) → Moves c → listed v x x v.kind (route_by x c (Some p) ++ []) ≡ retagged v.stamp v.kind p.kind ++ Output (port_number v p.pt) ∷ []
+lone_move v x c p m = ap (λ (l : List Action). l ++ (retagged v.stamp v.kind p.kind ++ Output (port_number v p.pt) ∷ [])) (no_changes x c m)

@@ -13,6 +13,7 @@ mod order;
 mod pairs;
 mod route;
 mod settable;
+mod shared;
 mod staying;
 mod view;
 
@@ -21,4 +22,5 @@ pub use laws::{chains_have_no_first_pair, lists_are_one, lists_exclude_faults};
 pub use made::actions;
 pub use route::Route;
 pub use settable::are_settable;
+pub use shared::SharedActions;
 pub use view::{PortView, SwitchPort, SwitchPorts};

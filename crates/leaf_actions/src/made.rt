@@ -3,7 +3,7 @@
 //! Layer: rows and packets; public. Called by `alone`, `moves` and `staying` here, and by table_emitter and
 //! table_tests.
 ghost use Rattle.std.specs.List.{AllByRecursion};
-ghost use Rattle.std.specs.Prelude.{◌≡◌, ◌≢◌, OnOk, IfOk, IfErr, true, [], ◌∷◌, ◌++◌};
+ghost use Rattle.std.specs.Prelude.{◌≡◌, ◌≢◌, OnOk, IfOk, IfErr, IfSome, IfNone, true, [], ◌∷◌, ◌++◌};
 ghost use Rattle.nk_values.specs.Fitting.{FitsAction};
 ghost use Rattle.nk_values.specs.Ranges.{IsValue};
 ghost use Rattle.nk_values.specs.Tags.{IsVlanId};
@@ -20,6 +20,7 @@ use crate::moves::{all_move, moved};
 use crate::order::{climbs, listing};
 use crate::pairs::first_apart;
 use crate::route::Route;
+use crate::shared::SharedActions;
 use crate::staying::{common_port, stayed};
 use crate::view::PortView;
 use fdd_nodes::{Cell, Leaf};
@@ -29,12 +30,13 @@ use std::alloc::{AllocError, Global};
 /// The actions that make the copies of a leaf, for the packets of a cell at a port (OpenFlow 1.0.0, 5.2.4). Copies to
 /// ports that are not declared are left out. The others are listed by the number of header fields that they set and the
 /// cell does not fix, then by port and assignments. The error carries the first two copies that no order makes both.
-/// The cells that paths fix are valid.
+/// The cells that paths fix are valid. Equal lists of two actions may take the same memory.
 pub fn actions(
     alloc: Global,
     cell: &Cell,
     leaf: &Leaf,
     view: &PortView,
+    shared: &SharedActions,
 ) -> Result<Actions, ActionsError>
     requires valid { IsValid cell.now }
     requires settable { AreSettable leaf.now }
@@ -46,7 +48,7 @@ pub fn actions(
 {
     let copies = leaf.copies();
     if let [copy] = copies {
-        return Ok(listed_alone(alloc, cell, copy, view)?);
+        return Ok(listed_alone(alloc, cell, copy, view, shared)?);
     }
     if let Some(port) = common_port(cell, copies, view) {
         return Ok(stayed(alloc, cell, copies, view, port)?);
@@ -155,10 +157,21 @@ pub(crate) fn push_tag(
 ) -> Result<(), AllocError>
     ensures { OnOk result (actions.new ≡ actions.old ++ retagged stamp from to) }
 {
+    match tag_change(stamp, from, to) {
+        Some(change) => actions.push(change),
+        None => Ok(()),
+    }
+}
+
+// What turns the tag of one kind of port into that of another, if these differ.
+pub(crate) fn tag_change(stamp: u16, from: PortKind, to: PortKind) -> Option<Action>
+    ensures change { IfSome result (λ a. a ∷ [] ≡ retagged stamp from to) }
+    ensures none { IfNone result ([] ≡ retagged stamp from to) }
+{
     match (from, to) {
-        (PortKind::Edge, PortKind::Linked) => actions.push(Action::SetVlanVid(stamp)),
-        (PortKind::Linked, PortKind::Edge) => actions.push(Action::StripVlan),
-        _ => Ok(()),
+        (PortKind::Edge, PortKind::Linked) => Some(Action::SetVlanVid(stamp)),
+        (PortKind::Linked, PortKind::Edge) => Some(Action::StripVlan),
+        _ => None,
     }
 }
 

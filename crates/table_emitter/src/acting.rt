@@ -11,7 +11,7 @@ ghost use Rattle.table_emitter.specs.Faults.{BarsLeaf};
 use crate::fault::EmitError;
 use crate::sizes::are_small;
 use fdd_nodes::{Cell, Leaf};
-use leaf_actions::{ActionsError, PortView, actions};
+use leaf_actions::{ActionsError, PortView, SharedActions, actions};
 use nk_values::{Actions, EmitFault, FieldSet};
 use std::alloc::Global;
 
@@ -21,6 +21,7 @@ pub(crate) fn row_actions(
     cell: &Cell,
     leaf: &Leaf,
     view: &PortView,
+    shared: &SharedActions,
 ) -> Result<Actions, EmitError>
     requires valid { IsValid cell.now }
     requires made { AreSettable leaf.now }
@@ -28,7 +29,7 @@ pub(crate) fn row_actions(
     ensures actions { IfOk result (AreActionsOf view.now cell.now leaf.now) }
     ensures bars { IfErr result (BarsLeaf view.now cell.now leaf.now) }
 {
-    let made = match actions(alloc, cell, leaf, view) {
+    let made = match actions(alloc, cell, leaf, view, shared) {
         Ok(made) => made,
         Err(ActionsError::Memory) => return Err(EmitError::Memory),
         Err(ActionsError::Fault(pair)) => {

@@ -17,15 +17,16 @@ use crate::kinds::FrameKinds;
 use crate::passing::past_barred;
 use crate::patterns::{RowCells, cells_of, pattern_of};
 use fdd_nodes::{Cell, Leaf, Node};
-use leaf_actions::PortView;
+use leaf_actions::{PortView, SharedActions};
 use nk_values::{Actions, EmitFault, MOST_PORT_ROWS, Pattern, Row, RowList};
 use std::alloc::{AllocError, Global};
 
-// What the rows of a port have in common: its view, and the priority of the first row.
+// What the rows of a port have in common: its view, the priority of the first row, and the actions that they share.
 #[derive(Clone, Copy)]
 struct Listing<'a> {
     view: &'a PortView,
     top: u16,
+    shared: &'a SharedActions,
 }
 
 // The rows of a port: those of all paths of a diagram, with priorities from `top` down.
@@ -34,6 +35,7 @@ pub(crate) fn list_port(
     part: &Node,
     view: &PortView,
     top: u16,
+    shared: &SharedActions,
 ) -> Result<RowList, EmitError>
     requires made { CanBeMade (tree part.now) }
     requires stamp { IsVlanId view.now.stamp }
@@ -42,7 +44,7 @@ pub(crate) fn list_port(
     ensures bars { IfErr result (RefusesPort view.now 0 (path_rows no_tests (tree part.now))) }
 {
     let mut rows = Vec::new(alloc);
-    let listing = Listing { view, top };
+    let listing = Listing { view, top, shared };
     walk(
         alloc,
         part,
@@ -118,11 +120,11 @@ fn list_leaf(
     match cells_of(kinds, cell) {
         RowCells::None => Ok(()),
         RowCells::One(only) => {
-            let made = row_actions(alloc, cell, leaf, listing.view)?;
+            let made = row_actions(alloc, cell, leaf, listing.view, listing.shared)?;
             push_row(pattern_of(listing.view, &only), made, listing, rows)
         }
         RowCells::Both(tcp, udp) => {
-            let made = row_actions(alloc, cell, leaf, listing.view)?;
+            let made = row_actions(alloc, cell, leaf, listing.view, listing.shared)?;
             let copied = made.copy()?;
             push_row(pattern_of(listing.view, &tcp), copied, listing, rows)?;
             push_row(pattern_of(listing.view, &udp), made, listing, rows)

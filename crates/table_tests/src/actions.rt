@@ -1,9 +1,10 @@
 //! Lists of actions at a port of a switch.
 //!
-//! Layer: tests; private. Its tests are run by `rt test`.
+//! Layer: tests; private. Called by `shared`.
 use fdd_nodes::{Assignments, Leaf, Path};
 use leaf_actions::{
-    ActionsError, ActionsFault, PortView, SwitchPort, SwitchPorts, actions, are_settable,
+    ActionsError, ActionsFault, PortView, SharedActions, SwitchPort, SwitchPorts, actions,
+    are_settable,
 };
 use nk_values::{Action, Actions, Field, GREATEST_VLAN_ID, IN_PORT, Lit, PortKind};
 use std::alloc::Global;
@@ -28,7 +29,7 @@ fn view(alloc: Global, pt: u16, kind: PortKind) -> Option<PortView> {
     })
 }
 
-fn edge(alloc: Global) -> Option<PortView> {
+pub(crate) fn edge(alloc: Global) -> Option<PortView> {
     view(alloc, 1, PortKind::Edge)
 }
 
@@ -57,7 +58,7 @@ fn every(alloc: Global) -> Option<Leaf> {
     Leaf::of(alloc, Assignments::none(alloc).ok()?).ok()
 }
 
-fn leaving(alloc: Global, pt: u64) -> Option<Leaf> {
+pub(crate) fn leaving(alloc: Global, pt: u64) -> Option<Leaf> {
     Leaf::of(alloc, leave(alloc, pt)?).ok()
 }
 
@@ -74,11 +75,17 @@ fn made(
     if !are_settable(&leaf) || view.stamp < 1 || view.stamp > GREATEST_VLAN_ID {
         return Err(ActionsError::Memory);
     }
-    actions(alloc, path.cell(), &leaf, &view)
+    actions(
+        alloc,
+        path.cell(),
+        &leaf,
+        &view,
+        &SharedActions::new(alloc)?,
+    )
 }
 
 // Whether these are the actions.
-fn are(made: Result<Actions, ActionsError>, wanted: &[Action]) -> bool {
+pub(crate) fn are(made: Result<Actions, ActionsError>, wanted: &[Action]) -> bool {
     match made {
         Ok(made) => made.as_slice() == wanted,
         Err(_) => false,

@@ -9,3 +9,5 @@ mod actions;
 mod hops;
 #[cfg(test)]
 mod networks;
+#[cfg(test)]
+mod shared;
